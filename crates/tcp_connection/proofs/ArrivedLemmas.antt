@@ -76,7 +76,7 @@ next_is law base room rs octets h same =
     omega (arith, len, low)
 
 -- at first SYN alone has arrived
-syn_alone : (p : ℕ) → 1 ≤ p → covered syn p ≡ false
+pub syn_alone : (p : ℕ) → 1 ≤ p → covered syn p ≡ false
 syn_alone p l = let e : nat_lt p 1 ≡ false = grind (arith, nat_tests, l) in ap (λ b. (nat_le 0 p && b) || false) e ∙ by (nat_le 0 p) where
   by : (b : Bool) → (b && false) || false ≡ false
   by true = refl

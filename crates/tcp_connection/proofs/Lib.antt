@@ -3,3 +3,6 @@ pub mod PartLemmas
 pub mod ArrivedLemmas
 pub mod BufferLemmas
 pub mod KeptLemmas
+pub mod GapLemmas
+pub mod WindowLemmas
+pub mod ActionLemmas

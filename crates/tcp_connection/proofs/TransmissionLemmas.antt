@@ -94,3 +94,11 @@ last_bounded s h = by s.stop h.bounded where
       last_for stop (s.una + length s.ring) ≤ 2 ^ 62 + 1
   by None b = omega (arith, b)
   by (Some end) b = b
+
+-- the first position that isn't acknowledged
+pub una_bounded : (s : Sender) → IsWithin s → s.una ≤ 2 ^ 62 + 1
+una_bounded s h = by s.stop h.unacknowledged h.bounded where
+  by : (stop : Option ℕ) → s.una + length s.ring ≤ last_for stop (s.una + length s.ring) →
+      last_possible_for stop (s.una + length s.ring) ≤ 2 ^ 62 + 1 → s.una ≤ 2 ^ 62 + 1
+  by None a b = omega (arith, b)
+  by (Some end) a b = omega (arith, a, b)

@@ -1,5 +1,5 @@
 -- What has arrived, as ranges of positions.
-use Rattle.std.specs.Prelude.{◌≡◌, ℕ, ◌+◌, ◌≤◌, Bool, false, ◌-◌, max, List, [], ◌∷◌, take, drop, Option}
+use Rattle.std.specs.Prelude.{◌≡◌, ℕ, ◌+◌, ◌≤◌, Bool, true, false, ◌-◌, max, List, [], ◌∷◌, take, drop, Option}
 use Rattle.net_base.specs.declared.assembler.Range.{Range}
 use Rattle.net_base.specs.Ranges.{AreSeparate, covered, front}
 use Rattle.tcp_machine.specs.Receiving.{Receiver, filled, next}
@@ -19,6 +19,12 @@ pub record IsArrived (base room : ℕ) (ranges : List Range) : Type 0 where
   pub begun : 1 ≤ base
   pub in_first : base ≤ front ranges
   pub within : (p : ℕ) → base + room ≤ p → covered ranges p ≡ false
+
+-- the position after the last one that has arrived
+pub record IsFurthest (furthest : ℕ) (ranges : List Range) : Type 0 where
+  pub begun : 1 ≤ furthest
+  pub reached : covered ranges (furthest - 1) ≡ true
+  pub last : (p : ℕ) → furthest ≤ p → covered ranges p ≡ false
 
 -- the receiver that these stand for: octets from a place on, with room for so many
 abbrev pub receiver_of : (base : ℕ) → (items : List ℕ) → (start room : ℕ) → (ranges : List Range) → Option ℕ → Receiver

@@ -1,6 +1,7 @@
 //! What has arrived of a direction and isn't read (RFC 9293 3.4, 3.10.7.4).
 ghost use Rattle.std.specs.Prelude.{◌≡◌, ◌≤◌, ◌<◌, ◌+◌, ◌-◌, ◌^◌, ◌++◌, ℕ, length, take, drop, slice_index, vec_len, IfOk, true, false};
 ghost use Rattle.tcp_machine.specs.Receiving.{filled, stop_from, in_order, next, edge, expected, open_receiver, with_piece, after_read, is_acceptable};
+ghost use Rattle.tcp_machine.specs.Arrivals.{has_gap, has_ended};
 ghost use Rattle.tcp_connection.specs.Arrived.{syn, with_octets};
 
 use net_base::assembler::{Assembler, refused_touches_none};
@@ -27,25 +28,27 @@ pub struct ReceiveBuffer {
     room: usize,
     // The positions that have arrived, SYN and those that were read among them.
     arrived: Assembler,
+    // The position after the last one of them.
+    furthest: u64,
     stop: Option<u64>,
 }
 
 impl Model for ReceiveBuffer {
     ghost use Rattle.std.specs.Prelude.{◌≡◌, ◌+◌, ◌≤◌, ◌^◌, length};
     ghost use Rattle.tcp_machine.specs.Receiving as receiving;
-    ghost use Rattle.tcp_connection.specs.Arrived.{IsArrived, receiver_of};
+    ghost use Rattle.tcp_connection.specs.Arrived.{IsArrived, IsFurthest, receiver_of};
 
     ghost Value = { receiving.Receiver };
 
     ghost view = { λ r. receiver_of r.base r.items.items r.start r.room r.arrived r.stop };
 
     ghost invariant = { λ r. IsArrived r.base r.room r.arrived × (r.start ≤ r.room) × (length r.items.items ≡ r.room + r.room)
-        × (r.room ≤ 2 ^ 30) × (r.base ≤ 2 ^ 62) };
+        × (r.room ≤ 2 ^ 30) × (r.base ≤ 2 ^ 62) × IsFurthest r.furthest r.arrived };
 }
 
 impl ReceiveBuffer {
     /// With room for so many octets, at most 2^30. It fails exactly if the memory is refused.
-    #[tactic(auto, using(crate::proofs::ArrivedLemmas::syn_arrived, crate::proofs::ArrivedLemmas::opened_is))]
+    #[tactic(auto, using(crate::proofs::ArrivedLemmas::syn_arrived, crate::proofs::ArrivedLemmas::opened_is, crate::proofs::GapLemmas::syn_furthest))]
     pub fn new(alloc: Global, room: usize) -> Result<ReceiveBuffer, AllocError>
         requires { room ≤ 2 ^ 30 }
         ensures { IfOk result (λ r. r ≡ open_receiver room) }
@@ -56,8 +59,29 @@ impl ReceiveBuffer {
             start: 0,
             room,
             arrived: syn_alone(),
+            furthest: 1,
             stop: None,
         })
+    }
+
+    /// As at first once more, with the same room. It takes no memory.
+    #[tactic(auto, using(crate::proofs::ArrivedLemmas::syn_arrived, crate::proofs::GapLemmas::syn_furthest))]
+    pub fn clear(&mut self)
+        ensures { self.new ≡ open_receiver (length self.old.cells) }
+    {
+        self.base = 1;
+        self.start = 0;
+        self.arrived = syn_alone();
+        self.furthest = 1;
+        self.stop = None;
+    }
+
+    /// The first position that isn't read.
+    pub fn base(&self) -> u64
+        ensures value { result ≡ self.now.base }
+        ensures bounded { result ≤ 2 ^ 62 }
+    {
+        self.base
     }
 
     /// The first position that has no octet (RCV.NXT, as long as the end isn't reached).
@@ -103,6 +127,31 @@ impl ReceiveBuffer {
         ensures { result ≡ self.now.stop }
     {
         self.stop
+    }
+
+    /// The position that an acknowledgement tells (RCV.NXT).
+    pub fn expected(&self) -> u64
+        ensures value { result ≡ expected self.now }
+        ensures bounded { result ≤ 2 ^ 62 + 2 ^ 30 + 1 }
+    {
+        let next = self.next();
+        let _edge = self.edge();
+        next + u64::from(self.stop() == Some(next))
+    }
+
+    /// Whether all up to the peer's end has arrived.
+    pub fn has_ended(&self) -> bool
+        ensures { result ≡ has_ended self.now }
+    {
+        self.stop() == Some(self.next())
+    }
+
+    /// Whether octets beyond a gap are held.
+    pub fn has_gap(&self) -> bool
+        ensures { result ≡ has_gap self.now }
+    {
+        rings_stand();
+        (self.arrived.peek_front() as u64) < self.furthest
     }
 
     /// A piece arrives: its octets that aren't in order yet and have room are kept, and its end, if that lies within the room.
@@ -166,6 +215,8 @@ impl ReceiveBuffer {
         if self.arrived.add(first as usize, octets.len()).is_err() {
             return false;
         }
+        let furthest = self.furthest;
+        self.furthest = furthest.max(first + octets.len() as u64);
         let at = self.start + (first - self.base) as usize;
         write(&mut self.items, at, octets);
         true

@@ -2,12 +2,13 @@
 ghost use Rattle.std.specs.Prelude.{◌≡◌, ◌+◌, ◌-◌, ◌*◌, ◌≤◌, ◌<◌, ◌^◌, min, max, ◌++◌, length, take, IfOk, None, true, false};
 ghost use Rattle.tcp_machine.specs.Sending.{after_position, after_close, after_send, MaySend};
 ghost use Rattle.tcp_machine.specs.Windows.{tells_window, after_window};
-ghost use Rattle.tcp_machine.specs.Acknowledgements.{flight, is_believed, is_end_acknowledged, is_duplicate};
+ghost use Rattle.tcp_machine.specs.Acknowledgements.{flight, empty_position, is_believed, is_end_acknowledged, is_duplicate};
 ghost use Rattle.tcp_machine.specs.Opening.{no_transmission};
 ghost use Rattle.tcp_machine.specs.Calls.{room_to_write};
 ghost use Rattle.tcp_machine.specs.Timers.{has_unsent, is_window_closed};
 ghost use Rattle.tcp_machine.specs.Outgoing.{octets_from, piece_from, is_last};
 ghost use Rattle.tcp_connection.specs.Bounds.{last, after_part};
+ghost use Rattle.tcp_connection.specs.Pieces.{IsPieceOf};
 
 use socket_base::octets::Octets;
 use std::alloc::{AllocError, Global};
@@ -78,7 +79,7 @@ impl Model for Transmission {
       stop = t.stop;
       top = t.top;
       edge = t.edge;
-    }) × (t.told_edge < 2 ^ 63) × (t.scale ≤ 14) × (t.nxt ≤ t.top) };
+    }) × (t.told_edge < 2 ^ 63) × (t.scale ≤ 14) × (t.nxt ≤ t.top) × (t.una ≤ t.top) × (1 ≤ t.una) };
 }
 
 impl Transmission {
@@ -101,6 +102,33 @@ impl Transmission {
             scale: 0,
             mss,
         })
+    }
+
+    /// As before the handshake once more, with the same room. It takes no memory.
+    pub fn clear(&mut self, mss: u16)
+        ensures { self.new ≡ no_transmission self.old.sender.room mss }
+    {
+        let held = self.ring.limit() - self.ring.room();
+        self.ring.skip(held);
+        self.una = 1;
+        self.stop = None;
+        self.top = 1;
+        self.edge = 1;
+        self.nxt = 0;
+        self.told_edge = 1;
+        self.largest_window = 0;
+        self.wl1 = 0;
+        self.wl2 = 0;
+        self.scale = 0;
+        self.mss = mss;
+    }
+
+    /// How many octets are held: written, and not acknowledged.
+    pub fn held(&self) -> usize
+        ensures value { result ≡ length self.now.sender.ring }
+        ensures bounded { result ≤ 2 ^ 30 }
+    {
+        self.ring.limit() - self.ring.room()
     }
 
     /// How much is on its way.
@@ -201,12 +229,13 @@ impl Transmission {
     }
 
     /// The piece from a position on with so many octets at most, and the end if it follows them.
-    #[tactic(auto, using(crate::proofs::PartLemmas::part_len))]
+    #[tactic(auto, using(crate::proofs::PartLemmas::part_len, crate::proofs::PartLemmas::part_within))]
     pub fn part_from(&self, start: u64, most: usize) -> Part
         requires { start ≤ self.now.sender.top }
         ensures start { result.start ≡ start }
         ensures len { result.len ≡ length (octets_from start most self.now.sender) }
         ensures ends { result.ends ≡ (piece_from start most self.now.sender).ends }
+        ensures within { after_part result.start result.len result.ends ≤ last self.now.sender }
     {
         let held = self.ring.limit() - self.ring.room();
         let offset = (start.saturating_sub(self.una)).min(held as u64) as usize;
@@ -265,6 +294,19 @@ impl Transmission {
         self.nxt = nxt;
     }
 
+    /// The position after a piece of what is held.
+    #[tactic(auto, using(crate::proofs::PartLemmas::piece_within, crate::proofs::TransmissionLemmas::last_bounded))]
+    pub fn end_of(&self, part: &Part) -> u64
+        requires sent { part.now.start ≤ self.now.sender.top }
+        requires piece { IsPieceOf part.now self.now.sender }
+        ensures value { result ≡ after_part part.now.start part.now.len part.now.ends }
+        ensures within { result ≤ last self.now.sender }
+        ensures bounded { result ≤ 2 ^ 62 + 1 }
+    {
+        let _ = &self.una;
+        part.start + part.len as u64 + u64::from(part.ends)
+    }
+
     /// What is sent next begins at `nxt`, at most after all that was sent.
     pub fn go_back(&mut self, nxt: u64)
         requires { nxt ≤ self.old.sender.top }
@@ -282,8 +324,12 @@ impl Transmission {
     }
 
     /// The first position that isn't acknowledged.
+    #[tactic(auto, using(crate::proofs::TransmissionLemmas::una_bounded))]
     pub fn una(&self) -> u64
-        ensures { result ≡ self.now.sender.una }
+        ensures value { result ≡ self.now.sender.una }
+        ensures begun { 1 ≤ result }
+        ensures sent { result ≤ self.now.sender.top }
+        ensures bounded { result ≤ 2 ^ 62 + 1 }
     {
         self.una
     }
@@ -295,6 +341,14 @@ impl Transmission {
         ensures bounded { result ≤ 2 ^ 62 + 1 }
     {
         self.top
+    }
+
+    /// Where an empty segment stands: after all that was sent within the peer's window.
+    #[tactic(auto, using(crate::proofs::TransmissionLemmas::bounded))]
+    pub fn empty_position(&self) -> u64
+        ensures { result ≡ empty_position self.now }
+    {
+        self.nxt.max(self.top.min(self.edge))
     }
 
     /// The position of the end, once the program closed.

@@ -1,5 +1,5 @@
 -- What is acknowledged (RFC 9293 3.10.7.4, fifth check; RFC 5961 5; RFC 6298 5; RFC 5681 2).
-use Rattle.std.specs.Prelude.{ℕ, ◌+◌, ◌-◌, max, nat_lt, nat_le, ◌==◌, ◌&&◌, not, Bool, false}
+use Rattle.std.specs.Prelude.{ℕ, ◌+◌, ◌-◌, min, max, nat_lt, nat_le, ◌==◌, ◌&&◌, not, Bool, false}
 use Rattle.std.specs.Prelude.{length, Option, Some, None, if◌then◌else◌}
 use Rattle.tcp_machine.specs.Instants.{later}
 use Rattle.tcp_machine.specs.declared.timers.Timers.{Timers}
@@ -31,6 +31,11 @@ with_pending p c = if nat_lt (rank c.pending) (rank p) then record c { pending =
 -- how much is on its way
 abbrev pub flight : Transmission → ℕ
 flight t = t.nxt - t.sender.una
+
+-- Where an empty segment stands: after all that was sent within the peer's window (SND.NXT). While octets are sent again
+-- that is further than what is sent next, since what stands before the octets that have arrived isn't acceptable
+abbrev pub empty_position : Transmission → ℕ
+empty_position t = max t.nxt (min t.sender.top t.sender.edge)
 
 -- An acknowledgement is believed, if it isn't older than the largest window and not above what was sent:
 -- SND.UNA - MAX.SND.WND =< SEG.ACK =< SND.NXT (RFC 5961 5.2)

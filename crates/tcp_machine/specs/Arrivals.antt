@@ -14,12 +14,12 @@ use Rattle.tcp_machine.specs.declared.state.State.{State}
 use Rattle.tcp_machine.specs.declared.state.State.TheVariants.{Closed, SynReceived, Established, FinWait1, TimeWait}
 use Rattle.tcp_machine.specs.Positions.{number_at}
 use Rattle.tcp_machine.specs.Pieces.{Piece}
-use Rattle.tcp_machine.specs.Receiving.{Receiver, in_order, next, expected, is_at, with_piece}
+use Rattle.tcp_machine.specs.Receiving.{Receiver, in_order, next, expected, is_at, with_piece, is_in_window}
 use Rattle.tcp_machine.specs.declared.estimator.Estimator.{Estimator}
 use Rattle.tcp_machine.specs.States.{is_synchronized, takes_octets, after_peers_end}
 use Rattle.tcp_machine.specs.Connection.{Connection, Reception}
 use Rattle.tcp_machine.specs.Segments.{Segment, acceptable_piece, acknowledged_in}
-use Rattle.tcp_machine.specs.Acknowledgements.{with_pending, is_believed, after_acknowledgement}
+use Rattle.tcp_machine.specs.Acknowledgements.{with_pending, empty_position, is_believed, after_acknowledgement}
 
 abbrev pub is_time_wait : State → Bool
 is_time_wait TimeWait = true
@@ -47,7 +47,7 @@ ended why c = record (with_owed Nothing c) { state = Closed; ending = why; timer
 abbrev pub aborted : Ending → Connection → Connection
 aborted why c =
     if is_synchronized c.state || is_syn_received c.state
-    then record (ended (Some why) c) { pending = Reset (number_at c.local c.transmission.nxt) } else ended (Some why) c
+    then record (ended (Some why) c) { pending = Reset (number_at c.local (empty_position c.transmission)) } else ended (Some why) c
 
 -- TIME-WAIT begins, or begins anew (RFC 9293 3.4.2)
 abbrev pub with_time_wait : ℕ → Connection → Connection
@@ -65,13 +65,15 @@ after_unacceptable now s c =
     else with_pending Challenge c
 
 -- Second: a reset. Only one of exactly the next number ends the connection; another one in the window brings an
--- acknowledgement (RFC 5961 3.2)
+-- acknowledgement, and one outside of it nothing (RFC 5961 3.2)
 abbrev pub why_reset : Connection → Ending
 why_reset c = if c.is_active && is_syn_received c.state then Refused else ByPeer
 
 abbrev pub after_reset : Piece → Connection → Connection
 after_reset p c =
-    if p.start == expected c.reception.receiver then ended (Some (why_reset c)) c else with_pending Challenge c
+    if p.start == expected c.reception.receiver then ended (Some (why_reset c)) c
+    else if is_in_window c.reception.receiver p.start then with_pending Challenge c
+    else c
 
 -- Fourth: a SYN (RFC 5961 4.2). In SYN-RECEIVED the peer's own one may come once more, and acknowledge the own one: both
 -- sides opened at once (RFC 9293 3.5, figure 7)

@@ -4,3 +4,5 @@ pub mod Closings
 pub mod Resets
 pub mod Timeouts
 pub mod Transfers
+pub mod Sack
+pub mod Silence

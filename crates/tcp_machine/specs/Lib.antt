@@ -17,4 +17,5 @@ pub mod Calls
 pub mod Timers
 pub mod Outgoing
 pub mod Due
+pub mod Sack
 pub mod Examples

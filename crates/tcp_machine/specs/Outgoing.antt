@@ -15,6 +15,7 @@ use Rattle.tcp_machine.specs.Sending.{Sender, after_send}
 use Rattle.tcp_machine.specs.Receiving.{expected, is_at}
 use Rattle.tcp_machine.specs.States.{is_synchronized, sends_octets}
 use Rattle.tcp_machine.specs.Connection.{Connection, Reception}
+use Rattle.tcp_machine.specs.Acknowledgements.{empty_position}
 use Rattle.tcp_machine.specs.Windows.{next_promise, window_field, is_update_due}
 use Rattle.tcp_machine.specs.Timers.{is_opening}
 
@@ -167,8 +168,8 @@ segment_for SendSyn c = syn_segment c
 segment_for (SendNext p) c = segment_of_piece p c
 segment_for (SendAgain p) c = segment_of_piece p c
 segment_for (SendProbe p) c = segment_of_piece p c
-segment_for SendKeepAlive c = empty_at (c.transmission.nxt - 1) c
-segment_for SendAck c = empty_at c.transmission.nxt c
+segment_for SendKeepAlive c = empty_at (empty_position c.transmission - 1) c
+segment_for SendAck c = empty_at (empty_position c.transmission) c
 
 -- what the acknowledgement in a segment tells: nothing is owed any more, and the window is promised
 abbrev pub reception_told : Connection → Reception

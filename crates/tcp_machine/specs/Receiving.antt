@@ -54,13 +54,14 @@ stop_from None arrives p = if arrives then Some p else None
 abbrev pub is_in_window : Receiver → ℕ → Bool
 is_in_window r p = nat_le (expected r) p && nat_lt p (edge r)
 
--- What is acceptable (RFC 9293 3.10.7.4, first check): an empty segment at RCV.NXT or in the window; another one, if its
--- first or its last position is in the window
+-- What is acceptable (RFC 9293 3.10.7.4, first check): an empty segment at RCV.NXT, in the window or at its edge; another
+-- one, if its first or its last position is in the window. The RFC has the edge only where the window is closed. But a side
+-- that has sent a whole window stands there, and what it acknowledges would stay unknown until a lost segment is sent again
 abbrev pub is_acceptable : Receiver → Piece → Bool
 is_acceptable r p =
     if nat_lt p.start (after_piece p)
     then is_in_window r p.start || is_in_window r (after_piece p - 1)
-    else is_in_window r p.start || p.start == expected r
+    else is_in_window r p.start || p.start == edge r || p.start == expected r
 
 -- the first position of a piece that isn't in order yet
 abbrev pub first_new : Piece → Receiver → ℕ

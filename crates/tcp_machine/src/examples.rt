@@ -4,6 +4,8 @@ ghost use Rattle.tcp_machine.specs.Examples.Closings.{NormalClose, NormalCloseOf
 ghost use Rattle.tcp_machine.specs.Examples.Resets.{HalfOpen, Abort, NoReset};
 ghost use Rattle.tcp_machine.specs.Examples.Timeouts.{Estimates, Losses};
 ghost use Rattle.tcp_machine.specs.Examples.Transfers.{InOrder, OutOfOrder, Nagle, Retransmission, ClosedWindow, Wraps, SynOptions};
+ghost use Rattle.tcp_machine.specs.Examples.Sack.{Rfc2018};
+ghost use Rattle.tcp_machine.specs.Examples.Silence.{KeepAlive, GivingUp, Recovery};
 
 /// Handshakes (RFC 9293 3.5, figures 6 to 8).
 pub fn handshakes()
@@ -44,4 +46,16 @@ pub fn transfers()
     ensures closed_window { ClosedWindow }
     ensures wraps { Wraps }
     ensures options { SynOptions }
+{}
+
+/// Peers that don't answer, and a segment that is lost (RFC 9293 3.8.3, 3.8.4; RFC 5681; RFC 6582).
+pub fn silences()
+    ensures keep_alive { KeepAlive }
+    ensures giving_up { GivingUp }
+    ensures recovery { Recovery }
+{}
+
+/// Blocks of selective acknowledgements (RFC 2018 7).
+pub fn selective_acknowledgements()
+    ensures { Rfc2018 }
 {}

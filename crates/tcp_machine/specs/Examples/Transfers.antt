@@ -74,6 +74,12 @@ pub record Retransmission : Type 0 where
   pub acknowledged : due_at 1000003 (after_segment 1000003 (ack_segment 300 102) again) ≡ None
   -- the first octet alone: the timer goes on for the other one
   pub half : due_at 1000003 (after_segment 1000003 (ack_segment 300 101) again) ≡ Some 3000003
+  -- while it is sent again, an acknowledgement alone still stands after it
+  pub alone : sends 1000001 (after_segment 1000001 (text_segment 298 100 (1 ∷ [])) (after_timers 1000001 one_more))
+      ≡ Some (sent_ack 101 300)
+  -- and is read at the window's edge, but no further
+  pub at_the_edge : due_at 1000003 (after_segment 1000003 (ack_segment 320 102) again) ≡ None
+  pub further : due_at 1000003 (after_sending 1000003 (after_segment 1000003 (ack_segment 321 102) again)) ≡ Some 3000001
   -- an acknowledgement of more than was sent acknowledges nothing
   pub above : due_at 1000003 (after_sending 1000003 (after_segment 1000003 (ack_segment 300 103) again)) ≡ Some 3000001
 

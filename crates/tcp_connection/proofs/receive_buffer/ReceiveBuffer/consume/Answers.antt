@@ -24,7 +24,7 @@ invariant_of-self c =
     c.self.view_is c.requires.readable in
     let base = ap (λ (r : Receiver). r.base) c.self.view_is in
     let bound = c.requires.bounded in
-    (still_arrived i.base i.room c.args.count i.arrived v.0 l, omega arith, c.move_to_front.ensures.len ∙ v.2, v.3, omega (arith, base, bound))
+    (still_arrived i.base i.room c.args.count i.arrived v.0 l, omega arith, c.move_to_front.ensures.len ∙ v.2, v.3, omega (arith, base, bound), v.5)
 
 pub invariant_of-self-else-self : goal.invariant_of-self-else-self
 invariant_of-self-else-self c =
@@ -34,7 +34,7 @@ invariant_of-self-else-self c =
     c.self.view_is c.requires.readable in
     let base = ap (λ (r : Receiver). r.base) c.self.view_is in
     let bound = c.requires.bounded in
-    (still_arrived i.base i.room c.args.count i.arrived v.0 l, c.if-self.false, v.2, v.3, omega (arith, base, bound))
+    (still_arrived i.base i.room c.args.count i.arrived v.0 l, c.if-self.false, v.2, v.3, omega (arith, base, bound), v.5)
 
 pub returns-then-self : goal.returns-then-self
 returns-then-self c =

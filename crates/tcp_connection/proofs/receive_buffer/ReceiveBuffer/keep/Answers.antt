@@ -4,6 +4,8 @@ use Rattle.net_base.specs.Ranges.{IsUnion}
 use Rattle.tcp_machine.specs.Receiving.{Receiver, filled, next, edge}
 use Rattle.tcp_connection.proofs.ArrivedLemmas.{edge_of, next_of}
 use Rattle.tcp_connection.proofs.KeptLemmas.{kept_is, arrived_after, refused_beyond, length-after_write, on_ok}
+use Rattle.tcp_connection.specs.Arrived.{IsFurthest}
+use Rattle.tcp_connection.proofs.GapLemmas.{furthest_after}
 use Rattle.tcp_connection.proofs.receive_buffer.ReceiveBuffer.keep.Goals as goal
 
 pub add-requires : goal.add-requires
@@ -40,6 +42,16 @@ overflow_add-at c =
     let b = v.4 in
     omega (arith, e, q, low, a, b)
 
+pub overflow_add-first : goal.overflow_add-first
+overflow_add-first c =
+    let i = c.self.inside in
+    let v = c.self.invariant in
+    let e = ap edge (sym c.self.view_is) ∙ edge_of i.base i.items.items i.start i.room i.arrived i.stop v.1 v.2 in
+    let q = c.requires.room in
+    let a = v.3 in
+    let b = v.4 in
+    omega (arith, e, q, a, b)
+
 pub write-requires : goal.write-requires
 write-requires c =
     let i = c.self.inside in
@@ -72,6 +84,8 @@ invariant_of-self-2 c =
           ∙ length-after_write (i.start + (c.args.first - i.base)) c.args.octets.now i.items.items (omega (arith, e, n, q, f, first, low, all)) ∙ v.2,
       v.3,
       v.4,
+      subst (λ (f : ℕ). IsFurthest f c.add.new.self) (sym c.max-self-inside.ensures)
+          (furthest_after i.furthest c.args.first (length c.args.octets.now) i.arrived c.add.new.self v.5 c.requires.some u),
     )
 
 pub returns-clause-kept : goal.returns-clause-kept

@@ -1,6 +1,6 @@
 use Rattle.std.proofs.Common.{◌≡◌, ◌+◌, ◌-◌, ℕ, List, length, take, drop, min, max, sym, ap, ◌∙◌, arith, Option}
 use Rattle.std.proofs.lemmas.Bool.Decides.{nat_tests}
-use Rattle.tcp_machine.specs.Receiving.{filled, next, edge}
+use Rattle.tcp_machine.specs.Receiving.{next, edge}
 use Rattle.tcp_connection.proofs.KeptLemmas.{kept_from, cut_is, none_is}
 use Rattle.tcp_connection.proofs.receive_buffer.ReceiveBuffer.take_octets.Goals as goal
 

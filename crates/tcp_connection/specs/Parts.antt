@@ -1,0 +1,41 @@
+-- Rules of the machine, by the parts of a segment that they ask for.
+use Rattle.std.specs.Prelude.{ℕ, ◌+◌, ◌==◌, ◌&&◌, not, Bool, nat_lt, Some, if◌then◌else◌}
+use Rattle.tcp_machine.specs.declared.timers.Pending.TheVariants.{Resend, Challenge, Reset}
+use Rattle.tcp_machine.specs.declared.timers.Owed.TheVariants.{AtOnce}
+use Rattle.tcp_machine.specs.Segments.{Segment}
+use Rattle.tcp_machine.specs.Arrivals.{is_own_syn_acknowledged, established, with_owed, after_position_acknowledged}
+use Rattle.tcp_machine.specs.Pieces.{Piece}
+use Rattle.tcp_machine.specs.Positions.{number_at}
+use Rattle.tcp_machine.specs.Sending.{after_position}
+use Rattle.tcp_machine.specs.Congestion as congestion
+use Rattle.tcp_machine.specs.Connection.{Connection, Transmission}
+use Rattle.tcp_machine.specs.Acknowledgements.{flight, after_progress, with_pending}
+
+-- an acknowledgement tells nothing new, if the segment is empty
+abbrev pub tells_nothing : (a window : ℕ) → (is_empty : Bool) → Transmission → Bool
+tells_nothing a window is_empty t = nat_lt t.sender.una t.sender.top && is_empty && (a == t.sender.una) && (a + window == t.told_edge)
+
+abbrev pub after_old_position : (a window : ℕ) → (is_empty : Bool) → Connection → Connection
+after_old_position a window is_empty c =
+    let t = c.transmission in
+    if tells_nothing a window is_empty t then
+    record c {
+      congestion = congestion.after_duplicate t.mss a (flight t) t.sender.top c.congestion;
+      pending = if congestion.is_third a c.congestion then Resend else c.pending;
+    }
+    else record c { transmission = record t { sender = after_position a window t.sender } }
+
+abbrev pub after_position_of : (now a window len : ℕ) → (ends : Bool) → Connection → Connection
+after_position_of now a window len ends c =
+    if nat_lt c.transmission.sender.una a then after_progress now a window c
+    else after_old_position a window ((len == 0) && not ends) c
+
+-- a SYN arrives at a connection whose peer's initial number is known
+abbrev pub after_syn_again : Segment → Connection → Connection
+after_syn_again s c = if is_own_syn_acknowledged s c then with_owed AtOnce (established c) else with_pending Challenge c
+
+-- an acknowledgement arrives in SYN-RECEIVED
+abbrev pub after_ack_of_syn : (now : ℕ) → (keeps : Bool) → (number : ℕ) → Segment → Piece → Connection → Connection
+after_ack_of_syn now keeps number s p c =
+    if number == number_at c.local 1 then after_position_acknowledged now keeps (Some 1) s p (established c)
+    else with_pending (Reset number) c

@@ -1,0 +1,30 @@
+//! When something is due.
+ghost use Rattle.std.specs.Prelude.{◌≡◌};
+ghost use Rattle.tcp_machine.specs.Due as due;
+
+use crate::connection::Connection;
+use crate::instants::{least, owed_at};
+
+impl Connection {
+    /// When something is due: `now`, if a segment is to be sent or a timer to be begun; otherwise when the first timer ends.
+    /// None, if nothing is due by itself.
+    pub fn due_at(&self, now: u64) -> Option<u64>
+        ensures { result ≡ due.due_at now self.now }
+    {
+        if self.next_action(now).is_some() || self.lacks_timer() {
+            return Some(now);
+        }
+        self.timer_at()
+    }
+
+    /// When the first timer ends.
+    fn timer_at(&self) -> Option<u64>
+        ensures { result ≡ due.timer_at self.now }
+    {
+        let own = least(self.timers.resend_at, self.timers.ends_at);
+        least(
+            own,
+            least(self.keep_alive_at(), owed_at(self.reception.owed())),
+        )
+    }
+}

@@ -1,0 +1,96 @@
+//! What a host asks of a connection, and what a program chooses.
+ghost use Rattle.std.specs.Prelude.{◌≡◌, length};
+ghost use Rattle.tcp_machine.specs.Calls as calls;
+ghost use Rattle.tcp_connection.specs.Asked as asked;
+
+use crate::connection::Connection;
+use crate::states::{may_write, takes_octets};
+use tcp_machine::state::State;
+use tcp_machine::timers::Ending;
+
+impl Connection {
+    /// The state of RFC 9293 3.3.2.
+    pub fn state(&self) -> State
+        ensures { result ≡ self.now.state }
+    {
+        self.state
+    }
+
+    /// Why the connection ended before both sides had closed, if it did.
+    pub fn ending(&self) -> Option<Ending>
+        ensures { result ≡ self.now.ending }
+    {
+        self.ending
+    }
+
+    /// Whether the program may write: it hasn't closed, and the connection isn't gone.
+    pub fn may_send(&self) -> bool
+        ensures { result ≡ asked.may_send self.now }
+    {
+        may_write(self.state) && self.transmission.stop().is_none()
+    }
+
+    /// Whether a write would take an octet.
+    pub fn can_send(&self) -> bool
+        ensures { result ≡ asked.can_send self.now }
+    {
+        self.may_send() && self.transmission.room_to_write() > 0
+    }
+
+    /// Whether there is an octet to be read, or one may still come.
+    pub fn may_recv(&self) -> bool
+        ensures { result ≡ asked.may_recv self.now }
+    {
+        takes_octets(self.state) || self.can_recv()
+    }
+
+    /// Whether there is an octet to be read.
+    pub fn can_recv(&self) -> bool
+        ensures { result ≡ asked.can_recv self.now }
+    {
+        !self.reception.readable().is_empty()
+    }
+
+    /// How many octets are written and not acknowledged.
+    pub fn send_queue(&self) -> usize
+        ensures { result ≡ length self.now.transmission.sender.ring }
+    {
+        self.transmission.held()
+    }
+
+    /// How many octets can be read.
+    pub fn recv_queue(&self) -> usize
+        ensures { result ≡ length (calls.readable self.now) }
+    {
+        self.reception.readable().len()
+    }
+
+    /// Short segments wait while something is unacknowledged, or don't (RFC 9293 3.7.4).
+    pub fn set_nagle_enabled(&mut self, enabled: bool)
+        ensures { self.new ≡ record self.old { settings = record self.old.settings { nagle = enabled } } }
+    {
+        self.settings.nagle = enabled;
+    }
+
+    /// How long an acknowledgement of octets in order may wait, in microseconds (RFC 9293 3.8.6.3).
+    pub fn set_ack_delay(&mut self, delay: u64)
+        ensures { self.new ≡ record self.old { settings = record self.old.settings { ack_delay = delay } } }
+    {
+        self.settings.ack_delay = delay;
+    }
+
+    /// How long nothing arrives before the peer is probed, in microseconds (RFC 9293 3.8.4). With `None` it never is.
+    pub fn set_keep_alive(&mut self, interval: Option<u64>)
+        ensures { self.new ≡ record self.old { settings = record self.old.settings { keep_alive = interval } } }
+    {
+        self.settings.keep_alive = interval;
+    }
+
+    /// How long what was sent may stay unacknowledged, in microseconds (RFC 9293 3.8.3). With `None` the number of tries
+    /// decides.
+    pub fn set_timeout(&mut self, timeout: Option<u64>)
+        ensures { self.new ≡ record self.old { settings = record self.old.settings { timeout = timeout } } }
+    {
+        self.settings.timeout = timeout;
+    }
+}

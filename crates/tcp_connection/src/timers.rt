@@ -1,0 +1,177 @@
+//! What a connection does by itself (RFC 6298 5; RFC 9293 3.4.2, 3.8.3, 3.8.4, 3.8.6.1).
+ghost use Rattle.std.specs.Prelude.{◌≡◌, ◌+◌, ◌*◌, min};
+ghost use Rattle.tcp_machine.specs.Instants as instants;
+ghost use Rattle.tcp_machine.specs.Connection.{most_tries};
+ghost use Rattle.tcp_machine.specs.Due as due;
+ghost use Rattle.tcp_machine.specs.Timers as timers;
+
+use crate::connection::Connection;
+use crate::instants::{NEVER, has_passed, has_waited, later};
+use crate::states::{is_opening, is_synchronized, is_time_wait, sends_octets};
+use tcp_machine::timers::{Ending, Pending, Timers};
+
+/// How often a segment is sent again before the connection is given up, where no time-out is set.
+const MOST_TRIES: u64 = 12;
+
+/// How many probes stay unanswered before a peer that is kept alive is given up.
+const MOST_PROBES: u64 = 9;
+
+/// The instant that follows another one after so many intervals and one more.
+fn after_intervals(start: u64, interval: u64, count: u64) -> u64
+    ensures { result ≡ instants.later start (interval * (count + 1)) }
+{
+    let Some(before) = interval.checked_mul(count) else {
+        return NEVER;
+    };
+    match before.checked_add(interval) {
+        Some(span) => later(start, span),
+        None => NEVER,
+    }
+}
+
+/// One more, up to the most tries.
+fn one_more(count: u64) -> u64
+    ensures { result ≡ min most_tries (count + 1) }
+{
+    count.saturating_add(1).min(MOST_TRIES)
+}
+
+impl Connection {
+    /// What happens by itself up to an instant: the timers that have ended (RFC 9293 3.10.8; RFC 6298 5).
+    pub fn expire(&mut self, now: u64)
+        ensures { self.new ≡ timers.after_timers now self.old }
+    {
+        self.expire_time_wait(now);
+        self.expire_resend_timer(now);
+        self.expire_keep_alive(now);
+        self.start_probe_timer(now);
+    }
+
+    /// TIME-WAIT ends.
+    fn expire_time_wait(&mut self, now: u64)
+        ensures { self.new ≡ timers.after_time_wait now self.old }
+    {
+        if has_passed(self.timers.ends_at, now) {
+            self.end(None);
+        }
+    }
+
+    /// What isn't acknowledged is sent again, or a closed window is probed, or the connection is given up.
+    fn expire_resend_timer(&mut self, now: u64)
+        ensures { self.new ≡ timers.after_resend_timer now self.old }
+    {
+        if !has_passed(self.timers.resend_at, now) {
+            return;
+        }
+        if self.transmission.is_window_closed() && !is_opening(self.state) {
+            self.expire_probe_timer(now);
+        } else if self.is_given_up(now) {
+            self.give_up(Ending::TimedOut);
+        } else {
+            self.lose_all();
+        }
+    }
+
+    /// Whether what was sent has been unacknowledged for too long (RFC 9293 3.8.3).
+    fn is_given_up(&self, now: u64) -> bool
+        ensures { result ≡ timers.is_given_up now self.now }
+    {
+        let timeout = self.settings.timeout;
+        has_waited(now, timeout, self.timers.waiting_since)
+            || (timeout.is_none() && MOST_TRIES <= self.timers.tries)
+    }
+
+    /// All from the first unacknowledged position on is sent again (RFC 6298 5.4 to 5.6).
+    fn lose_all(&mut self)
+        ensures { self.new ≡ timers.after_loss_of_all self.old }
+    {
+        let una = self.transmission.una();
+        let mss = self.transmission.mss();
+        let flight = self.transmission.flight();
+        let top = self.transmission.top();
+        let is_first = self.timers.tries == 0;
+        self.congestion = self.congestion.after_timeout(is_first, mss, flight, top);
+        self.estimator = self.estimator.after_timeout();
+        self.transmission
+            .go_back(if is_opening(self.state) { 0 } else { una });
+        self.timers = Timers {
+            resend_at: None,
+            tries: one_more(self.timers.tries),
+            measured: None,
+            ..self.timers
+        };
+    }
+
+    /// A closed window is probed, or the peer that hasn't answered for too long is given up (RFC 9293 3.8.6.1).
+    fn expire_probe_timer(&mut self, now: u64)
+        ensures { self.new ≡ timers.after_probe_time now self.old }
+    {
+        if self.is_unheard(now) && self.timers.probes > 0 {
+            self.give_up(Ending::TimedOut);
+            return;
+        }
+        self.estimator = self.estimator.after_timeout();
+        self.timers.resend_at = None;
+        self.timers.probes = one_more(self.timers.probes);
+        self.add_pending(Pending::Probe);
+    }
+
+    /// Whether nothing has arrived for too long.
+    fn is_unheard(&self, now: u64) -> bool
+        ensures { result ≡ timers.is_unheard now self.now }
+    {
+        let timeout = self.settings.timeout;
+        has_waited(now, timeout, Some(self.timers.heard_at))
+            || (timeout.is_none() && MOST_TRIES <= self.timers.probes)
+    }
+
+    /// A silent peer is probed, or given up after nine probes (RFC 9293 3.8.4).
+    fn expire_keep_alive(&mut self, now: u64)
+        ensures { self.new ≡ timers.after_keep_alive now self.old }
+    {
+        if !has_passed(self.keep_alive_at(), now) {
+            return;
+        }
+        if MOST_PROBES <= self.timers.probes {
+            self.give_up(Ending::TimedOut);
+            return;
+        }
+        self.timers.probes = one_more(self.timers.probes);
+        self.add_pending(Pending::KeepAlive);
+    }
+
+    /// When a silent peer is probed next.
+    pub(crate) fn keep_alive_at(&self) -> Option<u64>
+        ensures { result ≡ timers.keep_alive_at self.now }
+    {
+        if !is_synchronized(self.state) || is_time_wait(self.state) {
+            return None;
+        }
+        match self.settings.keep_alive {
+            None => None,
+            Some(interval) => Some(after_intervals(
+                self.timers.heard_at,
+                interval,
+                self.timers.probes,
+            )),
+        }
+    }
+
+    /// The timer runs while the window is closed, too.
+    fn start_probe_timer(&mut self, now: u64)
+        ensures { self.new ≡ timers.with_probe_timer now self.old }
+    {
+        if self.lacks_timer() {
+            self.timers.resend_at = Some(later(now, self.estimator.timeout));
+        }
+    }
+
+    /// Whether the window is closed and no timer runs.
+    pub(crate) fn lacks_timer(&self) -> bool
+        ensures { result ≡ due.lacks_timer self.now }
+    {
+        self.timers.resend_at.is_none()
+            && sends_octets(self.state)
+            && self.transmission.is_window_closed()
+    }
+}

@@ -1,0 +1,3 @@
+pub mod AlarmLemmas
+pub mod ChallengeLemmas
+pub mod BacklogLemmas

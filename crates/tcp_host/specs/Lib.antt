@@ -1,0 +1,4 @@
+pub mod Iss
+pub mod Challenges
+pub mod Alarms
+pub mod Backlog

@@ -1,0 +1,84 @@
+//! The least of many instants, without a walk over all.
+ghost use Rattle.std.specs.Prelude.{◌≡◌, ◌≤◌, ◌<◌, ◌+◌, ◌^◌, ◌/◌, ℕ, length, slice_index, slice_set, drop, replicate, IfOk, IfSome, None, min};
+ghost use Rattle.tcp_host.specs.Alarms as spec;
+
+use std::alloc::{AllocError, Global};
+use std::marker::Model;
+
+/// The instant of a place at which nothing is due.
+pub const NEVER: u64 = u64::MAX;
+
+/// An instant for each of many places, and the least of them: setting one and finding one that is due take as many steps as
+/// the number of places has bits, and the least is at hand.
+///
+/// In contracts it is the list of the instants. It takes memory when it is made, and never later.
+#[derive(Drop)]
+pub struct Alarms {
+    // The instants are the second half; before them each node is the lesser of the two at twice its place.
+    nodes: Vec<u64>,
+    places: usize,
+}
+
+impl Model for Alarms {
+    ghost use Rattle.std.specs.Prelude.{ℕ, List, length, ◌≤◌, ◌≡◌, ◌+◌, ◌^◌, drop};
+    ghost use Rattle.tcp_host.specs.Alarms.{IsTournament};
+
+    ghost Value = { List ℕ };
+
+    ghost view = { λ a. drop a.places a.nodes.items };
+
+    ghost invariant = { λ a. (length a.nodes.items ≡ a.places + a.places) × (1 ≤ a.places) × (a.places ≤ 2 ^ 32)
+        × IsTournament a.places a.nodes.items };
+}
+
+impl Alarms {
+    /// Nothing is due at so many places, at least one and at most 2^32. It fails exactly if the memory is refused.
+    #[tactic(auto, using(crate::proofs::AlarmLemmas::all_same))]
+    pub fn new(alloc: Global, places: usize) -> Result<Alarms, AllocError>
+        requires some { 1 ≤ places }
+        requires few { places ≤ 2 ^ 32 }
+        ensures { IfOk result (λ a. a ≡ replicate places NEVER) }
+    {
+        Ok(Alarms {
+            nodes: vec![in alloc; NEVER; 2 * places]?,
+            places,
+        })
+    }
+
+    /// The least instant.
+    #[tactic(auto, using(crate::proofs::AlarmLemmas::least_is))]
+    pub fn least(&self) -> u64
+        ensures { spec.IsLeast self.now result }
+    {
+        self.nodes[1]
+    }
+
+    /// Sets the instant of a place.
+    pub fn set(&mut self, place: usize, instant: u64)
+        requires { place < length self.old }
+        ensures { self.new ≡ slice_set self.old place instant }
+    {
+        let node = self.places + place;
+        self.nodes[node] = instant;
+        settle(&mut self.nodes, self.places, node);
+    }
+}
+
+// The nodes over one whose instant was set become the lesser of the two below them.
+fn settle(nodes: &mut [u64], places: usize, set: usize)
+    requires len { length nodes.old ≡ places + places }
+    requires some { 1 ≤ places }
+    requires few { places ≤ 2 ^ 32 }
+    requires from { 1 ≤ set }
+    requires within { set < places + places }
+    requires others { spec.IsTournamentBut places (set / 2) nodes.old }
+    ensures settled { spec.IsTournament places nodes.new }
+    ensures kept { drop places nodes.new ≡ drop places nodes.old }
+{
+    let mut node = set;
+    while node > 1 {
+        node /= 2;
+        let least = nodes[2 * node].min(nodes[2 * node + 1]);
+        nodes[node] = least;
+    }
+}

@@ -1,0 +1,86 @@
+-- A peer that doesn't answer: keep-alive (RFC 9293 3.8.4), giving up (3.8.3), and a lost segment that three acknowledgements
+-- tell of (RFC 5681 3.2, RFC 6582 3.2).
+use Rattle.std.specs.Prelude.{◌≡◌, ℕ, ◌+◌, ◌*◌, zero, suc, [], ◌∷◌, replicate, Some, None, false}
+use Rattle.tcp_machine.specs.declared.timers.Ending.TheVariants.{TimedOut}
+use Rattle.tcp_machine.specs.declared.settings.Settings.{Settings}
+use Rattle.tcp_machine.specs.declared.state.State.TheVariants as state
+use Rattle.tcp_machine.specs.Connection.{Connection}
+use Rattle.tcp_machine.specs.Opening.{opened}
+use Rattle.tcp_machine.specs.Calls.{after_writing}
+use Rattle.tcp_machine.specs.Timers.{after_timers}
+use Rattle.tcp_machine.specs.Due.{due_at}
+use Rattle.tcp_machine.specs.Examples.Ends.{settings, ack_segment, syn_segment, sends, after_sending, after_segment, sent_ack, sent_text, sent_reset}
+
+-- established, with the next number 100 and the peer's 300; rings of a thousand octets, with choices of the program
+abbrev pub connected : Settings → Connection
+connected chosen =
+    after_sending 0
+    (after_segment 0 (record (syn_segment 299 (Some 100)) { window = 1000; options = record { mss = Some 100; scale = None } })
+    (after_sending 0 (opened 0 99 1000 1000 100 chosen)))
+
+-- Keep-alive each 1,000 µs: an empty segment before the next number, for as long as nothing arrives
+abbrev pub kept_alive : Connection
+kept_alive = connected (record settings { keep_alive = Some 1000 })
+
+abbrev pub probed_once : Connection
+probed_once = after_sending 1000 (after_timers 1000 kept_alive)
+
+-- n probes more, a thousand microseconds after one another
+abbrev pub probed : ℕ → Connection
+probed zero = probed_once
+probed (suc n) = after_sending (1000 * (suc n + 1)) (after_timers (1000 * (suc n + 1)) (probed n))
+
+pub record KeepAlive : Type 0 where
+  pub due : due_at 0 kept_alive ≡ Some 1000
+  pub not_before : sends 999 (after_timers 999 kept_alive) ≡ None
+  pub probe : sends 1000 (after_timers 1000 kept_alive) ≡ Some (record (sent_ack 99 300) { window = 1000 })
+  pub next : due_at 1000 probed_once ≡ Some 2000
+  -- an answer ends the probes, and the peer is probed a second after it
+  pub answered : due_at 1500 (after_segment 1500 (ack_segment 300 100) probed_once) ≡ Some 2500
+  -- the ninth probe is the last one
+  pub ninth : (after_timers 9000 (probed 7)).state ≡ state.Established
+  pub given_up : (after_timers 10000 (probed 8)).ending ≡ Some TimedOut
+  pub told : sends 10000 (after_timers 10000 (probed 8)) ≡ Some (sent_reset 100)
+  -- without keep-alive nothing is ever due
+  pub off : due_at 0 (connected settings) ≡ None
+
+-- A user's time-out of 3 s: what is unacknowledged for so long ends the connection
+abbrev pub impatient : Connection
+impatient = after_sending 0 (after_writing (7 ∷ []) (connected (record settings { timeout = Some 3000000 })))
+
+abbrev pub tried_again : Connection
+tried_again = after_sending 1000000 (after_timers 1000000 impatient)
+
+pub record GivingUp : Type 0 where
+  pub again : sends 1000000 (after_timers 1000000 impatient) ≡ Some (record (sent_text 100 300 (7 ∷ [])) { window = 1000 })
+  pub second : due_at 1000000 tried_again ≡ Some 3000000
+  pub given_up : (after_timers 3000000 tried_again).ending ≡ Some TimedOut
+  pub closed : (after_timers 3000000 tried_again).state ≡ state.Closed
+  -- an acknowledgement in time keeps it
+  pub kept : (after_timers 3000000 (after_segment 2999999 (ack_segment 300 101) tried_again)).state ≡ state.Established
+
+-- Five segments of 100 octets, of which the second is lost. The first is acknowledged, and then thrice the same number
+abbrev pub five_sent : Connection
+five_sent =
+    after_sending 0 (after_sending 0 (after_sending 0 (after_sending 0 (after_sending 0
+    (after_writing (replicate 500 7) (connected settings))))))
+
+abbrev pub ack_of : ℕ → Connection → Connection
+ack_of number c = after_segment 10 (record (ack_segment 300 number) { window = 1000 }) c
+
+abbrev pub second_lost : Connection
+second_lost = ack_of 200 (ack_of 200 five_sent)
+
+abbrev pub third_duplicate : Connection
+third_duplicate = ack_of 200 (ack_of 200 second_lost)
+
+pub record Recovery : Type 0 where
+  pub not_yet : sends 10 (ack_of 200 second_lost) ≡ None
+  pub again : sends 10 third_duplicate ≡ Some (record (sent_text 200 300 (replicate 100 7)) { window = 1000 })
+  pub once : sends 10 (after_sending 10 third_duplicate) ≡ None
+  pub threshold : third_duplicate.congestion.threshold ≡ 200
+  -- a partial acknowledgement tells of the next lost one
+  pub partial : sends 10 (ack_of 400 (after_sending 10 third_duplicate))
+      ≡ Some (record (sent_text 400 300 (replicate 100 7)) { window = 1000 })
+  -- all of it
+  pub full : (ack_of 600 (after_sending 10 third_duplicate)).congestion.is_recovering ≡ false
