@@ -79,8 +79,9 @@ for to in 10.2.0.2 fd02::2 10.3.0.1 10.1.0.1 fd01::1 10.2.0.1 fd02::1; do
 done
 try prints '3 received' there ping -c 3 -i 0.2 10.1.0.1
 try prints '3 received' there ping -c 3 -i 0.2 fd01::2
-try prints ' 0% packet loss' ping -f -q -c 5000 10.2.0.2
-try prints ' 0% packet loss' ping -f -q -c 5000 fd02::2
+# In a flood ping waits for the last reply for just a fraction of a millisecond, so a few in 5000 may count as lost.
+try prints ' 0\(\.0[0-9]*\)\?% packet loss' ping -f -q -c 5000 10.2.0.2
+try prints ' 0\(\.0[0-9]*\)\?% packet loss' ping -f -q -c 5000 fd02::2
 # The hop limit is lowered, and 1 isn't forwarded.
 try prints 'ttl=63' ping -c 1 10.2.0.2
 try prints 'ttl=63' ping -c 1 fd02::2
@@ -110,7 +111,7 @@ sleep 1
 try python3 "$here/gateway_peer.py" forge
 wait $watch || status=1
 kill $gateway
-wait $gateway || status=1
+wait $gateway || [ $? = 143 ] || status=1 # SIGTERM ends one without a handler
 gateway=
 cat "$scratch/gateway"
 exit $status
