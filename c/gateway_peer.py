@@ -130,6 +130,8 @@ def watch():
             del due[tag]
         for tag in [*KEPT, *TOLD]:
             wanted(datagram(tag)[8:] not in packet[20:] or packet[9] == 1, f"'{tag}' was forwarded")
+        is_asked = packet[:2] == b"\0\1" and packet[24:28] in (address("10.2.0.0"), address("10.2.0.255"))
+        wanted(not is_asked and packet[16:20] != address("10.2.0.255"), "an end of the network was asked for, or sent to")
         wanted(unreachable(4) not in packet and unreachable(6) not in packet, "an error with hop limit 1 was forwarded")
     wanted(not due, f"not forwarded as they have to be: {', '.join(due)}")
     print(f"forwarded as they have to be: {len(FORWARDED)}; kept: {len(KEPT)}")
