@@ -101,7 +101,24 @@ try sends_back fd69::7
 stop
 
 # A neighbour that answers, and one that doesn't.
-try "$folder/ping" tap0 192.168.69.4 24 192.168.69.100 3
-try "$folder/ping" tap0 fe80::4 64 fe80::100 3
-try fails "$folder/ping" tap0 192.168.69.4 24 192.168.69.77 1
+try "$folder/ping" tap0 192.168.69.4/24 192.168.69.100 -c 3 -i 0.2
+try "$folder/ping" tap0 fe80::4/64 fe80::100 -c 3 -i 0.2
+try "$folder/ping" tap0 192.168.69.4/24 192.168.69.100 -c 20 -i 0.02 -s 3000
+try fails "$folder/ping" tap0 192.168.69.4/24 192.168.69.77 -c 1
+
+# Who has an address, and who is on the link: two addresses of IPv4, and the kernel's link-local one.
+prints() {
+    local word=$1 output
+    shift
+    output=$("$@") || return 1
+    echo "$output"
+    grep -q "$word" <<<"$output"
+}
+hardware=$(ip -o link show tap0 | sed 's/.*ether \([^ ]*\).*/\1/')
+ip addr add 192.168.69.200/24 dev tap0
+try prints "192.168.69.100 is at $hardware" "$folder/arping" tap0 192.168.69.4/24 192.168.69.100 -c 2
+try prints "fe80::100 is at $hardware" "$folder/arping" tap0 fe80::4/64 fe80::100 -c 2
+try fails "$folder/arping" tap0 192.168.69.4/24 192.168.69.77 -c 1
+try prints '253 requests, 2 hosts' "$folder/sweep" tap0 192.168.69.4/24 -q 200 -W 1
+try prints '3 requests, 1 hosts' "$folder/sweep" tap0 fe80::4/64 -W 1
 exit $status

@@ -1,5 +1,5 @@
 #!/bin/bash
-# Runs ping, server, multicast and slaac on TAP devices, and trace on one of a pair of interfaces, in a network namespace
+# Runs ping, discover, server, multicast and slaac on TAP devices, and trace on one of a pair of interfaces, in a network namespace
 # of its own, against Linux's stack. It changes nothing outside that namespace, and ends by itself after at most three
 # minutes.
 #
@@ -61,6 +61,15 @@ finish() {
 try "$folder/ping" tap0 192.168.69.100 -c 4 -i 200
 try "$folder/ping" tap0 fdaa::100 -c 4 -i 200
 try "$folder/ping" tap0 fe80::100 -c 4 -i 200
+
+discovers() {
+    ! "$folder/discover" tap0 192.168.69.1/24 -n 2 192.168.69.100 192.168.69.77 >"$scratch/output"
+    cat "$scratch/output"
+    hardware=$(ip -o link show tap0 | sed 's/.*ether \([^ ]*\).*/\1/' | tr : -)
+    grep -q "192.168.69.100 is at $hardware" "$scratch/output" && grep -q '192.168.69.77: no answer' "$scratch/output"
+}
+try discovers
+try "$folder/discover" tap0 fe80::5/64 fe80::100
 
 start server 8
 try ping -c 3 -i 0.2 192.168.69.1

@@ -17,6 +17,7 @@
 #include <stdlib.h>
 #include <string.h>
 #include <sys/ioctl.h>
+#include <sys/socket.h>
 #include <time.h>
 #include <unistd.h>
 
@@ -41,10 +42,40 @@ static inline struct iface_address address_of(const char *text) {
     return a;
 }
 
+/* An address with its network by its text, as 192.168.69.1/24. */
+static inline struct iface_cidr cidr_of(const char *text) {
+    char address[INET6_ADDRSTRLEN] = "", *end = NULL;
+    size_t length = strcspn(text, "/");
+    unsigned long bits = text[length] ? strtoul(text + length + 1, &end, 10) : 0;
+    if (length >= sizeof address || !end || *end || end == text + length + 1) must(text, IFACE_BAD_ADDRESS);
+    struct iface_cidr c = {.address = address_of(memcpy(address, text, length < sizeof address ? length : 0))};
+    if (bits > (c.address.version == 6 ? 128 : 32)) must(text, IFACE_BAD_ARGUMENT);
+    c.prefix_len = (uint8_t)bits;
+    return c;
+}
+
+/* A number by its text, from one to another, or the program ends. */
+static inline double number_of(const char *text, double least, double most) {
+    char *end;
+    double number = strtod(text, &end);
+    if (end == text || *end || !(number >= least && number <= most)) {
+        fprintf(stderr, "%s: not a number from %g to %g\n", text, least, most);
+        exit(2);
+    }
+    return number;
+}
+
 /* The text of an address, until the next call. */
 static inline const char *text_of(const struct iface_address *a) {
     static char text[INET6_ADDRSTRLEN];
     return inet_ntop(a->version == 6 ? AF_INET6 : AF_INET, a->octets, text, sizeof text);
+}
+
+/* The text of an address of Ethernet, until the next call. */
+static inline const char *hardware_text(const uint8_t m[6]) {
+    static char text[18];
+    snprintf(text, sizeof text, "%02x:%02x:%02x:%02x:%02x:%02x", m[0], m[1], m[2], m[3], m[4], m[5]);
+    return text;
 }
 
 /* The link-local address of a hardware address (RFC 4291 appendix A, RFC 4862 5.3). */
@@ -67,6 +98,20 @@ static inline int open_tap(const char *name) {
         exit(1);
     }
     return tap;
+}
+
+/* Waits until the system uses a device that was just opened, two seconds at most: before that, what it sends is lost. */
+static inline void await_link(const char *name) {
+    struct ifreq asked;
+    int any = socket(AF_INET, SOCK_DGRAM, 0), is_running = 0;
+    memset(&asked, 0, sizeof asked);
+    strncpy(asked.ifr_name, name, IFNAMSIZ - 1);
+    for (int i = 0; !is_running && i < 200; i++) {
+        poll(NULL, 0, 10);
+        is_running = ioctl(any, SIOCGIFFLAGS, &asked) == 0 && (asked.ifr_flags & IFF_RUNNING);
+    }
+    if (!is_running) fprintf(stderr, "%s isn't up\n", name);
+    close(any);
 }
 
 /* Sends a frame: one that the device doesn't take is told of, and lost. */
