@@ -1,6 +1,7 @@
 /* What calls that set and read a host do, by values of the RFCs: source addresses (RFC 6724, 10.1), the link-local
  * address of a hardware address (RFC 2464, 4), routes with an end, hop limits as they are sent, sockets at any address,
- * queues of two sizes, packets that are looked at, segments of TCP (RFC 9293, 3.1), and what a host counts. */
+ * queues of two sizes, packets that are looked at, segments of TCP (RFC 9293, 3.1), which socket gets what comes, and what
+ * a host counts. */
 #include "iface.h"
 
 #include <stdio.h>
@@ -446,6 +447,104 @@ static void bounds_windows(void) {
     must("free", iface_free(&host));
 }
 
+/* Writes an IPv4 packet from 192.168.69.2 (RFC 791, 3.1), with a type of service and an identification, whose payload begins
+ * with these octets, and hands it over: a datagram without a checksum, or another protocol. */
+static void arrives(iface *host, struct iface_address to, uint8_t protocol, uint8_t ttl, const uint8_t *payload, size_t len) {
+    uint8_t packet[64] = {0x45, 0x10, 0, (uint8_t)(20 + len), 0, 77, 0, 0, ttl, protocol, 0, 0, 192, 168, 69, 2};
+    uint32_t sum = 0;
+    size_t n;
+    memcpy(packet + 16, to.octets, 4), memcpy(packet + 20, payload, len);
+    for (int i = 0; i < 20; i += 2) sum += (uint32_t)(packet[i] << 8 | packet[i + 1]);
+    sum = (sum & 0xffff) + (sum >> 16), sum = ~(sum + (sum >> 16));
+    packet[10] = (uint8_t)(sum >> 8), packet[11] = (uint8_t)sum;
+    must("receive", iface_receive(host, 2000, packet, 20 + len, reply, sizeof reply, &n));
+}
+
+/* How many packets wait in what a socket received. */
+static uint32_t count_received(iface *host, uint32_t socket) {
+    struct iface_queue in = {0}, out;
+    must("queues", iface_queues(host, socket, &in, &out));
+    return in.packets;
+}
+
+/* A datagram comes to the first socket that accepts it, also one to a broadcast address; and so does a segment. */
+static void chooses_sockets(void) {
+    static const uint8_t datagram[9] = {0, 9, 0, 7, 0, 9, 0, 0, '!'};
+    iface host = IFACE_NONE;
+    struct iface_address own = v4(192, 168, 69, 1), peer = v4(192, 168, 69, 2);
+    struct iface_endpoint at_own = {own, 7}, any = {IFACE_ANY, 7}, end = {peer, 1024}, none = {IFACE_ANY, 0};
+    struct iface_segment syn = {{own, 7}, 1, 0, 100, IFACE_TCP_SYN, 0};
+    uint32_t socket[2], tcp[2], sender;
+    iface other = IFACE_NONE;
+    size_t n, m;
+    make(&host, IFACE_IP, 1), make(&other, IFACE_IP, 2);
+    must("address", iface_add_address(&host, &own, 24)), must("address", iface_add_address(&other, &peer, 24));
+    must("socket", iface_udp_open(&host, &at_own, &rooms, &socket[0]));
+    must("socket", iface_udp_open(&host, &any, &rooms, &socket[1]));
+    arrives(&host, own, 17, 64, datagram, sizeof datagram);
+    arrives(&host, v4(192, 168, 69, 255), 17, 64, datagram, sizeof datagram);
+    arrives(&host, v4(255, 255, 255, 255), 17, 64, datagram, sizeof datagram);
+    wants("all of the first", count_received(&host, socket[0]), 3);
+    wants("none of the second", count_received(&host, socket[1]), 0);
+    must("close", iface_close(&host, socket[0])), must("close", iface_close(&host, socket[1]));
+    must("from each end", iface_tcp_open(&host, &any, &none, &rooms, &tcp[0]));
+    must("from one end", iface_tcp_open(&host, &any, &end, &rooms, &tcp[1]));
+    must("socket", iface_tcp_open(&other, &(struct iface_endpoint){IFACE_ANY, 1024}, &none, &rooms, &sender));
+    must("send", iface_tcp_send(&other, sender, &syn, frame, 0));
+    must("next", iface_next(&other, 2000, frame, sizeof frame, &n));
+    must("receive", iface_receive(&host, 2000, frame, n, reply, sizeof reply, &m));
+    wants("the least number", count_received(&host, tcp[0]), 1), wants("not the other", count_received(&host, tcp[1]), 0);
+    must("port 0", iface_icmp_open_port(&host, 0, &rooms, &sender));
+    must("free", iface_free(&host)), must("free", iface_free(&other));
+}
+
+/* The header of a raw packet is written anew in both directions, but for its time to live; packets for others come, too. */
+static void writes_raw_headers_anew(void) {
+    static const uint8_t header[12] = {0x45, 0, 0, 24, 0, 0, 0x40, 0, 0, 89}, packet[24] = {
+        0x45, 0x10, 0, 24, 0, 77, 0, 0, 0, 89, 0, 0, 192, 168, 69, 1, 192, 168, 69, 2, 'a', 'b', 'c', 'd'};
+    iface host = IFACE_NONE;
+    struct iface_address own = v4(192, 168, 69, 1);
+    uint32_t raw;
+    size_t n;
+    make(&host, IFACE_IP, 1);
+    must("address", iface_add_address(&host, &own, 24));
+    must("socket", iface_raw_open(&host, 4, 89, &rooms, &raw));
+    arrives(&host, v4(192, 168, 69, 77), 89, 0, (const uint8_t *)"abcd", 4);
+    must("one for another host", iface_raw_receive(&host, raw, got, sizeof got, &n));
+    wants("its header", n == 24 && memcmp(got, header, 10) == 0, 1);
+    must("send", iface_raw_send(&host, raw, packet, sizeof packet));
+    must("next", iface_next(&host, 2000, frame, sizeof frame, &n));
+    wants("its header", n == 24 && memcmp(frame, header, 10) == 0, 1);
+    must("free", iface_free(&host));
+}
+
+/* A default route that takes another's place is put last; a router may be of the other family; and frames of a round that
+ * wait keep the hardware address of their time. */
+static void keeps_what_it_has(void) {
+    static const uint8_t hardware[6] = {2, 0, 0, 0, 0, 77};
+    iface host = IFACE_NONE;
+    struct iface_address own = v4(192, 168, 69, 1), first = v4(192, 168, 69, 9), second = v4(192, 168, 69, 8), net = v4(10, 0, 0, 0);
+    struct iface_address six = v6(0xfe, 0x80, 9), is, router, groups[2] = {v4(239, 1, 1, 1), v4(239, 1, 1, 2)};
+    uint8_t len;
+    int64_t until;
+    size_t n;
+    make(&host, IFACE_ETHERNET, 1);
+    must("address", iface_add_address(&host, &own, 24));
+    must("default", iface_set_default_route(&host, &first)), must("route", iface_add_route(&host, &net, 8, &six));
+    must("default", iface_set_default_route(&host, &second));
+    must("route", iface_route_at(&host, 0, &is, &len, &router, &until));
+    wants_address("by the other family", &router, &six);
+    must("route", iface_route_at(&host, 1, &is, &len, &router, &until));
+    wants_address("last", &router, &second);
+    for (int i = 0; i < 2; i++) must("join", iface_join_group(&host, &groups[i]));
+    must("next", iface_next(&host, 2000, frame, sizeof frame, &n));
+    must("set hardware address", iface_set_hardware_address(&host, hardware));
+    must("next", iface_next(&host, 2000, frame, sizeof frame, &n));
+    wants("the second report", n > 0 && frame[33] == 2, 1);
+    wants("from the old address", frame[11], 1);
+    must("free", iface_free(&host));
+}
+
 int main(void) {
     leaves_checksums_to_the_link();
     chooses_sources();
@@ -458,6 +557,9 @@ int main(void) {
     looks_at_packets();
     hands_segments_in_and_out();
     bounds_windows();
+    chooses_sockets();
+    writes_raw_headers_anew();
+    keeps_what_it_has();
     printf("calls: %d checks: %d wrong\n", checks, failures);
     return failures != 0;
 }

@@ -3,7 +3,8 @@
  * the library opens no device, starts no thread and reads no clock.
  *
  * Each call answers by a code: IFACE_OK, or why it was refused. A refused call changes nothing, of the host and of
- * what the pointers point to.
+ * what the pointers point to. Where several reasons hold, the one answered is the first in the comment of the call; those
+ * that a comment has for several calls come after. NO_HOST comes after BAD_ARGUMENT, and before all others.
  *
  * What the library does is proved: for a caller that keeps what follows there is no undefined behaviour, and each
  * call ends. What the caller promises, and nothing checks:
@@ -15,7 +16,7 @@
  *  - malloc, realloc and free are of one allocator, whose blocks are aligned as the C standard says, and no call is
  *    made where these may not be called, as in a signal handler or in the forked child of a process with threads.
  *  - There is room on the stack. On x86-64 iface_new takes at most 12,000 octets of it, iface_next 6,200 and any other
- *    call 5,400; beside that comes what malloc and memcpy take. docs/PERFORMANCE.md has each.
+ *    call 5,400; beside that comes what malloc and memcpy take. docs/PERFORMANCE.md lists them.
  */
 #ifndef IFACE_H
 #define IFACE_H
@@ -45,7 +46,8 @@ enum iface_code {
     IFACE_NO_SOCKET = 11,    /* no socket of this kind is open by this number */
     IFACE_BAD_PORT = 12,     /* a port that is 0 */
     IFACE_TOO_LONG = 13,     /* a packet longer than is ever sent */
-    IFACE_QUEUE_FULL = 14,   /* the socket's queue has no room for the packet: iface_next makes some */
+    IFACE_QUEUE_FULL = 14,   /* the socket's queue has no room for the packet: iface_next makes some, unless the packet is
+                                longer than the whole queue */
     IFACE_EMPTY = 15,        /* no packet came; the socket doesn't wait; no packet was given up */
     IFACE_NO_ROOM = 16,      /* the room for a frame is shorter than IFACE_FRAME_ROOM, that for a packet than the packet */
     IFACE_BAD_TIMEOUT = 17,  /* reassembly_timeout: 0, or longer than a day */
@@ -206,7 +208,7 @@ uint32_t iface_add_address(iface *host, const struct iface_address *address, uin
 uint32_t iface_remove_address(iface *host, const struct iface_address *address, uint8_t prefix_len);
 
 /* Makes a list of at most four its own addresses, with their networks, and forgets all neighbours.
- * TABLE_FULL, BAD_ARGUMENT, NOT_UNICAST. */
+ * TABLE_FULL (before all others), BAD_ARGUMENT, NOT_UNICAST. */
 uint32_t iface_set_addresses(iface *host, const struct iface_cidr *addresses, size_t count);
 
 /* Writes the own address at a place of their list, from 0 on: those that came from routers stand there too. NOT_THERE. */
@@ -217,7 +219,8 @@ uint32_t iface_address_at(iface *host, uint32_t place, struct iface_address *add
 uint32_t iface_link_local(const uint8_t *hardware_address, struct iface_address *address);
 
 /* Joins a group, of at most eight: from now on packets to it are taken, and iface_next tells routers of it (RFC 2236,
- * RFC 3810). BAD_ARGUMENT, BAD_ADDRESS (no group's), TABLE_FULL. */
+ * RFC 3810). On Ethernet the solicited-node groups of own addresses are among the eight, if there was room for them.
+ * BAD_ARGUMENT, BAD_ADDRESS (no group's), TABLE_FULL. */
 uint32_t iface_join_group(iface *host, const struct iface_address *group);
 
 /* Leaves a group, if the host is in it. BAD_ARGUMENT, BAD_ADDRESS. */
@@ -232,8 +235,8 @@ uint32_t iface_has_group(iface *host, const struct iface_address *group, uint8_t
  *
  * A call that writes a value changes nothing of the host. */
 
-/* Sets the host's address on Ethernet, six octets: frames are sent from it from now on, and those to it are taken. Own
- * addresses and groups stay. NOT_THERE (a medium without hardware addresses), NOT_UNICAST. */
+/* Sets the host's address on Ethernet, six octets: frames are sent from it from now on, and those to it are taken. Those
+ * of a round that wait already are still from the one before. Own addresses and groups stay. NOT_THERE (a medium without hardware addresses), NOT_UNICAST. */
 uint32_t iface_set_hardware_address(iface *host, const uint8_t *address);
 
 /* Writes the host's address on Ethernet, six octets. NOT_THERE (a medium without hardware addresses). */
@@ -259,11 +262,12 @@ uint32_t iface_slaac_updated_at(iface *host, int64_t *at);
 
 /* ---- routes ---- */
 
-/* Sets the default route of the gateway's family, in place of the first one that is there: at most four routes.
- * BAD_ARGUMENT, TABLE_FULL. */
+/* Sets the default route of the gateway's family, in place of the first one that is there, and puts it last: at most four
+ * routes. BAD_ARGUMENT, TABLE_FULL. */
 uint32_t iface_set_default_route(iface *host, const struct iface_address *gateway);
 
-/* Adds a route to a network by a router. The longest prefix wins, of equal ones the last. BAD_ARGUMENT, TABLE_FULL. */
+/* Adds a route to a network by a router, last in the list. The longest prefix wins, of equal ones the last. The router may
+ * be of the other family: it is asked for by its own. BAD_ARGUMENT, TABLE_FULL. */
 uint32_t iface_add_route(iface *host, const struct iface_address *network, uint8_t prefix_len,
                          const struct iface_address *router);
 
@@ -298,25 +302,29 @@ uint32_t iface_neighbor_at(iface *host, uint32_t place, struct iface_address *ad
  * full queue is dropped. BAD_ARGUMENT (a version), TABLE_FULL, NO_MEMORY. */
 
 /* UDP (RFC 768) at a port of one address. At a port of any, of both versions, if the version of `local` is 0 as in
- * IFACE_ANY, or its address 0.0.0.0 or ::. Datagrams to groups and broadcast addresses come to each.
+ * IFACE_ANY, or its address 0.0.0.0 or ::. Of the sockets that may get a datagram the one with the least number gets it,
+ * and no other. To groups and broadcast addresses that is the first at the port, also if its own is one address.
  * BAD_PORT, BAD_ADDRESS (a group's, or 255.255.255.255). */
 uint32_t iface_udp_open(iface *host, const struct iface_endpoint *local, const struct iface_rooms *rooms,
                         uint32_t *socket);
 
-/* Whole packets of a version of IP and a protocol. */
+/* Whole packets of a version of IP and a protocol, which come to each such socket: over IPv4 those for other hosts too, in
+ * frames that are taken. The header is written anew, in what comes and in what goes. Options, type of service,
+ * identification and DF are lost, and of IPv6 traffic class and flow label. The time to live stays, also one of 0. */
 uint32_t iface_raw_open(iface *host, uint8_t version, uint8_t protocol, const struct iface_rooms *rooms,
                         uint32_t *socket);
 
 /* Echo messages of either ICMP with an identifier (RFC 792, RFC 4443). */
 uint32_t iface_icmp_open_ident(iface *host, uint16_t ident, const struct iface_rooms *rooms, uint32_t *socket);
 
-/* Port unreachables of either ICMP for datagrams of UDP from this port of the host. */
+/* Port unreachables of either ICMP for datagrams of UDP from this port of the host. Port 0 isn't refused. */
 uint32_t iface_icmp_open_port(iface *host, uint16_t port, const struct iface_rooms *rooms, uint32_t *socket);
 
 /* Segments of TCP (RFC 9293) at a port of one address, or of any, as for UDP; from one end alone, or from each one if the
  * version of `remote` is 0 as in IFACE_ANY. The library hands segments in and out, and keeps no connection: it computes
- * and verifies checksums, and answers by a reset what no socket takes. BAD_PORT (also the remote one), BAD_ADDRESS (also
- * an unspecified remote one). */
+ * and verifies checksums, and answers by a reset what no socket takes. Of the sockets that are for a segment the one with
+ * the least number gets it: open one for one end before one for each. BAD_PORT (also the remote one), BAD_ADDRESS (also an
+ * unspecified remote one). */
 uint32_t iface_tcp_open(iface *host, const struct iface_endpoint *local, const struct iface_endpoint *remote,
                         const struct iface_rooms *rooms, uint32_t *socket);
 
@@ -347,8 +355,8 @@ uint32_t iface_udp_send(iface *host, uint32_t socket, const struct iface_endpoin
 uint32_t iface_icmp_send(iface *host, uint32_t socket, const struct iface_address *remote, const uint8_t *message,
                          size_t message_len);
 
-/* A packet with its header: one that isn't of the socket's version and protocol, or is too long to be sent, is dropped
- * later. */
+/* A packet with its header, which is written anew: one that isn't of the socket's version and protocol, or is too long to
+ * be sent, is dropped later. */
 uint32_t iface_raw_send(iface *host, uint32_t socket, const uint8_t *packet, size_t packet_len);
 
 /* A segment from the socket's port, with its payload: over IPv4 of at most 4096 octets with its headers (40), over IPv6
@@ -427,8 +435,9 @@ uint32_t iface_receive(iface *host, int64_t now, const uint8_t *frame, size_t fr
 uint32_t iface_next(iface *host, int64_t now, uint8_t *out, size_t room, size_t *length);
 
 /* Writes 1 if a socket may have changed by frames that were taken and rounds that were made since this was last asked, else
- * 0. It may have if a frame was taken that isn't empty, or if a round sent or dropped a packet of a socket. What a socket
- * gave up since its neighbour didn't answer is told by iface_given_up. */
+ * 0. It may have if a frame was taken that isn't empty, or if a round sent a packet of a socket, or dropped one as too long.
+ * One that is dropped when its socket is asked for it, without a source or of a kind that the socket doesn't send, isn't
+ * told of. What a socket gave up since its neighbour didn't answer is told by iface_given_up. */
 uint32_t iface_sockets_changed(iface *host, uint8_t *changed);
 
 /* Writes what the host counted. */

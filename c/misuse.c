@@ -89,6 +89,7 @@ static void refuses_without_host(void) {
     struct iface_queue received = {.first = 77}, to_send = {.first = 78};
     struct iface_segment segment = {.remote = e, .seq = 77};
     wants("address", iface_add_address(&host, &a, 8), IFACE_NO_HOST);
+    wants("bad argument first", iface_add_address(&host, &a, 33), IFACE_BAD_ARGUMENT);
     wants("all addresses", iface_set_addresses(&host, &own, 1), IFACE_NO_HOST);
     wants("route", iface_add_route_until(&host, &a, 8, &a, 9), IFACE_NO_HOST);
     wants("route at", iface_route_at(&host, 0, &b, &flag, &b, &at), IFACE_NO_HOST);
@@ -275,6 +276,7 @@ static void refuses_sockets(iface *host) {
     wants("version 5", iface_raw_open(host, 5, 89, &small, &socket), IFACE_BAD_ARGUMENT);
     wants("nothing written", socket, 77);
     wants("unopened socket", iface_udp_send(host, 0, &to, big, 1), IFACE_NO_SOCKET);
+    wants("too long first", iface_udp_send(host, 0, &to, big, 4069), IFACE_TOO_LONG);
     wants("unopened socket", iface_udp_receive(host, 0xffffffff, &from, big, sizeof big, &n), IFACE_NO_SOCKET);
     wants("unopened socket", iface_close(host, 8), IFACE_NO_SOCKET);
     any = (struct iface_endpoint){{0, {0}}, 6969}, wants("socket", iface_udp_open(host, &any, &large, &socket), IFACE_OK);
@@ -325,6 +327,9 @@ static void refuses_sockets(iface *host) {
     wants("the first", received.first == 0 && to_send.first == 1452, 1);
     for (uint32_t i = 2; i < 8; i++) wants("icmp", iface_icmp_open_ident(host, (uint16_t)i, &small, &other), IFACE_OK);
     wants("ninth socket", iface_icmp_open_port(host, 6969, &small, &other), IFACE_TABLE_FULL);
+    any.port = 0, wants("port 0 first", iface_udp_open(host, &any, &large, &other), IFACE_BAD_PORT);
+    any = (struct iface_endpoint){v4(239, 1, 1, 1), 6969};
+    wants("its address first", iface_udp_open(host, &any, &large, &other), IFACE_BAD_ADDRESS);
     wants("close", iface_close(host, 5), IFACE_OK);
     wants("close again", iface_close(host, 5), IFACE_NO_SOCKET);
     wants("open", iface_icmp_open_port(host, 6969, &small, &other), IFACE_OK);
@@ -376,6 +381,8 @@ static void refuses_segments(void) {
     segment.remote.port = 0, wants("to port 0", iface_tcp_send(&host, socket, &segment, big, 0), IFACE_BAD_PORT);
     segment.remote = peer, wants("4057 octets", iface_tcp_send(&host, socket, &segment, big, 4057), IFACE_TOO_LONG);
     wants("257 octets", iface_tcp_send(&host, socket, &segment, big, 257), IFACE_QUEUE_FULL);
+    wants("next", iface_next(&host, 0, out, sizeof out, &n), IFACE_OK);
+    n = 77, wants("still", iface_tcp_send(&host, socket, &segment, big, 257), IFACE_QUEUE_FULL);
     segment.remote.address = v6(0xfe, 0x80, 2);
     wants("1441 octets", iface_tcp_send(&host, socket, &segment, big, 1441), IFACE_TOO_LONG);
     wants("1440 octets", iface_tcp_send(&host, socket, &segment, big, 1440), IFACE_QUEUE_FULL);
@@ -394,6 +401,7 @@ static void refuses_frames(iface *host) {
     wants("moment -1", iface_next(host, -1, out, sizeof out, &n), IFACE_BAD_MOMENT);
     wants("moment 2^62+1", iface_next(host, IFACE_LAST_MOMENT + 1, out, sizeof out, &n), IFACE_BAD_MOMENT);
     wants("moment -1", iface_receive(host, INT64_MIN, big, 60, out, sizeof out, &n), IFACE_BAD_MOMENT);
+    wants("its moment first", iface_next(host, -1, out, 1513, &n), IFACE_BAD_MOMENT);
     wants("moment -1", iface_poll_at(host, -1, &at), IFACE_BAD_MOMENT);
     wants("1513 octets of room", iface_next(host, 0, out, 1513, &n), IFACE_NO_ROOM);
     wants("no room", iface_receive(host, 0, big, 60, out, 0, &n), IFACE_NO_ROOM);

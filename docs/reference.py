@@ -2,10 +2,15 @@
 """The reference of all public items, as pages of HTML made from the sources: what each is, its
 contract, and the definitions of which contracts speak. Crates of tests are left out.
 
-usage: reference.py [FOLDER]     writes the pages into a folder, out/reference if none is named
-       reference.py --check      writes nothing; names each public item without docs, each link
-                                 that leads nowhere, and each construct of a source that wasn't
-                                 understood
+usage: reference.py [FOLDER]           writes the pages into a folder, out/reference if none is named
+       reference.py --check            writes nothing; names each public item without docs, each
+                                       file of definitions that doesn't say what it has, each link
+                                       that leads nowhere, and each construct of a source that
+                                       wasn't understood
+       reference.py --files [WORDS]    prints each file of definitions in which these words stand,
+                                       as 'RFC 4861', with what it has
+       reference.py --behind FILE ..   prints how many files and lines these definitions stand on,
+                                       with all that they import
 """
 import html
 import json
@@ -71,6 +76,7 @@ def make(problems):
     crates = read_crates(problems)
     writer = Writer(crates, problems)
     pages = {f"{crate.name}.html": writer.crate(crate) for crate in crates}
+    pages["files.html"] = writer.files(crates)
     pages["index.html"] = writer.first_page(crates)
     test_links(pages, problems)
     entries = ",\n".join(json.dumps(entry, ensure_ascii=False)
@@ -80,9 +86,37 @@ def make(problems):
         f"definitions; {writer.bare} fields and variants have no docs of their own"
 
 
+def print_files(words):
+    """Prints the files of definitions in which these words stand, with what each has."""
+    problems = []
+    for crate in read_crates(problems):
+        for spec in crate.specs:
+            if words in (TOP / spec.path).read_text(encoding="utf-8"):
+                print(f"{spec.path}: {' '.join(spec.comment)}")
+    return bool(problems)
+
+
+def print_behind(todo):
+    """Prints how many files and lines some definitions stand on."""
+    seen = {}
+    while todo:
+        path = todo.pop()
+        if path in seen or not (TOP / path).exists():
+            continue
+        text = seen[path] = (TOP / path).read_text(encoding="utf-8")
+        for crate, name in re.findall(r"^(?:pub )?use Rattle\.(\w+)\.specs\.([\w.]+)", text, re.M):
+            todo.append(f"crates/{crate}/specs/{name.strip('.').replace('.', '/')}.antt")
+    print(f"{len(seen)} files, {sum(text.count(chr(10)) for text in seen.values())} lines")
+    return not seen
+
+
 def main(arguments):
-    """Writes the pages, or checks the sources."""
+    """Writes the pages, or checks the sources, or prints what is asked of the definitions."""
     check = arguments == ["--check"]
+    if arguments[:1] == ["--files"] and len(arguments) < 3:
+        return print_files("".join(arguments[1:]))
+    if arguments[:1] == ["--behind"]:
+        return print_behind(arguments[1:])
     if len(arguments) > 1 or not check and arguments and arguments[0].startswith("-"):
         sys.exit(__doc__)
     problems = []

@@ -273,6 +273,8 @@ class Writer:
     def file(self, spec):
         """The definitions of a file, each folded below its comment."""
         scope = Scope(self.names, spec=spec)
+        if not spec.comment:
+            self.problems.append(f"{spec.path}: nothing says what it has")
         parts = [f'<h3 id="specs.{spec.name}"><a href="#specs.{spec.name}">{spec.path}</a></h3>',
                  f"<p>{escaped(' '.join(spec.comment))}</p>" if spec.comment else ""]
         for definition in spec.definitions:
@@ -331,6 +333,17 @@ class Writer:
             parts.append('<h2 id="definitions">Definitions</h2>')
         return page(crate.name, "\n".join([*parts, *map(self.file, crate.specs)]))
 
+    def files(self, crates):
+        """The page of all files of definitions, with what each has."""
+        parts = []
+        for crate in crates:
+            rows = "".join(f"<tr><td>{linked(spec, spec.name)}</td>"
+                           f"<td>{escaped(' '.join(spec.comment))}</td></tr>\n" for spec in crate.specs)
+            if rows:
+                parts.append(f'<h2><a href="{crate.name}.html#definitions">{crate.name}</a></h2>\n'
+                             f"<table><tbody>{rows}</tbody></table>")
+        return page("Definitions", "<h1>All files of definitions</h1>\n" + "\n".join(parts))
+
     def first_page(self, crates):
         """The page of all crates by their layers, with the search."""
         rows, above = [], 0
@@ -341,7 +354,8 @@ class Writer:
                         f"</td><td>{self.inline(text, crate.root)}</td></tr>\n")
         return page("Reference of Fumitorygate", f"""<h1>Fumitorygate: the reference</h1>
 <p>All public items of each crate, with their docs and contracts, and the definitions of which
-contracts speak. Begin with <a href="interface.html">interface</a>.</p>
+contracts speak. Begin with <a href="interface.html">interface</a>, or with <a href="files.html">all files of
+definitions</a>.</p>
 <p><label for="search">Search</label> <input id="search" type="search" autocomplete="off"
 placeholder="an item or a definition"></p>
 <ul id="found" class="names"></ul>

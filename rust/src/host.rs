@@ -761,7 +761,8 @@ impl Host {
         Ok(address.octets.into())
     }
 
-    /// Joins a group: from now on packets to it are taken, and routers are told of it.
+    /// Joins a group: from now on packets to it are taken, and routers are told of it. On Ethernet the solicited-node
+    /// groups of own addresses are among the eight.
     ///
     /// # Errors
     /// [`Error::BadAddress`] if it is no group's, [`Error::TableFull`] if there are eight.
@@ -789,8 +790,8 @@ impl Host {
         is != 0
     }
 
-    /// Sets the host's address on Ethernet: frames are sent from it from now on, and those to it are taken. Own
-    /// addresses and groups stay.
+    /// Sets the host's address on Ethernet: frames are sent from it from now on, and those to it are taken. Frames that
+    /// wait already are still from the one before. Own addresses and groups stay.
     ///
     /// # Errors
     /// [`Error::NotThere`] on a medium without hardware addresses, [`Error::NotUnicast`].
@@ -853,7 +854,7 @@ impl Host {
         Instant::from_micros_const(at)
     }
 
-    /// Sets the default route of the gateway's version, in place of the first one that is there.
+    /// Sets the default route of the gateway's version, in place of the first one that is there, and puts it last.
     ///
     /// # Errors
     /// [`Error::TableFull`] if there are four routes, none of which is replaced.
@@ -862,7 +863,8 @@ impl Host {
         call!(self.iface_set_default_route(&to_c(&gateway)))
     }
 
-    /// Adds a route to a network by a router. The longest prefix wins, of equal ones the last.
+    /// Adds a route to a network by a router, which may be of the other version. The longest prefix wins, of equal ones
+    /// the last.
     ///
     /// # Errors
     /// [`Error::TableFull`] if there are four routes.
@@ -940,8 +942,8 @@ impl Host {
     }
 
     /// Opens a UDP socket at a port of one address, and returns the number that names it. It is at a port of any
-    /// address, of both versions, if `local` has none, or 0.0.0.0 or ::. Datagrams to groups and broadcast addresses
-    /// come to each.
+    /// address, of both versions, if `local` has none, or 0.0.0.0 or ::. Of the sockets that may get a datagram the one
+    /// with the least number gets it, and no other: to groups and broadcast addresses the first at the port.
     ///
     /// # Errors
     /// [`Error::BadPort`], [`Error::BadAddress`] if the address is a group's or 255.255.255.255, [`Error::TableFull`]
@@ -953,7 +955,9 @@ impl Host {
         Ok(socket)
     }
 
-    /// Opens a raw socket for whole packets of a version of IP and a protocol, and returns the number that names it.
+    /// Opens a raw socket for whole packets of a version of IP and a protocol, and returns the number that names it. Each
+    /// such socket gets them, over IPv4 those for other hosts too. Their header is written anew: options, type of
+    /// service, identification and DF are lost. The time to live stays.
     ///
     /// # Errors
     /// [`Error::TableFull`], [`Error::NoMemory`].
@@ -981,7 +985,7 @@ impl Host {
     }
 
     /// Opens an ICMP socket for port unreachables that answer datagrams from this port, and returns the number that
-    /// names it.
+    /// names it. Port 0 isn't refused.
     ///
     /// # Errors
     /// [`Error::TableFull`], [`Error::NoMemory`].
@@ -994,7 +998,8 @@ impl Host {
 
     /// Opens a socket for segments of TCP (RFC 9293) at a port of one address, or of any as
     /// [`udp_open`](Host::udp_open)'s, from one end alone, or from each. The library hands segments in and out, and
-    /// keeps no connection: it computes and verifies checksums, and answers by a reset what no socket takes.
+    /// keeps no connection: it computes and verifies checksums, and answers by a reset what no socket takes. Of the
+    /// sockets that are for a segment the one with the least number gets it.
     ///
     /// # Errors
     /// [`Error::BadPort`], for `remote` too; [`Error::BadAddress`] if the own address is a group's or 255.255.255.255,
@@ -1073,8 +1078,8 @@ impl Host {
         call!(self.iface_icmp_send(socket, &to_c(&remote), message.as_ptr(), message.len()))
     }
 
-    /// Queues a packet with its header. One that isn't of the socket's version and protocol, or is too long, is dropped
-    /// later.
+    /// Queues a packet with its header, which is written anew. One that isn't of the socket's version and protocol, or
+    /// is too long, is dropped later.
     ///
     /// # Errors
     /// [`Error::QueueFull`], [`Error::NoSocket`].
@@ -1255,8 +1260,9 @@ impl Host {
     }
 
     /// Whether a socket may have changed by frames that were taken and rounds that were made since this was last asked.
-    /// It may have if a frame was taken that isn't empty, or if a round sent or dropped a packet of a socket. What a
-    /// socket gave up is told by [`given_up`](Host::given_up).
+    /// It may have if a frame was taken that isn't empty, or if a round sent a packet of a socket, or dropped one as too
+    /// long. One that is dropped when its socket is asked for it, without a source or of a kind that the socket doesn't
+    /// send, isn't told of. What a socket gave up is told by [`given_up`](Host::given_up).
     #[inline]
     pub fn sockets_changed(&mut self) -> bool {
         let mut changed = 0;

@@ -35,7 +35,7 @@ pub const IFACE_NO_SOCKET: u32 = 11;
 pub const IFACE_BAD_PORT: u32 = 12;
 /// a packet longer than is ever sent
 pub const IFACE_TOO_LONG: u32 = 13;
-/// the socket's queue has no room for the packet: `iface_next` makes some
+/// the socket's queue has no room for the packet: `iface_next` makes some, unless the packet is longer than the whole queue
 pub const IFACE_QUEUE_FULL: u32 = 14;
 /// no packet came; the socket doesn't wait; no packet was given up
 pub const IFACE_EMPTY: u32 = 15;
@@ -256,19 +256,19 @@ unsafe extern "C" {
     pub fn iface_add_address(host: *mut iface, address: *const iface_address, prefix_len: u8) -> u32;
     /// Takes out the first own address that is this one with this prefix, and forgets all neighbours. BAD_ARGUMENT, NOT_THERE.
     pub fn iface_remove_address(host: *mut iface, address: *const iface_address, prefix_len: u8) -> u32;
-    /// Makes a list of at most four its own addresses, with their networks, and forgets all neighbours. TABLE_FULL, BAD_ARGUMENT, NOT_UNICAST.
+    /// Makes a list of at most four its own addresses, with their networks, and forgets all neighbours. TABLE_FULL (before all others), BAD_ARGUMENT, NOT_UNICAST.
     pub fn iface_set_addresses(host: *mut iface, addresses: *const iface_cidr, count: usize) -> u32;
     /// Writes the own address at a place of their list, from 0 on: those that came from routers stand there too. NOT_THERE.
     pub fn iface_address_at(host: *mut iface, place: u32, address: *mut iface_address, prefix_len: *mut u8) -> u32;
     /// Writes the link-local address that a hardware address makes: fe80::/64 with its modified EUI-64 (RFC 4291, 2.5.1 and appendix A; RFC 2464, 5). It needs no host. NOT_UNICAST (a group's hardware address).
     pub fn iface_link_local(hardware_address: *const u8, address: *mut iface_address) -> u32;
-    /// Joins a group, of at most eight: from now on packets to it are taken, and `iface_next` tells routers of it (RFC 2236, RFC 3810). BAD_ARGUMENT, BAD_ADDRESS (no group's), TABLE_FULL.
+    /// Joins a group, of at most eight: from now on packets to it are taken, and `iface_next` tells routers of it (RFC 2236, RFC 3810). On Ethernet the solicited-node groups of own addresses are among the eight, if there was room for them. BAD_ARGUMENT, BAD_ADDRESS (no group's), TABLE_FULL.
     pub fn iface_join_group(host: *mut iface, group: *const iface_address) -> u32;
     /// Leaves a group, if the host is in it. BAD_ARGUMENT, BAD_ADDRESS.
     pub fn iface_leave_group(host: *mut iface, group: *const iface_address) -> u32;
     /// Writes 1 if the host is in a group, else 0, also where the address is no group's. Beside those that it joined, it is in 224.0.0.1 (RFC 1112), and in ff02::1 and the solicited-node groups of its own addresses (RFC 4291, 2.8). Nothing changes. BAD_ARGUMENT.
     pub fn iface_has_group(host: *mut iface, group: *const iface_address, is: *mut u8) -> u32;
-    /// Sets the host's address on Ethernet, six octets: frames are sent from it from now on, and those to it are taken. Own addresses and groups stay. NOT_THERE (a medium without hardware addresses), NOT_UNICAST.
+    /// Sets the host's address on Ethernet, six octets: frames are sent from it from now on, and those to it are taken. Those of a round that wait already are still from the one before. Own addresses and groups stay. NOT_THERE (a medium without hardware addresses), NOT_UNICAST.
     pub fn iface_set_hardware_address(host: *mut iface, address: *const u8) -> u32;
     /// Writes the host's address on Ethernet, six octets. NOT_THERE (a medium without hardware addresses).
     pub fn iface_hardware_address(host: *mut iface, address: *mut u8) -> u32;
@@ -282,9 +282,9 @@ unsafe extern "C" {
     pub fn iface_any_ip(host: *mut iface, on: *mut u8) -> u32;
     /// Writes the moment at which own addresses and routes were last made those that routers advertise (RFC 4862), and 0 before the first time.
     pub fn iface_slaac_updated_at(host: *mut iface, at: *mut i64) -> u32;
-    /// Sets the default route of the gateway's family, in place of the first one that is there: at most four routes. BAD_ARGUMENT, TABLE_FULL.
+    /// Sets the default route of the gateway's family, in place of the first one that is there, and puts it last: at most four routes. BAD_ARGUMENT, TABLE_FULL.
     pub fn iface_set_default_route(host: *mut iface, gateway: *const iface_address) -> u32;
-    /// Adds a route to a network by a router. The longest prefix wins, of equal ones the last. BAD_ARGUMENT, TABLE_FULL.
+    /// Adds a route to a network by a router, last in the list. The longest prefix wins, of equal ones the last. The router may be of the other family: it is asked for by its own. BAD_ARGUMENT, TABLE_FULL.
     pub fn iface_add_route(host: *mut iface, network: *const iface_address, prefix_len: u8, router: *const iface_address) -> u32;
     /// The same up to an end: the route is used until that moment, which is included, and stays in the table after it. With `IFACE_NEVER` it has none. BAD_ARGUMENT, BAD_MOMENT, TABLE_FULL.
     pub fn iface_add_route_until(host: *mut iface, network: *const iface_address, prefix_len: u8, router: *const iface_address, until: i64) -> u32;
@@ -296,15 +296,15 @@ unsafe extern "C" {
     pub fn iface_source_for(host: *mut iface, remote: *const iface_address, source: *mut iface_address) -> u32;
     /// Writes the neighbour at a place of their list, from 0 on: its address, that on Ethernet, six octets, and the moment from which the latter isn't known any more. At most four stand there, by rising moments, those whose moment has passed too. Without hardware addresses there is none. NOT_THERE.
     pub fn iface_neighbor_at(host: *mut iface, place: u32, address: *mut iface_address, hardware_address: *mut u8, until: *mut i64) -> u32;
-    /// UDP (RFC 768) at a port of one address. At a port of any, of both versions, if the version of local is 0 as in `IFACE_ANY`, or its address 0.0.0.0 or ::. Datagrams to groups and broadcast addresses come to each. BAD_PORT, BAD_ADDRESS (a group's, or 255.255.255.255).
+    /// UDP (RFC 768) at a port of one address. At a port of any, of both versions, if the version of local is 0 as in `IFACE_ANY`, or its address 0.0.0.0 or ::. Of the sockets that may get a datagram the one with the least number gets it, and no other. To groups and broadcast addresses that is the first at the port, also if its own is one address. BAD_PORT, BAD_ADDRESS (a group's, or 255.255.255.255).
     pub fn iface_udp_open(host: *mut iface, local: *const iface_endpoint, rooms: *const iface_rooms, socket: *mut u32) -> u32;
-    /// Whole packets of a version of IP and a protocol.
+    /// Whole packets of a version of IP and a protocol, which come to each such socket: over IPv4 those for other hosts too, in frames that are taken. The header is written anew, in what comes and in what goes. Options, type of service, identification and DF are lost, and of IPv6 traffic class and flow label. The time to live stays, also one of 0.
     pub fn iface_raw_open(host: *mut iface, version: u8, protocol: u8, rooms: *const iface_rooms, socket: *mut u32) -> u32;
     /// Echo messages of either ICMP with an identifier (RFC 792, RFC 4443).
     pub fn iface_icmp_open_ident(host: *mut iface, ident: u16, rooms: *const iface_rooms, socket: *mut u32) -> u32;
-    /// Port unreachables of either ICMP for datagrams of UDP from this port of the host.
+    /// Port unreachables of either ICMP for datagrams of UDP from this port of the host. Port 0 isn't refused.
     pub fn iface_icmp_open_port(host: *mut iface, port: u16, rooms: *const iface_rooms, socket: *mut u32) -> u32;
-    /// Segments of TCP (RFC 9293) at a port of one address, or of any, as for UDP; from one end alone, or from each one if the version of remote is 0 as in `IFACE_ANY`. The library hands segments in and out, and keeps no connection: it computes and verifies checksums, and answers by a reset what no socket takes. BAD_PORT (also the remote one), BAD_ADDRESS (also an unspecified remote one).
+    /// Segments of TCP (RFC 9293) at a port of one address, or of any, as for UDP; from one end alone, or from each one if the version of remote is 0 as in `IFACE_ANY`. The library hands segments in and out, and keeps no connection: it computes and verifies checksums, and answers by a reset what no socket takes. Of the sockets that are for a segment the one with the least number gets it: open one for one end before one for each. BAD_PORT (also the remote one), BAD_ADDRESS (also an unspecified remote one).
     pub fn iface_tcp_open(host: *mut iface, local: *const iface_endpoint, remote: *const iface_endpoint, rooms: *const iface_rooms, socket: *mut u32) -> u32;
     /// Closes a socket of whatever kind: what waits in it is dropped. NO_SOCKET.
     pub fn iface_close(host: *mut iface, socket: u32) -> u32;
@@ -318,7 +318,7 @@ unsafe extern "C" {
     pub fn iface_udp_send(host: *mut iface, socket: u32, remote: *const iface_endpoint, payload: *const u8, payload_len: usize) -> u32;
     /// A message of ICMP: one that isn't an echo message of the address's family is dropped later. BAD_ARGUMENT, BAD_ADDRESS, TOO_LONG.
     pub fn iface_icmp_send(host: *mut iface, socket: u32, remote: *const iface_address, message: *const u8, message_len: usize) -> u32;
-    /// A packet with its header: one that isn't of the socket's version and protocol, or is too long to be sent, is dropped later.
+    /// A packet with its header, which is written anew: one that isn't of the socket's version and protocol, or is too long to be sent, is dropped later.
     pub fn iface_raw_send(host: *mut iface, socket: u32, packet: *const u8, packet_len: usize) -> u32;
     /// A segment from the socket's port, with its payload: over IPv4 of at most 4096 octets with its headers (40), over IPv6 of at most one packet of the link with its headers (60). BAD_ARGUMENT (a control that is none), BAD_PORT, BAD_ADDRESS (unspecified), TOO_LONG.
     pub fn iface_tcp_send(host: *mut iface, socket: u32, segment: *const iface_segment, payload: *const u8, payload_len: usize) -> u32;
@@ -354,7 +354,7 @@ unsafe extern "C" {
     ///
     /// Frames are sent in rounds: in a round what has ended is dropped, routers are told of groups, and each socket that has something to send sends one packet, in the order of their numbers. A packet that goes in pieces is begun when no piece of another one is left, so sockets take turns with such packets. The frames of a round wait in the library until they are asked for, one a call; a call that finds none makes the next round. So no socket is passed over, however seldom frames are asked for. Call it until `*length` is 0, and then ask `iface_poll_at`. NO_MEMORY (before a round, if memory for a frame is refused).
     pub fn iface_next(host: *mut iface, now: i64, out: *mut u8, room: usize, length: *mut usize) -> u32;
-    /// Writes 1 if a socket may have changed by frames that were taken and rounds that were made since this was last asked, else 0. It may have if a frame was taken that isn't empty, or if a round sent or dropped a packet of a socket. What a socket gave up since its neighbour didn't answer is told by `iface_given_up`.
+    /// Writes 1 if a socket may have changed by frames that were taken and rounds that were made since this was last asked, else 0. It may have if a frame was taken that isn't empty, or if a round sent a packet of a socket, or dropped one as too long. One that is dropped when its socket is asked for it, without a source or of a kind that the socket doesn't send, isn't told of. What a socket gave up since its neighbour didn't answer is told by `iface_given_up`.
     pub fn iface_sockets_changed(host: *mut iface, changed: *mut u8) -> u32;
     /// Writes what the host counted.
     pub fn iface_counters(host: *mut iface, counters: *mut iface_counts) -> u32;

@@ -21,6 +21,8 @@ mod icmpv6;
 mod igmp;
 mod ipv4;
 mod ipv6;
+mod mld;
+mod ndisc;
 mod pretty_print;
 mod udp;
 
@@ -36,6 +38,11 @@ pub use icmpv6::{
 pub use igmp::{IgmpMessage, IgmpPacket, IgmpRepr, IgmpVersion};
 pub use ipv4::{IPV4_HEADER_LEN, IPV4_MIN_MTU, Ipv4Packet, Ipv4Repr};
 pub use ipv6::{IPV6_HEADER_LEN, IPV6_MIN_MTU, Ipv6Packet, Ipv6Repr};
+pub use mld::{MldAddressRecord, MldAddressRecordRepr, MldRecordType, MldRepr};
+pub use ndisc::{
+    NdiscNeighborFlags, NdiscOption, NdiscOptionRepr, NdiscOptionType, NdiscPrefixInfoFlags, NdiscPrefixInformation,
+    NdiscRedirectedHeader, NdiscRepr, NdiscRouterFlags, RawHardwareAddress,
+};
 pub use pretty_print::{PrettyPrint, PrettyPrinter};
 pub use udp::{UDP_HEADER_LEN, UdpPacket, UdpRepr};
 

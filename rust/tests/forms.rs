@@ -6,7 +6,9 @@ use fumitorygate::wire::{
     ArpOperation, ArpPacket, ArpRepr, Error, EthernetAddress, EthernetFrame, EthernetProtocol, EthernetRepr,
     Icmpv4DstUnreachable, Icmpv4Packet, Icmpv4Repr, Icmpv4TimeExceeded, Icmpv6Message, Icmpv6Packet,
     Icmpv6ParamProblem, Icmpv6Repr, IgmpPacket, IgmpRepr, IgmpVersion, IpAddress, IpProtocol, Ipv4Address, Ipv4Packet,
-    Ipv4Repr, Ipv6Address, Ipv6Packet, Ipv6Repr, PrettyPrinter, UdpPacket, UdpRepr,
+    Ipv4Repr, Ipv6Address, Ipv6Packet, Ipv6Repr, MldAddressRecord, MldAddressRecordRepr, MldRecordType, MldRepr,
+    NdiscNeighborFlags, NdiscOption, NdiscOptionRepr, NdiscOptionType, NdiscPrefixInfoFlags, NdiscPrefixInformation,
+    NdiscRedirectedHeader, NdiscRepr, NdiscRouterFlags, PrettyPrinter, RawHardwareAddress, UdpPacket, UdpRepr,
 };
 
 const SRC: Ipv4Address = Ipv4Address::new(192, 168, 1, 1);
@@ -338,6 +340,189 @@ fn messages_of_igmp() {
     assert_eq!(IgmpPacket::new_checked(&[0u8; 7][..]).err(), Some(Error));
 }
 
+/// A message of ICMPv6 is read as these values, and they are written as it.
+fn reads_and_writes(octets: &[u8], repr: Icmpv6Repr<'_>) {
+    let packet = Icmpv6Packet::new_checked(octets).unwrap();
+    assert!(packet.verify_checksum(&SRC6, &DST6));
+    assert_eq!(Icmpv6Repr::parse(&SRC6, &DST6, &packet, &caps()), Ok(repr));
+    let mut written = vec![0xa5; octets.len()];
+    repr.emit(&SRC6, &DST6, &mut Icmpv6Packet::new_unchecked(&mut written[..]), &caps());
+    assert_eq!((&written[..], repr.buffer_len()), (octets, octets.len()));
+    // What is cut off is missing, and so is what a code other than 0 says.
+    for len in [0, 7, packet.header_len() - 1] {
+        assert_eq!(Icmpv6Packet::new_checked(&octets[..len]).err(), Some(Error));
+    }
+    let mut other = octets.to_vec();
+    other[1] = 1;
+    let unverified = ChecksumCapabilities::ignored();
+    let read = Icmpv6Packet::new_checked(&other[..]).unwrap();
+    assert_eq!(Icmpv6Repr::parse(&SRC6, &DST6, &read, &unverified), Err(Error));
+    other[2] ^= 1;
+    let read = Icmpv6Packet::new_checked(&other[..]).unwrap();
+    assert_eq!(Icmpv6Repr::parse(&SRC6, &DST6, &read, &caps()), Err(Error));
+}
+
+const LLADDR: EthernetAddress = EthernetAddress([2, 0, 0, 0, 0, 1]);
+const GROUP: Ipv6Address = Ipv6Address::new(0xff02, 0, 0, 0, 0, 0, 0, 0x77);
+
+/// RFC 4861 4.1, 4.2 and 4.6: the fields in their order.
+#[test]
+fn messages_of_routers() {
+    let lladdr = Some(RawHardwareAddress::from(LLADDR));
+    let solicitation = [0x85, 0x00, 0x7a, 0xae, 0x00, 0x00, 0x00, 0x00, 0x01, 0x01, 0x02, 0x00, 0x00, 0x00, 0x00, 0x01];
+    reads_and_writes(&solicitation, Icmpv6Repr::Ndisc(NdiscRepr::RouterSolicit { lladdr }));
+    let advertisement = [
+        0x86, 0x00, 0xb6, 0x45, 0x40, 0x80, 0x03, 0x84, 0x00, 0x00, 0x75, 0x30, 0x00, 0x00, 0x03, 0xe8, 0x01, 0x01,
+        0x02, 0x00, 0x00, 0x00, 0x00, 0x01, 0x05, 0x01, 0x00, 0x00, 0x00, 0x00, 0x05, 0xdc, 0x03, 0x04, 0x40, 0xc0,
+        0x00, 0x01, 0x51, 0x80, 0x00, 0x00, 0x38, 0x40, 0x00, 0x00, 0x00, 0x00, 0x20, 0x01, 0x0d, 0xb8, 0x00, 0x00,
+        0x00, 0x00, 0x00, 0x00, 0x00, 0x00, 0x00, 0x00, 0x00, 0x00,
+    ];
+    let prefix = NdiscPrefixInformation {
+        prefix_len: 64,
+        flags: NdiscPrefixInfoFlags::ON_LINK | NdiscPrefixInfoFlags::ADDRCONF,
+        valid_lifetime: Duration::from_secs(86400),
+        preferred_lifetime: Duration::from_secs(14400),
+        prefix: Ipv6Address::new(0x2001, 0xdb8, 0, 0, 0, 0, 0, 0),
+    };
+    let repr = NdiscRepr::RouterAdvert {
+        hop_limit: 64,
+        flags: NdiscRouterFlags::MANAGED,
+        router_lifetime: Duration::from_secs(900),
+        reachable_time: Duration::from_secs(30),
+        retrans_time: Duration::from_secs(1),
+        lladdr,
+        mtu: Some(1500),
+        prefix_info: Some(prefix),
+    };
+    reads_and_writes(&advertisement, Icmpv6Repr::Ndisc(repr));
+    assert_eq!(Icmpv6Packet::new_unchecked(&advertisement[..]).header_len(), 16);
+}
+
+/// RFC 4861 4.3, 4.4, 4.5.
+#[test]
+fn messages_of_neighbors() {
+    let lladdr = Some(RawHardwareAddress::from(LLADDR));
+    let solicitation = [
+        0x87, 0x00, 0x7a, 0x1b, 0x00, 0x00, 0x00, 0x00, 0xfe, 0x80, 0x00, 0x00, 0x00, 0x00, 0x00, 0x00, 0x00, 0x00,
+        0x00, 0x00, 0x00, 0x00, 0x00, 0x02, 0x01, 0x01, 0x02, 0x00, 0x00, 0x00, 0x00, 0x01,
+    ];
+    reads_and_writes(&solicitation, Icmpv6Repr::Ndisc(NdiscRepr::NeighborSolicit { target_addr: DST6, lladdr }));
+    let advertisement = [
+        0x88, 0x00, 0x18, 0x1b, 0x60, 0x00, 0x00, 0x00, 0xfe, 0x80, 0x00, 0x00, 0x00, 0x00, 0x00, 0x00, 0x00, 0x00,
+        0x00, 0x00, 0x00, 0x00, 0x00, 0x02, 0x02, 0x01, 0x02, 0x00, 0x00, 0x00, 0x00, 0x01,
+    ];
+    let flags = NdiscNeighborFlags::SOLICITED | NdiscNeighborFlags::OVERRIDE;
+    let repr = NdiscRepr::NeighborAdvert { flags, target_addr: DST6, lladdr };
+    reads_and_writes(&advertisement, Icmpv6Repr::Ndisc(repr));
+    assert!(flags.contains(NdiscNeighborFlags::OVERRIDE) && !flags.contains(NdiscNeighborFlags::ROUTER));
+    // A packet of four octets to another network, and what fills the option up to a multiple of eight.
+    let redirect = [
+        0x89, 0x00, 0xe2, 0xb4, 0x00, 0x00, 0x00, 0x00, 0xfe, 0x80, 0x00, 0x00, 0x00, 0x00, 0x00, 0x00, 0x00, 0x00,
+        0x00, 0x00, 0x00, 0x00, 0x00, 0x07, 0x20, 0x01, 0x0d, 0xb8, 0x00, 0x00, 0x00, 0x00, 0x00, 0x00, 0x00, 0x00,
+        0x00, 0x00, 0x00, 0x09, 0x02, 0x01, 0x02, 0x00, 0x00, 0x00, 0x00, 0x01, 0x04, 0x07, 0x00, 0x00, 0x00, 0x00,
+        0x00, 0x00, 0x60, 0x00, 0x00, 0x00, 0x00, 0x04, 0x11, 0x40, 0xfe, 0x80, 0x00, 0x00, 0x00, 0x00, 0x00, 0x00,
+        0x00, 0x00, 0x00, 0x00, 0x00, 0x00, 0x00, 0x02, 0x20, 0x01, 0x0d, 0xb8, 0x00, 0x00, 0x00, 0x00, 0x00, 0x00,
+        0x00, 0x00, 0x00, 0x00, 0x00, 0x09, 0x61, 0x62, 0x63, 0x64, 0x00, 0x00, 0x00, 0x00,
+    ];
+    let dest_addr = Ipv6Address::new(0x2001, 0xdb8, 0, 0, 0, 0, 0, 9);
+    let header =
+        Ipv6Repr { src_addr: DST6, dst_addr: dest_addr, next_header: IpProtocol::Udp, payload_len: 4, hop_limit: 64 };
+    let repr = NdiscRepr::Redirect {
+        target_addr: Ipv6Address::new(0xfe80, 0, 0, 0, 0, 0, 0, 7),
+        dest_addr,
+        lladdr,
+        redirected_hdr: Some(NdiscRedirectedHeader { header, data: b"abcd" }),
+    };
+    reads_and_writes(&redirect, Icmpv6Repr::Ndisc(repr));
+}
+
+/// RFC 4861 4.6: an option has at least eight octets, and one that isn't known is skipped.
+#[test]
+fn options_of_neighbor_discovery() {
+    let read = |octets: &[u8]| NdiscOption::new_checked(octets).and_then(|it| NdiscOptionRepr::parse(&it).map(|_| ()));
+    assert_eq!(read(&[1, 1, 2, 0, 0, 0, 0, 1]), Ok(()));
+    for refused in [
+        &[1, 0, 2, 0, 0, 0, 0, 1][..],
+        &[1, 1, 2, 0, 0, 0, 0],
+        &[1, 2, 2, 0, 0, 0, 0, 1],
+        &[1, 2, 2, 0, 0, 0, 0, 1, 0, 0, 0, 0, 0, 0, 0, 0],
+        &[3, 1, 64, 0, 0, 0, 0, 0],
+        &[4, 1, 0, 0, 0, 0, 0, 0],
+        &[5, 2, 0, 0, 0, 0, 5, 0xdc, 0, 0, 0, 0, 0, 0, 0, 0],
+    ] {
+        assert_eq!(read(refused), Err(Error), "{refused:?}");
+    }
+    let unknown = [24, 1, 1, 2, 3, 4, 5, 6];
+    let option = NdiscOption::new_checked(&unknown[..]).unwrap();
+    let repr = NdiscOptionRepr::Unknown { type_: 24, length: 1, data: &[1, 2, 3, 4, 5, 6] };
+    assert_eq!((NdiscOptionRepr::parse(&option), option.option_type()), (Ok(repr), NdiscOptionType::Unknown(24)));
+    let mut written = [0xa5; 8];
+    repr.emit(&mut NdiscOption::new_unchecked(&mut written[..]));
+    assert_eq!(written, unknown);
+    // Behind an unknown option the address is found; behind a length of 0 nothing is read.
+    let message = |option: [u8; 8]| {
+        let mut octets = vec![135, 0, 0, 0, 0, 0, 0, 0];
+        octets.extend(DST6.octets());
+        octets.extend(option);
+        octets.extend([1, 1, 2, 0, 0, 0, 0, 1]);
+        octets
+    };
+    let none = ChecksumCapabilities::ignored();
+    let octets = message(unknown);
+    let packet = Icmpv6Packet::new_checked(&octets[..]).unwrap();
+    let asks = NdiscRepr::NeighborSolicit { target_addr: DST6, lladdr: Some(LLADDR.into()) };
+    assert_eq!(Icmpv6Repr::parse(&SRC6, &DST6, &packet, &none), Ok(Icmpv6Repr::Ndisc(asks)));
+    let octets = message([24, 0, 1, 2, 3, 4, 5, 6]);
+    let packet = Icmpv6Packet::new_checked(&octets[..]).unwrap();
+    assert_eq!(Icmpv6Repr::parse(&SRC6, &DST6, &packet, &none), Err(Error));
+}
+
+/// RFC 3810 5.1 and 5.2: a query with a source, and a report of two groups.
+#[test]
+fn messages_of_listener_discovery() {
+    let query = [
+        0x82, 0x00, 0x45, 0x61, 0x03, 0xe8, 0x00, 0x00, 0xff, 0x02, 0x00, 0x00, 0x00, 0x00, 0x00, 0x00, 0x00, 0x00,
+        0x00, 0x00, 0x00, 0x00, 0x00, 0x77, 0x0a, 0x12, 0x00, 0x01, 0x20, 0x01, 0x0d, 0xb8, 0x00, 0x00, 0x00, 0x00,
+        0x00, 0x00, 0x00, 0x00, 0x00, 0x00, 0x00, 0x05,
+    ];
+    let source = Ipv6Address::new(0x2001, 0xdb8, 0, 0, 0, 0, 0, 5).octets();
+    let repr = MldRepr::Query {
+        max_resp_code: 1000,
+        mcast_addr: GROUP,
+        s_flag: true,
+        qrv: 2,
+        qqic: 0x12,
+        num_srcs: 1,
+        data: &source,
+    };
+    reads_and_writes(&query, Icmpv6Repr::Mld(repr));
+    // One of version 1 has 24 octets (RFC 2710 3).
+    assert_eq!(Icmpv6Packet::new_checked(&query[..24]).err(), Some(Error));
+    let report = [
+        0x8f, 0x00, 0x6d, 0x99, 0x00, 0x00, 0x00, 0x02, 0x04, 0x00, 0x00, 0x00, 0xff, 0x02, 0x00, 0x00, 0x00, 0x00,
+        0x00, 0x00, 0x00, 0x00, 0x00, 0x00, 0x00, 0x00, 0x00, 0x77, 0x03, 0x00, 0x00, 0x00, 0xff, 0x02, 0x00, 0x00,
+        0x00, 0x00, 0x00, 0x00, 0x00, 0x00, 0x00, 0x00, 0x00, 0x00, 0x00, 0x78,
+    ];
+    reads_and_writes(&report, Icmpv6Repr::Mld(MldRepr::Report { nr_mcast_addr_rcrds: 2, data: &report[8..] }));
+    let left = Ipv6Address::new(0xff02, 0, 0, 0, 0, 0, 0, 0x78);
+    let records = [
+        MldAddressRecordRepr::new(MldRecordType::ChangeToExclude, GROUP),
+        MldAddressRecordRepr::new(MldRecordType::ChangeToInclude, left),
+    ];
+    let repr = Icmpv6Repr::Mld(MldRepr::ReportRecordReprs(&records));
+    let mut written = [0xa5; 48];
+    repr.emit(&SRC6, &DST6, &mut Icmpv6Packet::new_unchecked(&mut written[..]), &caps());
+    assert_eq!((written, repr.buffer_len()), (report, 48));
+    let record = MldAddressRecord::new_checked(&report[8..28]).unwrap();
+    assert_eq!(MldAddressRecordRepr::parse(&record), Ok(records[0]));
+    // A record with a source that isn't there.
+    let mut cut = report;
+    cut[11] = 1;
+    let record = MldAddressRecord::new_checked(&cut[8..28]).unwrap();
+    assert_eq!(MldAddressRecordRepr::parse(&record), Err(Error));
+    assert_eq!(MldAddressRecord::new_checked(&report[8..27]).err(), Some(Error));
+}
+
 /// Octets of any kind are read or refused, and never make `new_checked` and `parse` panic.
 #[test]
 fn any_octets_are_read_or_refused() {
@@ -352,7 +537,9 @@ fn any_octets_are_read_or_refused() {
     for _ in 0..20_000 {
         let mut octets = [0; 72];
         octets.chunks_mut(8).for_each(|chunk| chunk.copy_from_slice(&next().to_le_bytes()));
-        octets[0] = [octets[0], 0x45, 0x60, 3, 11, 1, 128][next() as usize % 7];
+        octets[0] = [octets[0], 0x45, 0x60, 3, 11, 1, 128, 130, 133, 134, 135, 136, 137, 143][next() as usize % 14];
+        // Often an option, or a code, that is none to be refused at once.
+        (octets[1], octets[25]) = if next() % 2 == 0 { (0, 1) } else { (octets[1], octets[25]) };
         let octets = &octets[..next() as usize % 73];
         let _ = EthernetFrame::new_checked(octets).map(|it| it.payload().len());
         let _ = ArpPacket::new_checked(octets).map(|it| (ArpRepr::parse(&it), it.target_protocol_addr().len()));
@@ -362,6 +549,8 @@ fn any_octets_are_read_or_refused() {
         let _ = Icmpv4Packet::new_checked(octets).map(|it| Icmpv4Repr::parse(&it, &none).is_ok());
         let _ = Icmpv6Packet::new_checked(octets).map(|it| Icmpv6Repr::parse(&SRC6, &DST6, &it, &none).is_ok());
         let _ = IgmpPacket::new_checked(octets).map(|it| IgmpRepr::parse(&it));
+        let _ = NdiscOption::new_checked(octets).map(|it| NdiscOptionRepr::parse(&it).is_ok());
+        let _ = MldAddressRecord::new_checked(octets).map(|it| MldAddressRecordRepr::parse(&it).is_ok());
         let _ = PrettyPrinter::<EthernetFrame<&[u8]>>::new("", &octets).to_string();
         let _ = PrettyPrinter::<Ipv4Packet<&[u8]>>::new("", &octets).to_string();
         let _ = PrettyPrinter::<Ipv6Packet<&[u8]>>::new("", &octets).to_string();
@@ -436,6 +625,37 @@ fn the_library_reads_and_writes_the_same() {
     let reason = Icmpv4DstUnreachable::PortUnreachable;
     let told = Icmpv4Repr::DstUnreachable { reason, header, data: &DATAGRAM };
     assert_eq!(Icmpv4Repr::parse(&reply, &caps()), Ok(told));
+
+    // Over IPv6 a neighbour asks, and is told.
+    let asks = Icmpv6Repr::Ndisc(NdiscRepr::NeighborSolicit { target_addr: DST6, lladdr: Some(peer.into()) });
+    let header =
+        Ipv6Repr { src_addr: SRC6, dst_addr: DST6, next_header: IpProtocol::Icmpv6, payload_len: 32, hop_limit: 255 };
+    let mut packet = vec![0; 72];
+    header.emit(&mut Ipv6Packet::new_unchecked(&mut packet[..]));
+    asks.emit(&SRC6, &DST6, &mut Icmpv6Packet::new_unchecked(&mut packet[40..]), &caps());
+    let frame = framed(EthernetProtocol::Ipv6, &packet);
+    let reply = iface.receive_frame(Instant::ZERO, &frame, &mut sockets).unwrap();
+    let reply = Icmpv6Packet::new_checked(&reply[54..]).unwrap();
+    let flags = NdiscNeighborFlags::SOLICITED;
+    let tells = NdiscRepr::NeighborAdvert { flags, target_addr: DST6, lladdr: Some(own.into()) };
+    assert_eq!(Icmpv6Repr::parse(&DST6, &SRC6, &reply, &caps()), Ok(Icmpv6Repr::Ndisc(tells)));
+
+    // What it joins it reports, behind hop-by-hop options of eight octets: its solicited-node group, and another one.
+    iface.join_multicast_group(GROUP).unwrap();
+    let routers = Ipv6Address::new(0xff02, 0, 0, 0, 0, 0, 0, 0x16);
+    let mut reported = Vec::new();
+    while let Some(frame) = iface.next_frame(Instant::ZERO, &mut sockets) {
+        let message = Icmpv6Packet::new_checked(&frame[62..]).unwrap();
+        let Ok(Icmpv6Repr::Mld(MldRepr::Report { nr_mcast_addr_rcrds: 1, data })) =
+            Icmpv6Repr::parse(&DST6, &routers, &message, &caps())
+        else {
+            panic!("no report of one group");
+        };
+        let record = MldAddressRecordRepr::parse(&MldAddressRecord::new_checked(data).unwrap()).unwrap();
+        assert_eq!(record.record_type, MldRecordType::ChangeToExclude);
+        reported.push(record.mcast_addr);
+    }
+    assert_eq!(reported, [Ipv6Address::new(0xff02, 0, 0, 0, 0, 1, 0xff00, 2), GROUP]);
 }
 
 /// A line for each header.

@@ -1,6 +1,6 @@
 //! `hostrun` runs a host from a script: it reads commands from standard input, one a line, and
 //! prints the frames that the host sends and what each command answers (crate `script`,
-//! `docs/HOSTRUN.md`).
+//! `docs/SIMULATE.md`).
 #![tactic(auto)]
 
 use script::run::run;

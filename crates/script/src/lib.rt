@@ -9,7 +9,7 @@
 //! - `ingress`: the host receives one frame;
 //! - `egress`: it sends what it and its sockets have queued.
 //!
-//! `docs/HOSTRUN.md` has the rest.
+//! `docs/SIMULATE.md` has the rest.
 #![tactic(auto)]
 
 pub mod input;

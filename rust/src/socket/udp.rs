@@ -71,7 +71,8 @@ impl<'a> Socket<'a> {
     }
 
     /// Binds it to a port of one address, or of any, which 0.0.0.0 and :: are too. It then sends from that address, and
-    /// it isn't tested that this is an own one. Datagrams to groups and broadcast addresses come to each.
+    /// it isn't tested that this is an own one. A datagram comes to the first socket of the set that accepts it, also one
+    /// to a group or a broadcast address.
     ///
     /// # Errors
     /// [`BindError::Unaddressable`] if the port is 0, or the address a group's or 255.255.255.255;

@@ -1,4 +1,4 @@
-//! What the forms share: numbers with names, views of octets, and the checksum of the Internet.
+//! What the forms share: numbers with names, flags, views of octets, and the checksum of the Internet.
 use super::IpAddress;
 
 macro_rules! enum_with_unknown {
@@ -36,12 +36,62 @@ macro_rules! enum_with_unknown {
     };
 }
 
+macro_rules! flags {
+    (
+        $(#[$docs:meta])*
+        pub struct $flags:ident {
+            $($(#[$name_docs:meta])* $name:ident = $value:literal;)*
+        }
+    ) => {
+        $(#[$docs])*
+        #[derive(Clone, Copy, Debug, Default, PartialEq, Eq, PartialOrd, Ord, Hash)]
+        pub struct $flags(u8);
+
+        impl $flags {
+            $($(#[$name_docs])* pub const $name: $flags = $flags($value);)*
+
+            /// None of them.
+            pub const fn empty() -> $flags {
+                $flags(0)
+            }
+
+            /// Those that are set in an octet; its other bits are left out.
+            pub const fn from_bits_truncate(bits: u8) -> $flags {
+                $flags(bits & (0 $(| $value)*))
+            }
+
+            /// The octet in which they are set.
+            pub const fn bits(&self) -> u8 {
+                self.0
+            }
+
+            /// Whether all of these are set.
+            pub const fn contains(&self, other: $flags) -> bool {
+                self.0 & other.0 == other.0
+            }
+
+            /// Whether none is set.
+            pub const fn is_empty(&self) -> bool {
+                self.0 == 0
+            }
+        }
+
+        impl core::ops::BitOr for $flags {
+            type Output = $flags;
+
+            fn bitor(self, other: $flags) -> $flags {
+                $flags(self.0 | other.0)
+            }
+        }
+    };
+}
+
 macro_rules! view {
     ($(#[$docs:meta])* $name:ident) => {
         $(#[$docs])*
         #[derive(Clone, Debug, PartialEq, Eq)]
         pub struct $name<T: AsRef<[u8]>> {
-            buffer: T,
+            pub(super) buffer: T,
         }
 
         impl<T: AsRef<[u8]>> $name<T> {
@@ -66,17 +116,17 @@ macro_rules! view {
             }
 
             #[allow(dead_code)]
-            fn u8_at(&self, at: usize) -> u8 {
+            pub(super) fn u8_at(&self, at: usize) -> u8 {
                 self.buffer.as_ref()[at]
             }
 
             #[allow(dead_code)]
-            fn u16_at(&self, at: usize) -> u16 {
+            pub(super) fn u16_at(&self, at: usize) -> u16 {
                 u16::from_be_bytes(self.octets_at(at))
             }
 
             #[allow(dead_code)]
-            fn octets_at<const N: usize>(&self, at: usize) -> [u8; N] {
+            pub(super) fn octets_at<const N: usize>(&self, at: usize) -> [u8; N] {
                 let mut octets = [0; N];
                 octets.copy_from_slice(&self.buffer.as_ref()[at..at + N]);
                 octets
@@ -84,7 +134,7 @@ macro_rules! view {
         }
 
         impl<T: AsRef<[u8]> + AsMut<[u8]>> $name<T> {
-            fn put(&mut self, at: usize, octets: &[u8]) {
+            pub(super) fn put(&mut self, at: usize, octets: &[u8]) {
                 self.buffer.as_mut()[at..at + octets.len()].copy_from_slice(octets);
             }
         }

@@ -1,6 +1,8 @@
 //! ICMPv6 (RFC 4443).
 use super::forms::{folded, pseudo_header, sum};
-use super::{Error, IPV6_HEADER_LEN, IpAddress, IpProtocol, Ipv6Address, Ipv6Packet, Ipv6Repr, Result};
+use super::{
+    Error, IPV6_HEADER_LEN, IpAddress, IpProtocol, Ipv6Address, Ipv6Packet, Ipv6Repr, MldRepr, NdiscRepr, Result,
+};
 use crate::checksum::ChecksumCapabilities;
 use core::fmt;
 
@@ -112,12 +114,13 @@ view! {
 }
 
 impl<T: AsRef<[u8]>> Icmpv6Packet<T> {
-    /// Tests that the header is there, as echo messages and errors have it.
+    /// Tests that the header is there, as its type has it.
     ///
     /// # Errors
-    /// [`Error`] if there are fewer than 8 octets.
+    /// [`Error`] if there are fewer than 8 octets, or fewer than [`header_len`](Icmpv6Packet::header_len).
     pub fn check_len(&self) -> Result<()> {
-        if self.buffer.as_ref().len() < HEADER_LEN { Err(Error) } else { Ok(()) }
+        let len = self.buffer.as_ref().len();
+        if len < HEADER_LEN || len < self.header_len() { Err(Error) } else { Ok(()) }
     }
 
     /// The type.
@@ -155,9 +158,16 @@ impl<T: AsRef<[u8]>> Icmpv6Packet<T> {
         u32::from_be_bytes(self.octets_at(4))
     }
 
-    /// The octets of its header.
+    /// The octets of its header: 8, or what a message of neighbour discovery (RFC 4861 4) or of listener discovery (RFC
+    /// 3810 5) has before its options, sources or records.
     pub fn header_len(&self) -> usize {
-        HEADER_LEN
+        match self.msg_type() {
+            Icmpv6Message::RouterAdvert => 16,
+            Icmpv6Message::NeighborSolicit | Icmpv6Message::NeighborAdvert => 24,
+            Icmpv6Message::Redirect => 40,
+            Icmpv6Message::MldQuery => 28,
+            _ => HEADER_LEN,
+        }
     }
 
     /// Whether its checksum is that of the message and its pseudo-header.
@@ -175,7 +185,7 @@ impl<T: AsRef<[u8]>> Icmpv6Packet<T> {
 impl<'a, T: AsRef<[u8]> + ?Sized> Icmpv6Packet<&'a T> {
     /// What is behind its header.
     pub fn payload(&self) -> &'a [u8] {
-        &self.buffer.as_ref()[HEADER_LEN..]
+        &self.buffer.as_ref()[self.header_len()..]
     }
 }
 
@@ -224,7 +234,8 @@ impl<T: AsRef<[u8]> + AsMut<[u8]>> Icmpv6Packet<T> {
 
     /// What is behind its header, to be written.
     pub fn payload_mut(&mut self) -> &mut [u8] {
-        &mut self.buffer.as_mut()[HEADER_LEN..]
+        let header_len = self.header_len();
+        &mut self.buffer.as_mut()[header_len..]
     }
 }
 
@@ -288,6 +299,10 @@ pub enum Icmpv6Repr<'a> {
         /// The request's data.
         data: &'a [u8],
     },
+    /// A message of neighbour discovery.
+    Ndisc(NdiscRepr<'a>),
+    /// A message of listener discovery.
+    Mld(MldRepr<'a>),
 }
 
 /// The packet that an error is about: its header, and of what is behind it as much as the message has.
@@ -311,8 +326,9 @@ impl<'a> Icmpv6Repr<'a> {
     /// Reads a message.
     ///
     /// # Errors
-    /// [`Error`] if it has no header, a wrong checksum that is to be verified, another type than these six, an echo
-    /// message's code isn't 0, or an error doesn't tell the packet's header.
+    /// [`Error`] if it has no header, a wrong checksum that is to be verified, another type than these, a code other than 0
+    /// where it is no error, or if an error doesn't tell the packet's header. And those of [`NdiscRepr::parse`] and
+    /// [`MldRepr::parse`].
     pub fn parse<T: AsRef<[u8]> + ?Sized>(
         src_addr: &Ipv6Address,
         dst_addr: &Ipv6Address,
@@ -325,6 +341,8 @@ impl<'a> Icmpv6Repr<'a> {
         }
         let (ident, seq_no, data) = (packet.echo_ident(), packet.echo_seq_no(), packet.payload());
         match (packet.msg_type(), packet.msg_code()) {
+            (kind, 0) if kind.is_ndisc() => Ok(Icmpv6Repr::Ndisc(NdiscRepr::parse(packet)?)),
+            (kind, 0) if kind.is_mld() => Ok(Icmpv6Repr::Mld(MldRepr::parse(packet)?)),
             (Icmpv6Message::EchoRequest, 0) => Ok(Icmpv6Repr::EchoRequest { ident, seq_no, data }),
             (Icmpv6Message::EchoReply, 0) => Ok(Icmpv6Repr::EchoReply { ident, seq_no, data }),
             (Icmpv6Message::DstUnreachable, code) => {
@@ -355,12 +373,17 @@ impl<'a> Icmpv6Repr<'a> {
             | Icmpv6Repr::PktTooBig { header, data, .. }
             | Icmpv6Repr::TimeExceeded { header, data, .. }
             | Icmpv6Repr::ParamProblem { header, data, .. } => HEADER_LEN + header.buffer_len() + data.len(),
+            Icmpv6Repr::Ndisc(message) => message.buffer_len(),
+            Icmpv6Repr::Mld(message) => message.buffer_len(),
         }
     }
 
-    /// Type, code, and the four octets behind the checksum.
+    /// Type, code, and the four octets behind the checksum, of an echo message or an error.
     fn head(&self) -> (Icmpv6Message, u8, u32) {
         match *self {
+            Icmpv6Repr::Ndisc(message) => (message.kind(), 0, 0),
+            Icmpv6Repr::Mld(MldRepr::Query { .. }) => (Icmpv6Message::MldQuery, 0, 0),
+            Icmpv6Repr::Mld(_) => (Icmpv6Message::MldReport, 0, 0),
             Icmpv6Repr::DstUnreachable { reason, .. } => (Icmpv6Message::DstUnreachable, reason.into(), 0),
             Icmpv6Repr::PktTooBig { mtu, .. } => (Icmpv6Message::PktTooBig, 0, mtu),
             Icmpv6Repr::TimeExceeded { reason, .. } => (Icmpv6Message::TimeExceeded, reason.into(), 0),
@@ -401,6 +424,8 @@ impl<'a> Icmpv6Repr<'a> {
                 header.emit(&mut Ipv6Packet::new_unchecked(head));
                 rest[..data.len()].copy_from_slice(data);
             }
+            Icmpv6Repr::Ndisc(message) => message.emit(packet),
+            Icmpv6Repr::Mld(message) => message.emit(packet),
         }
         if checksum_caps.icmpv6.tx() { packet.fill_checksum(src_addr, dst_addr) } else { packet.set_checksum(0) }
     }
@@ -409,6 +434,8 @@ impl<'a> Icmpv6Repr<'a> {
 impl fmt::Display for Icmpv6Repr<'_> {
     fn fmt(&self, f: &mut fmt::Formatter<'_>) -> fmt::Result {
         match self {
+            Icmpv6Repr::Ndisc(message) => message.fmt(f),
+            Icmpv6Repr::Mld(message) => message.fmt(f),
             Icmpv6Repr::EchoRequest { ident, seq_no, data } => {
                 write!(f, "ICMPv6 echo request id={ident} seq={seq_no} len={}", data.len())
             }

@@ -133,11 +133,7 @@ fn payload_of(
         }
         (IpProtocol::Igmp, ..) => said(f, IgmpPacket::new_checked(payload).and_then(|it| IgmpRepr::parse(&it))),
         (IpProtocol::Icmpv6, super::IpAddress::Ipv6(src), super::IpAddress::Ipv6(dst)) => {
-            match Icmpv6Packet::new_checked(payload) {
-                // Of neighbour and listener discovery there are no values here.
-                Ok(it) if it.msg_type().is_ndisc() || it.msg_type().is_mld() => write!(f, "ICMPv6 {:?}", it.msg_type()),
-                read => said(f, read.and_then(|it| Icmpv6Repr::parse(&src, &dst, &it, &caps))),
-            }
+            said(f, Icmpv6Packet::new_checked(payload).and_then(|it| Icmpv6Repr::parse(&src, &dst, &it, &caps)))
         }
         (other, ..) => write!(f, "{other:?} len={}", payload.len()),
     }

@@ -1,0 +1,132 @@
+#!/usr/bin/env python3
+"""Tests the pages: that each link leads to a file and to a heading there, that tables and lines aren't too long, that the
+lists of CONTRIBUTING.md name the files that such a change touches, and that THEOREM.md has each law, and no other.
+
+usage: pages.py            names what is wrong; its status is 1 if something is
+       pages.py --words    prints how many words each page has
+"""
+import pathlib
+import re
+import sys
+
+TOP = pathlib.Path(__file__).resolve().parent.parent
+PAGES = [TOP / "README.md", *sorted((TOP / "docs").glob("*.md")), TOP / "rust" / "README.md", TOP / "rust" / "API.md",
+         TOP / "c" / "targets" / "README.md"]
+# pages whose lines are as long as their authors like
+OF_ANY_LENGTH = {"API.md"}
+
+# Of each list: its heading, the words of its example, and files that have to be in it for another reason.
+LISTS = {
+    "Adding a message": (r"PktTooBig", []),
+    "Adding a call": (r"SetAnyIp|TookAnyIp|any_ip", [
+        "crates/host_machine/specs/Laws/Restraint/Settings.antt",   # no proof fails without it
+        "crates/iface_c/src/properties.rt",                         # the setter of C
+    ]),
+    "Adding a kind of socket": (
+        r"SocketOf::Icmp|\(Icmp s\)|IcmpOffer|icmp::Socket|IcmpSocket|icmp_open|down_icmp", []),
+}
+# clients, which only use what is there
+CLIENTS = {"interface_client"}
+FILE = re.compile(r"`([\w/]+\.(?:rt|antt|c|h|rs|md))`")
+
+
+def headings(text):
+    """The names of the headings of a page, as links have them."""
+    found = re.findall(r"^#+ (.*)$", re.sub(r"^```.*?^```", "", text, flags=re.M | re.S), re.M)
+    return {re.sub(r"[^\w\- ]", "", heading.lower()).replace(" ", "-") for heading in found}
+
+
+def test_links(page, text, texts):
+    """Names each link that leads nowhere."""
+    for link in re.findall(r"\]\(([^)\s]+)\)", text):
+        path, _, heading = link.partition("#")
+        if re.match(r"https?:", link):
+            continue
+        to = (page.parent / path).resolve() if path else page
+        if not to.exists():
+            yield f"{link} leads nowhere"
+        elif heading and to in texts and heading not in headings(texts[to]):
+            yield f"{link}: no such heading"
+    for name in re.findall(r"`([A-Z]+\.md)`", text):
+        if name not in {other.name for other in texts}:
+            yield f"there is no page {name}"
+
+
+def test_lines(text):
+    """Names each cell of a table with more than 260 characters, without its links, and each line with more than 160."""
+    for number, line in enumerate(text.split("\n"), 1):
+        if not line.startswith("|"):
+            if len(line) > 160:
+                yield f"line {number} has {len(line)} characters"
+            continue
+        for cell in re.split(r"(?<!\\)\|", line.strip("| ")):
+            cell = re.sub(r"\]\([^)]*\)", "]", cell.strip())
+            if len(cell) > 260:
+                yield f"line {number}: a cell of {len(cell)} characters"
+
+
+def files_in(section):
+    """The files that a list names: each line of it begins with a crate, or with a folder at the top."""
+    for folder, entry in re.findall(r"^- `(\w+)`(.*?)(?=^- |^$|\Z)", section, re.M | re.S):
+        top = folder if folder in ("c", "rust") else f"crates/{folder}"
+        yield from (f"{top}/{name}" for name in FILE.findall(entry))
+
+
+def files_with(words):
+    """The files of code, definitions and proofs in which an example stands."""
+    found = [path for folder in ("src", "specs", "proofs") for path in TOP.glob(f"crates/*/{folder}/**/*")
+             if path.suffix in (".rt", ".antt") and path.relative_to(TOP).parts[1] not in CLIENTS]
+    found += [*(TOP / "c").glob("*.[ch]"), *(TOP / "rust" / "src").rglob("*.rs")]
+    return {str(path.relative_to(TOP)) for path in found if re.search(words, path.read_text(encoding="utf-8"))}
+
+
+def test_lists(text):
+    """Names each file of a list that isn't there, and each file that a list lacks."""
+    sections = dict(re.findall(r"^## (.*?)\n(.*?)(?=^## |\Z)", text, re.M | re.S))
+    for heading, (words, needed) in LISTS.items():
+        named = set(files_in(sections.get(heading, "")))
+        for name in sorted(named):
+            if not (TOP / name).exists():
+                yield f"'{heading}': {name} isn't there"
+        for name in sorted((files_with(words) | set(needed)) - named):
+            yield f"'{heading}' lacks {name}"
+
+
+def test_laws(text):
+    """Names each law that THEOREM.md lacks, and each that it has and that stands nowhere."""
+    code = {path: path.read_text(encoding="utf-8") for path in TOP.glob("crates/*/src/*.rt")}
+    specs = {path: path.read_text(encoding="utf-8") for path in TOP.glob("crates/*/specs/**/*.antt")}
+    of_laws = "\n".join(found for path, found in specs.items()
+                        if "Laws" in path.parts or path.parts[-3] == "host_laws" and path.name != "TwoPolls.antt")
+    for crate in ("host_machine", "host_laws"):
+        for path, source in sorted(code.items()):
+            if path.parts[-3] == crate:
+                for name, law in re.findall(r"^pub fn (\w+)\(\)\n    ensures { (\w+) }", source, re.M):
+                    if f"abbrev pub {law} :" in of_laws and f"`{name}`" not in text:
+                        yield f"there is no law {name}"
+    words = set(re.findall(r"\w+", "\n".join([*code.values(), *specs.values()])))
+    tables = re.search(r"^## The laws$(.*?)^## ", text, re.M | re.S).group(1)
+    for cell in re.findall(r"^\|(.*?)\|", tables, re.M):
+        yield from (f"{name} is no law" for name in re.findall(r"`(\w+)`", cell) if name not in words)
+
+
+def main(arguments):
+    """Tests the pages, or counts their words."""
+    texts = {page: page.read_text(encoding="utf-8") for page in PAGES}
+    if arguments == ["--words"]:
+        for page, text in texts.items():
+            print(f"{len(text.split()):6} {page.relative_to(TOP)}")
+        return False
+    problems = []
+    for page, text in texts.items():
+        found = list(test_links(page, text, texts))
+        found += [] if page.name in OF_ANY_LENGTH else test_lines(text)
+        problems += [f"{page.relative_to(TOP)}: {problem}" for problem in found]
+    for name, test in (("CONTRIBUTING.md", test_lists), ("THEOREM.md", test_laws)):
+        problems += [f"docs/{name}: {problem}" for problem in test(texts[TOP / "docs" / name])]
+    print("\n".join(problems + [f"{len(texts)} pages, {len(problems) or 'no'} problems"]))
+    return bool(problems)
+
+
+if __name__ == "__main__":
+    sys.exit(main(sys.argv[1:]))
