@@ -1,4 +1,5 @@
-//! Tests of an interface that aren't scenes: lists of commands, storms of frames, and what errors print.
+//! Tests of an interface that aren't scenes: lists of commands, storms of frames, what errors print, and that scenes can
+//! fail.
 #![tactic(auto)]
 
 #[cfg(test)]
@@ -9,3 +10,5 @@ mod errors;
 mod hostile;
 #[cfg(test)]
 mod requests;
+#[cfg(test)]
+mod scripts;
