@@ -1,8 +1,12 @@
 /* What a stranger on the link may stop, and for how long: hosts in one process, and frames that a stranger writes.
  *
- *  - A datagram from an absent neighbour: a service that answers it answers others again after its patience.
+ *  - A datagram from an absent neighbour: a service that answers it answers others again after a second.
  *  - An absent neighbour of the first socket: the neighbour of the second one is asked for in turn.
+ *  - Datagrams from absent neighbours, one every three seconds and more: a service answers others all the while.
+ *  - Datagrams for neighbours that aren't known yet, behind one another: all arrive.
  *  - Bursts of eight datagrams in three and four pieces, of two sockets at once: all arrive, in order, beside small ones.
+ *  - Datagrams in pieces behind short ones: all arrive.
+ *  - Datagrams in pieces for absent neighbours: each is given up after the patience.
  *  - Pings of 3,000 octets, three at a time, and under half a percent of loss.
  *  - Stray fragments: packets in fragments are put together again after the time that fragments wait.
  */
@@ -85,6 +89,14 @@ static void hear(iface *host, iface *from, const uint8_t *frame, size_t length) 
     drain(host, from);
 }
 
+/* Hands a frame over, and what is sent in response. */
+static void hear_only(iface *host, iface *from, const uint8_t *frame, size_t length) {
+    uint8_t reply[IFACE_FRAME_ROOM], last[IFACE_FRAME_ROOM];
+    size_t n = 0, none = 0;
+    must("receive", iface_receive(host, now, frame, length, reply, sizeof reply, &n));
+    if (n > 0) must("response", iface_receive(from, now, reply, n, last, sizeof last, &none));
+}
+
 /* The earlier of the instants at which two hosts are to be asked again. */
 static int64_t due(iface *a, iface *b) {
     int64_t at_a = IFACE_NEVER, at_b = IFACE_NEVER;
@@ -139,6 +151,14 @@ static void echo(iface *host, uint32_t socket) {
         must("echo", iface_udp_send(host, socket, &from, payload, n));
 }
 
+/* The same, but for those for which there is no room. */
+static void echo_or_drop(iface *host, uint32_t socket) {
+    static uint8_t payload[4096];
+    struct iface_endpoint from;
+    size_t n;
+    while (iface_udp_receive(host, socket, &from, payload, sizeof payload, &n) == IFACE_OK) iface_udp_send(host, socket, &from, payload, n);
+}
+
 /* One datagram from an absent neighbour, and a client that asks once a second: when it is answered again. */
 static void spoofed_datagram(void) {
     iface service = IFACE_NONE, client = IFACE_NONE;
@@ -162,13 +182,81 @@ static void spoofed_datagram(void) {
         }
     }
     printf("a datagram from an absent neighbour: others are answered after %lld ms\n", (long long)(answered - begun) / 1000);
-    wants("others are answered within the patience and a second", answered > 0 && answered - begun <= 4 * SECOND);
+    wants("others are answered after a second", answered > 0 && answered - begun <= SECOND);
     must("given up", iface_given_up(&service, at, &told));
     wants("192.168.69.77 was given up", told.octets[3] == 77);
     wants("it is told once", iface_given_up(&service, at, &told) == IFACE_EMPTY);
     must("count", iface_given_up_count(&service, &count));
     wants("one was given up", count == 1);
     must("free", iface_free(&service)), must("free", iface_free(&client));
+}
+
+/* A datagram from one absent neighbour after the other, one each `every` microseconds, and a client that asks once a second,
+ * as often as told: how many of its questions are answered, and how many of them within a second. */
+static unsigned asked_beside(int64_t every, unsigned questions, unsigned *soon) {
+    iface service = IFACE_NONE, client = IFACE_NONE;
+    make(&service, 1, 1514), make(&client, 2, 1514);
+    uint32_t at = udp_at(&service, ECHO_PORT, 8, 4096), mine = udp_at(&client, 9000, 8, 4096);
+    struct iface_endpoint to = {v4(1), ECHO_PORT}, from;
+    int64_t begun = now += 10 * SECOND, spoofed = begun, asked_at[256] = {0};
+    unsigned answered = 0, asked = 0;
+    uint8_t got[16];
+    size_t n;
+    for (*soon = 0; now < begun + (questions + 10) * (int64_t)SECOND; now += now < spoofed ? 1000 : 0) {
+        if (now >= spoofed && asked < questions) {
+            send_datagram(&service, (uint8_t)(100 + spoofed / every % 100), 1), echo_or_drop(&service, at);
+            spoofed += every;
+        } else if (now >= spoofed) {
+            spoofed = INT64_MAX;
+        }
+        if (asked < questions && now >= begun + asked * (int64_t)SECOND + SECOND / 2) {
+            asked_at[asked] = now;
+            uint8_t number = (uint8_t)asked++;
+            must("send", iface_udp_send(&client, mine, &to, &number, 1));
+        }
+        drain(&client, &service), echo_or_drop(&service, at), drain(&service, &client);
+        while (iface_udp_receive(&client, mine, &from, got, sizeof got, &n) == IFACE_OK) {
+            answered++;
+            *soon += now - asked_at[got[0]] <= SECOND;
+        }
+    }
+    must("free", iface_free(&service)), must("free", iface_free(&client));
+    return answered;
+}
+
+static void spoofed_datagrams(void) {
+    static const int64_t every[] = {3 * SECOND, SECOND, SECOND / 10, SECOND / 1000};
+    for (unsigned i = 0; i < sizeof every / sizeof every[0]; i++) {
+        unsigned soon, answered = asked_beside(every[i], 60, &soon);
+        printf("datagrams from absent neighbours, one each %lld ms: %u of 60 others are answered, %u of them within a second\n",
+               (long long)every[i] / 1000, answered, soon);
+        wants("others are answered", answered >= 59 && soon >= 50);
+    }
+}
+
+/* Datagrams of one socket for four neighbours that are there, and aren't known: one request goes in a second, all arrive, and
+ * none is given up. */
+static void neighbors_in_turn(void) {
+    iface host = IFACE_NONE, peer = IFACE_NONE;
+    make(&host, 1, 1514), make(&peer, 2, 1514);
+    uint32_t socket = udp_at(&host, 1001, 8, 4096), at = udp_at(&peer, 9, 16, 4096);
+    struct iface_endpoint from;
+    int64_t begun = now += 10 * SECOND, last = 0;
+    uint64_t given_up;
+    unsigned arrived = 0;
+    uint8_t got[16];
+    size_t n;
+    for (uint8_t i = 3; i < 6; i++) must("address", iface_add_address(&peer, &(struct iface_address){4, {192, 168, 69, i}}, 24));
+    for (uint8_t i = 2; i < 6; i++) must("send", iface_udp_send(&host, socket, &(struct iface_endpoint){v4(i), 9}, &i, 1));
+    for (int i = 0; i < 100; i++, now += SECOND / 10) {
+        drain(&host, &peer), drain(&peer, &host), drain(&host, &peer);
+        for (; iface_udp_receive(&peer, at, &from, got, sizeof got, &n) == IFACE_OK; last = now) arrived++;
+    }
+    must("count", iface_given_up_count(&host, &given_up));
+    printf("one socket's datagrams for four neighbours that are there: %u of 4 arrive, the last one after %lld ms\n", arrived,
+           (long long)(last - begun) / 1000);
+    wants("all arrive, and none is given up", arrived == 4 && given_up == 0);
+    must("free", iface_free(&host)), must("free", iface_free(&peer));
 }
 
 /* The first socket sends to an absent neighbour again and again, the second to one that is there. Time goes from one
@@ -227,6 +315,78 @@ static void bursts(uint32_t frame_len, size_t length) {
            arrived[2], frames);
     wants("all arrive", arrived[0] == 8 && arrived[1] == 8 && arrived[2] == 8);
     must("free", iface_free(&host)), must("free", iface_free(&peer));
+}
+
+/* Sockets that each queue datagrams of these lengths, the last one 0: how many arrive as they were. */
+static unsigned arrive(unsigned sockets, const size_t *lengths) {
+    static uint8_t payload[4068], got[4096];
+    iface host = IFACE_NONE, peer = IFACE_NONE;
+    make(&host, 1, 1514), make(&peer, 2, 1514);
+    uint32_t at = udp_at(&peer, 2000, 16, 65536);
+    struct iface_endpoint to = {v4(2), 2000}, from;
+    unsigned arrived = 0;
+    size_t n;
+    now += 10 * SECOND;
+    for (uint16_t i = 0; i < sockets; i++) {
+        uint32_t socket = udp_at(&host, (uint16_t)(1000 + i), 8, 40000);
+        for (unsigned k = 0; lengths[k] > 0; k++) {
+            memset(payload, (int)(16 * i + k), sizeof payload);
+            must("send", iface_udp_send(&host, socket, &to, payload, lengths[k]));
+        }
+    }
+    for (int turn = 0; turn < 20; turn++, now += SECOND / 5) drain(&host, &peer), drain(&peer, &host);
+    while (iface_udp_receive(&peer, at, &from, got, sizeof got, &n) == IFACE_OK) {
+        unsigned i = from.port - 1000u, k = got[0] % 16u;
+        memset(payload, (int)(16 * i + k), sizeof payload);
+        arrived += n == lengths[k] && memcmp(got, payload, n) == 0;
+    }
+    must("free", iface_free(&host)), must("free", iface_free(&peer));
+    return arrived;
+}
+
+/* Long datagrams behind short ones, and behind long ones. */
+static void long_behind_short(void) {
+    unsigned one = arrive(1, (const size_t[]){1, 4000, 4000, 0}), two = arrive(2, (const size_t[]){1, 3000, 0}),
+             three = arrive(3, (const size_t[]){1, 1, 4000, 1, 3000, 0});
+    printf("1, 4,000 and 4,000 octets of one socket: %u of 3 arrive; 1 and 3,000 of two: %u of 4; of three: %u of 15\n", one, two, three);
+    wants("all arrive", one == 3 && two == 4 && three == 15);
+}
+
+/* Long datagrams of so many sockets for absent neighbours, beside `others` that send long ones to a neighbour that is there
+ * all the time: after how many milliseconds the last one is given up. Time goes on by a tenth of a second. */
+static int64_t given_up_beside(unsigned absent, unsigned others) {
+    static uint8_t payload[3000], got[4096];
+    iface host = IFACE_NONE, peer = IFACE_NONE;
+    make(&host, 1, 1514), make(&peer, 2, 1514);
+    uint32_t sockets[8], at = udp_at(&peer, 2000, 16, 65536);
+    struct iface_endpoint there = {v4(2), 2000}, from;
+    int64_t begun = now += 10 * SECOND;
+    uint64_t count = 0;
+    size_t n;
+    for (uint16_t i = 0; i < absent + others; i++) {
+        struct iface_endpoint nobody = {v4((uint8_t)(77 + i)), 9};
+        sockets[i] = udp_at(&host, (uint16_t)(1000 + i), 8, 40000);
+        if (i < absent) must("send", iface_udp_send(&host, sockets[i], &nobody, payload, sizeof payload));
+    }
+    for (; count < absent && now < begun + 60 * SECOND; now += SECOND / 10) {
+        for (unsigned i = absent; i < absent + others; i++) (void)iface_udp_send(&host, sockets[i], &there, payload, sizeof payload);
+        uint8_t frame[IFACE_FRAME_ROOM];
+        for (int k = 0; k < 2; k++) {
+            must("next", iface_next(&host, now, frame, sizeof frame, &n));
+            if (n > 0) hear_only(&peer, &host, frame, n);
+        }
+        while (iface_udp_receive(&peer, at, &from, got, sizeof got, &n) == IFACE_OK) {}
+        must("count", iface_given_up_count(&host, &count));
+    }
+    must("free", iface_free(&host)), must("free", iface_free(&peer));
+    return (now - SECOND / 10 - begun) / 1000;
+}
+
+static void long_for_absent(void) {
+    int64_t one = given_up_beside(1, 0), three = given_up_beside(3, 0), beside = given_up_beside(1, 1), busy = given_up_beside(2, 3);
+    printf("long datagrams for absent neighbours: given up after %lld ms, of three sockets %lld, beside long ones %lld, of many %lld\n",
+           (long long)one, (long long)three, (long long)beside, (long long)busy);
+    wants("each within the patience and a second", one <= 4000 && three <= 4000 && beside <= 4000 && busy <= 5000);
 }
 
 /* Pings of 3,000 octets, so many at a time, once a second: how many of them are answered. */
@@ -290,8 +450,12 @@ static void stray_fragments(void) {
 
 int main(void) {
     spoofed_datagram();
+    spoofed_datagrams();
     absent_neighbor_first();
+    neighbors_in_turn();
     bursts(1514, 3000), bursts(1514, 4000), bursts(1114, 4000);
+    long_behind_short();
+    long_for_absent();
     long_pings();
     stray_fragments();
     return failures != 0;

@@ -403,7 +403,9 @@ uint32_t iface_tcp_peek(iface *host, uint32_t socket, struct iface_segment *segm
  *
  * The first packet of a socket waits until the hardware address of its next hop is known, and those after it with it.
  * One request goes in a second, for all sockets, in turn. After config.patience the packet is given up, and so are
- * those after it to the same address. */
+ * those after it to the same address. Where others wait behind it, it is given up once the first request for its
+ * neighbour wasn't answered for a second; at once, if its queue is full too and the socket gave up a packet within the
+ * last ten seconds. */
 
 /* Writes for whom the first packet of a socket waits, and since when, as of the last round. NO_SOCKET, EMPTY. */
 uint32_t iface_waiting(iface *host, uint32_t socket, struct iface_address *remote, int64_t *since);

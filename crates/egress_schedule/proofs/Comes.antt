@@ -1,10 +1,10 @@
 -- The turn comes to each.
-use Rattle.std.specs.Prelude.{ℕ, ◌≡◌, ◌<◌, ◌≤◌, ◌+◌, ◌-◌, ◌⊎◌, refl}
+use Rattle.std.specs.Prelude.{ℕ, ◌≡◌, ◌<◌, ◌≤◌, ◌+◌, ◌-◌, ◌⊎◌, length, refl}
 use Rattle.std.proofs.Common.{inl, inr, sym, ap, ◌∙◌, subst, arith}
 use Rattle.std.proofs.lemmas.Bool.{cases_eq, cases_lt, le-ltb, lt-ltb}
-use Rattle.egress_schedule.specs.Laws.{TurnsCome, TurnsStay, ahead}
+use Rattle.egress_schedule.specs.Laws.{AskersHaveTurns, TurnsCome, TurnsStay, ahead}
 use Rattle.egress_schedule.specs.Plan.{first_from}
-use Rattle.egress_schedule.specs.Turns.{next_in_turn, turn_after}
+use Rattle.egress_schedule.specs.Turns.{asks_at, next_in_turn, turn_after}
 use Rattle.egress_schedule.proofs.First.{above, below}
 
 turn_is : (n turn had : ℕ) → had < n → turn_after n turn had ≡ had + 1
@@ -80,3 +80,6 @@ turns_stay n turn had within = (stays n turn had, by (cases_lt had n)) where
   by : ((had < n) ⊎ (n ≤ had)) → turn_after n turn had ≤ n
   by (inl less) = rw (turn_is n turn had less) (omega (arith, less))
   by (inr past) = rw (stays n turn had past) within
+
+pub askers_have_turns : AskersHaveTurns
+askers_have_turns now r i within turn_within asks = turns_come (asks_at now r) (length r.plan.watches) r.plan.discovery_turn i within turn_within asks

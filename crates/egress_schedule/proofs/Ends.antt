@@ -1,5 +1,5 @@
 -- Patience ends.
-use Rattle.std.specs.Prelude.{ℕ, zero, suc, ◌≡◌, ◌≢◌, ◌<◌, ◌≤◌, ◌⊎◌, Bool, true, false, is_some, ℤ, pos}
+use Rattle.std.specs.Prelude.{ℕ, zero, suc, ◌≡◌, ◌≢◌, ◌<◌, ◌≤◌, ◌⊎◌, ◌&&◌, ◌||◌, Bool, true, false, is_some, ℤ, pos}
 use Rattle.std.specs.Prelude.{List, [], ◌∷◌, length, get_or, slice_get, slice_set, Option, Some, None, IfSome, refl, if◌then◌else◌}
 use Rattle.std.specs.Option.{option_and_then}
 use Rattle.std.proofs.Common.{inl, inr, sym, ap, ◌∙◌, subst, arith}
@@ -15,37 +15,39 @@ use Rattle.egress_schedule.specs.declared.watch.Watch.{Watch}
 use Rattle.egress_schedule.specs.Plan.{Planned, each_of, idle, waiting_at, watch_at}
 use Rattle.egress_schedule.specs.Patience.{after_alignment, after_alignment_at, after_alignment_to, after_giving_up, after_look, after_look_at}
 use Rattle.egress_schedule.specs.Patience.{after_patience, after_patience_at, earliest_end, earliest_with, if_given_up, if_waiting}
-use Rattle.egress_schedule.specs.Patience.{is_at_end, is_given_up, unreachable_after, waiting_after, watch_after_giving_up, without_first}
+use Rattle.egress_schedule.specs.Patience.{is_at_end, is_given_up, is_recent, is_second_over, must_go}
+use Rattle.egress_schedule.specs.Patience.{unreachable_after, waiting_after, watch_after_giving_up, without_first}
+use Rattle.egress_schedule.specs.Queues.{has_others, is_crowded}
 use Rattle.egress_schedule.specs.LongPackets.{after_putting_all_back, after_putting_back_at, if_set_aside}
-use Rattle.egress_schedule.specs.Rounds.{after_round, with_long_put_back}
+use Rattle.egress_schedule.specs.Rounds.{after_round, with_long_put_back, with_waits_ended}
 use Rattle.egress_schedule.specs.Laws.{PatienceEnds, WaitsEndTogether}
 
 -- lists with another element at an index
-len_set : {A : Type 0} (xs : List A) (i : ℕ) (x : A) → length (slice_set xs i x) ≡ length xs
+pub len_set : {A : Type 0} (xs : List A) (i : ℕ) (x : A) → length (slice_set xs i x) ≡ length xs
 len_set [] i x = refl
 len_set (y ∷ ys) zero x = refl
 len_set (y ∷ ys) (suc i) x = ap suc (len_set ys i x)
 
-here_set : {A : Type 0} (xs : List A) (i : ℕ) (x d : A) → i < length xs → get_or (slice_set xs i x) i d ≡ x
+pub here_set : {A : Type 0} (xs : List A) (i : ℕ) (x d : A) → i < length xs → get_or (slice_set xs i x) i d ≡ x
 here_set [] i x d within = absurd (omega (arith, within))
 here_set (y ∷ ys) zero x d within = refl
 here_set (y ∷ ys) (suc i) x d within = here_set ys i x d (omega (arith, within))
 
-other_set : {A : Type 0} (xs : List A) (j i : ℕ) (x d : A) → i ≢ j → get_or (slice_set xs j x) i d ≡ get_or xs i d
+pub other_set : {A : Type 0} (xs : List A) (j i : ℕ) (x d : A) → i ≢ j → get_or (slice_set xs j x) i d ≡ get_or xs i d
 other_set [] j i x d other = refl
 other_set (y ∷ ys) zero zero x d other = absurd (other refl)
 other_set (y ∷ ys) zero (suc i) x d other = refl
 other_set (y ∷ ys) (suc j) zero x d other = refl
 other_set (y ∷ ys) (suc j) (suc i) x d other = other_set ys j i x d (λ same. other (ap suc same))
 
-other_get : {A : Type 0} (xs : List A) (j i : ℕ) (x : A) → i ≢ j → slice_get (slice_set xs j x) i ≡ slice_get xs i
+pub other_get : {A : Type 0} (xs : List A) (j i : ℕ) (x : A) → i ≢ j → slice_get (slice_set xs j x) i ≡ slice_get xs i
 other_get [] j i x other = refl
 other_get (y ∷ ys) zero zero x other = absurd (other refl)
 other_get (y ∷ ys) zero (suc i) x other = refl
 other_get (y ∷ ys) (suc j) zero x other = refl
 other_get (y ∷ ys) (suc j) (suc i) x other = other_get ys j i x (λ same. other (ap suc same))
 
-past_get : {A : Type 0} (xs : List A) (i : ℕ) (d : A) → length xs ≤ i → get_or xs i d ≡ d
+pub past_get : {A : Type 0} (xs : List A) (i : ℕ) (d : A) → length xs ≤ i → get_or xs i d ≡ d
 past_get [] i d past = refl
 past_get (y ∷ ys) zero d past = absurd (omega (arith, past))
 past_get (y ∷ ys) (suc i) d past = past_get ys i d (omega (arith, past))
@@ -59,10 +61,11 @@ none_is None is = refl
 none_is (Some w) is = absurd cc
 
 -- what is kept has not waited so long
-fresh : (patience : ℕ) (now : ℤ) (unreachable : Option IpAddress) (w : Waiting) → is_given_up patience now unreachable w ≡ false →
-    is_at_end patience now w ≡ false
-fresh patience now None w kept = kept
-fresh patience now (Some unreachable) w kept = (or_parts (is_at_end patience now w) (is_same unreachable w.neighbor) kept).0
+fresh : (patience : ℕ) (now : ℤ) (must : Bool) (unreachable : Option IpAddress) (w : Waiting) →
+    is_given_up patience now must unreachable w ≡ false → is_at_end patience now must w ≡ false
+fresh patience now must None w kept = kept
+fresh patience now must (Some unreachable) w kept =
+    (or_parts (is_at_end patience now must w) (is_same unreachable w.neighbor) kept).0
 
 never_some : (o : Option Waiting) (end : Option ℤ) → earliest_with o end ≡ None → (o ≡ None) × (end ≡ None)
 never_some None end is = (refl, is)
@@ -76,20 +79,25 @@ together (Some w) None end one two = tt
 together (Some w) (Some x) end one two = one ∙ sym two
 
 -- a wait that hasn't lasted that long
-abbrev IsFresh : ℤ → ℕ → Waiting → Type 0
-IsFresh now patience w = is_at_end patience now w ≡ false
+abbrev IsFresh : ℤ → ℕ → (Waiting → Bool) → Waiting → Type 0
+IsFresh now patience must w = is_at_end patience now (must w) w ≡ false
+
+-- a packet has to go by its socket and what is written down of that
+abbrev must_by : {L : Type 0} → ℤ → Option (SocketOf L) → Watch → Waiting → Bool
+must_by now socket watch x =
+    has_others socket && (is_second_over now x.asked || is_crowded socket && is_recent now watch.dropped)
 
 module _ {L : Type 0} where
   -- what a wait for another socket's index leaves
-  other_socket : (s : Sockets L) (j i : ℕ) (place : Option (SocketOf L)) → i ≢ j → socket_at (without_first j s place) i ≡ socket_at s i
+  pub other_socket : (s : Sockets L) (j i : ℕ) (place : Option (SocketOf L)) → i ≢ j → socket_at (without_first j s place) i ≡ socket_at s i
   other_socket s j i None other = refl
   other_socket s j i (Some socket) other = ap (option_and_then (λ p. p)) (other_get s.places j i (Some (socket_after_told true socket)) other)
 
-  same_waits : (s : Sockets L) (j : ℕ) (place : Option (SocketOf L)) → (without_first j s place).waits ≡ s.waits
+  pub same_waits : (s : Sockets L) (j : ℕ) (place : Option (SocketOf L)) → (without_first j s place).waits ≡ s.waits
   same_waits s j None = refl
   same_waits s j (Some socket) = refl
 
-  other_wait : (s : Sockets L) (j i : ℕ) (place : Option (SocketOf L)) (wait : Wait) → i ≢ j →
+  pub other_wait : (s : Sockets L) (j i : ℕ) (place : Option (SocketOf L)) (wait : Wait) → i ≢ j →
       wait_of (with_wait (without_first j s place) j wait) i ≡ wait_of s i
   other_wait s j i place wait other =
       let waits : get_or (slice_set (without_first j s place).waits j wait) i None ≡ get_or s.waits i None =
@@ -97,7 +105,7 @@ module _ {L : Type 0} where
       rw (waits, other_socket s j i place other) refl
 
   -- a property of a plan that each step keeps
-  kept : {A : Type 0} (of : Planned L → A) (step : ℕ → Planned L → Planned L) → ((i : ℕ) (r : Planned L) → of (step i r) ≡ of r) →
+  pub kept : {A : Type 0} (of : Planned L → A) (step : ℕ → Planned L → Planned L) → ((i : ℕ) (r : Planned L) → of (step i r) ≡ of r) →
       (n : ℕ) (r : Planned L) → of (each_of step n r) ≡ of r
   kept of step same zero r = refl
   kept of step same (suc n) r = same n (each_of step n r) ∙ kept of step same n r
@@ -117,8 +125,8 @@ module _ {L : Type 0} where
     giving_keeps_patience i r = by (waiting_at i r) where
       by : (w : Option Waiting) → patience_of (if_given_up i now r w) ≡ patience_of r
       by None = refl
-      by (Some w) = two (is_given_up r.plan.patience now (watch_at i r).unreachable w) where
-        two : (b : Bool) → patience_of (if b then after_giving_up i w.neighbor r else r) ≡ patience_of r
+      by (Some w) = two (is_given_up r.plan.patience now (must_go now i r w) (watch_at i r).unreachable w) where
+        two : (b : Bool) → patience_of (if b then after_giving_up now i w.neighbor r else r) ≡ patience_of r
         two true = refl
         two false = refl
 
@@ -126,43 +134,57 @@ module _ {L : Type 0} where
     giving_keeps_count i r = by (waiting_at i r) where
       by : (w : Option Waiting) → count_of (if_given_up i now r w) ≡ count_of r
       by None = refl
-      by (Some w) = two (is_given_up r.plan.patience now (watch_at i r).unreachable w) where
-        two : (b : Bool) → count_of (if b then after_giving_up i w.neighbor r else r) ≡ count_of r
+      by (Some w) = two (is_given_up r.plan.patience now (must_go now i r w) (watch_at i r).unreachable w) where
+        two : (b : Bool) → count_of (if b then after_giving_up now i w.neighbor r else r) ≡ count_of r
         two true = len_set r.plan.watches i _
         two false = refl
 
     abbrev Holds : ℕ → ℕ → Planned L → Type 0
-    Holds patience i r = IfSome (waiting_at i r) (IsFresh now patience)
+    Holds patience i r = IfSome (waiting_at i r) (IsFresh now patience (must_go now i r))
 
     -- it holds of an index once that had its step
     step_here : (i : ℕ) (r : Planned L) → i < count_of r → Holds (patience_of r) i (after_patience_at now i r)
     step_here i r within = by (waiting_at i r) refl where
       by : (w : Option Waiting) → waiting_at i r ≡ w → Holds (patience_of r) i (if_given_up i now r w)
       by None is = rw is tt
-      by (Some w) is = two (is_given_up r.plan.patience now (watch_at i r).unreachable w) refl where
+      by (Some w) is = two (is_given_up r.plan.patience now (must_go now i r w) (watch_at i r).unreachable w) refl where
         new : Watch
-        new = watch_after_giving_up w.neighbor (watch_at i r)
+        new = watch_after_giving_up now w.neighbor (watch_at i r)
 
-        two : (b : Bool) → is_given_up r.plan.patience now (watch_at i r).unreachable w ≡ b →
-            Holds (patience_of r) i (if b then after_giving_up i w.neighbor r else r)
-        two false stays = rw is (fresh r.plan.patience now (watch_at i r).unreachable w stays)
-        two true given = of_watch i (after_giving_up i w.neighbor r) (IsFresh now (patience_of r))
-            (subst (λ (x : Watch). IfSome x.waiting (IsFresh now (patience_of r))) (sym (here_set r.plan.watches i new idle within)) tt)
+        two : (b : Bool) → is_given_up r.plan.patience now (must_go now i r w) (watch_at i r).unreachable w ≡ b →
+            Holds (patience_of r) i (if b then after_giving_up now i w.neighbor r else r)
+        two false stays = rw is (fresh r.plan.patience now (must_go now i r w) (watch_at i r).unreachable w stays)
+        two true given = of_watch i (after_giving_up now i w.neighbor r)
+            (IsFresh now (patience_of r) (must_go now i (after_giving_up now i w.neighbor r)))
+            (subst (λ (x : Watch). IfSome x.waiting (IsFresh now (patience_of r) (must_go now i (after_giving_up now i w.neighbor r))))
+            (sym (here_set r.plan.watches i new idle within)) tt)
 
     -- and stays so in the steps of others
     step_other : (patience j i : ℕ) (r : Planned L) → i ≢ j → Holds patience i r → Holds patience i (after_patience_at now j r)
     step_other patience j i r other holds = by (waiting_at j r) where
       by : (w : Option Waiting) → Holds patience i (if_given_up j now r w)
       by None = holds
-      by (Some w) = two (is_given_up r.plan.patience now (watch_at j r).unreachable w) where
-        two : (b : Bool) → Holds patience i (if b then after_giving_up j w.neighbor r else r)
+      by (Some w) = two (is_given_up r.plan.patience now (must_go now j r w) (watch_at j r).unreachable w) where
+        two : (b : Bool) → Holds patience i (if b then after_giving_up now j w.neighbor r else r)
         two false = holds
-        two true = subst (λ (x : Option Waiting). IfSome x (IsFresh now patience)) (sym same) holds where
-          new : Watch
-          new = watch_after_giving_up w.neighbor (watch_at j r)
+        two true =
+            subst (λ (s : Option (SocketOf L)). IfSome (waiting_at i given) (IsFresh now patience (must_by now s (watch_at i given)))) (sym others)
+            (subst (λ (x : Watch). IfSome (waiting_at i given) (IsFresh now patience (must_by now (socket_at r.sockets i) x))) (sym noted)
+            (subst (λ (x : Option Waiting). IfSome x (IsFresh now patience (must_go now i r))) (sym same) holds)) where
+              given : Planned L
+              given = after_giving_up now j w.neighbor r
 
-          same : waiting_at i (after_giving_up j w.neighbor r) ≡ waiting_at i r
-          same = rw (other_wait r.sockets j i (socket_at r.sockets j) None other, other_set r.plan.watches j i new idle other) refl
+              new : Watch
+              new = watch_after_giving_up now w.neighbor (watch_at j r)
+
+              others : socket_at given.sockets i ≡ socket_at r.sockets i
+              others = other_socket r.sockets j i (socket_at r.sockets j) other
+
+              noted : watch_at i given ≡ watch_at i r
+              noted = other_set r.plan.watches j i new idle other
+
+              same : waiting_at i given ≡ waiting_at i r
+              same = rw (other_wait r.sockets j i (socket_at r.sockets j) None other, other_set r.plan.watches j i new idle other) refl
 
     step_all : (r : Planned L) (n i : ℕ) → n ≤ count_of r → i < n → Holds (patience_of r) i (each_of (after_patience_at now) n r)
     step_all r zero i all within = absurd (omega (arith, within))
@@ -192,7 +214,7 @@ module _ {L : Type 0} where
 
       by : ((i < count_of r) ⊎ (count_of r ≤ i)) → Holds (patience_of r) i given
       by (inl within) = step_all r (count_of r) i (omega arith) within
-      by (inr past) = of_watch i given (IsFresh now (patience_of r))
+      by (inr past) = of_watch i given (IsFresh now (patience_of r) (must_go now i given))
           (rw (none_past i given (rw (kept count_of (after_patience_at now) giving_keeps_count (count_of r) r) past)) tt)
 
     looking_keeps_count : (i : ℕ) (r : Planned L) → count_of (after_look_at now i r) ≡ count_of r
@@ -207,7 +229,7 @@ module _ {L : Type 0} where
       mid = each_of (after_look_at now) m r
 
       this : Option Waiting
-      this = waiting_after now (wait_of mid.sockets m) (watch_at m mid).waiting
+      this = waiting_after now mid.plan.asked (wait_of mid.sockets m) (watch_at m mid).waiting
 
       new : Watch
       new = record (watch_at m mid) { waiting = this; unreachable = unreachable_after this (watch_at m mid).unreachable }
@@ -308,12 +330,12 @@ module _ {L : Type 0} where
     giving_keeps_end end j i r ends = by (waiting_at j r) where
       by : (w : Option Waiting) → EndsAt end i (if_given_up j now r w)
       by None = ends
-      by (Some w) = two (is_given_up r.plan.patience now (watch_at j r).unreachable w) where
-        two : (b : Bool) → EndsAt end i (if b then after_giving_up j w.neighbor r else r)
+      by (Some w) = two (is_given_up r.plan.patience now (must_go now j r w) (watch_at j r).unreachable w) where
+        two : (b : Bool) → EndsAt end i (if b then after_giving_up now j w.neighbor r else r)
         two false = ends
         two true = three (cases_eq i j) (cases_lt j (count_of r)) where
           new : Watch
-          new = watch_after_giving_up w.neighbor (watch_at j r)
+          new = watch_after_giving_up now w.neighbor (watch_at j r)
 
           three : ((i ≡ j) ⊎ (i ≡ j → ⊥)) → ((j < count_of r) ⊎ (count_of r ≤ j)) →
               IfSome (get_or (slice_set r.plan.watches j new) i idle).waiting (λ x. x.until ≡ end)
@@ -343,6 +365,16 @@ module _ {L : Type 0} where
     abbrev seen : Planned L → Planned L
     seen r = after_look now (with_long_put_back r)
 
+    give_patience : (r : Planned L) → patience_of (with_waits_ended now r) ≡ patience_of r
+    give_patience r = by r.plan.is_waiting where
+      by : (b : Bool) → patience_of (if b then after_patience now (after_alignment r) else r) ≡ patience_of r
+      by false = refl
+      by true = kept patience_of (after_patience_at now) giving_keeps_patience (count_of (after_alignment r)) (after_alignment r)
+          ∙ alignment_keeps_patience r
+
+    pub after_patience_of : (r : Planned L) → patience_of (after_round now r) ≡ patience_of r
+    after_patience_of r = give_patience (seen r) ∙ (look_patience (with_long_put_back r) ∙ put_back_patience r)
+
     ends : (r : Planned L) (i : ℕ) → Holds (patience_of r) i (after_round now r)
     ends r i = by (seen r).plan.is_waiting refl where
       patience : patience_of (after_alignment (seen r)) ≡ patience_of r
@@ -350,7 +382,7 @@ module _ {L : Type 0} where
 
       by : (b : Bool) → (seen r).plan.is_waiting ≡ b → Holds (patience_of r) i (if b then after_patience now (after_alignment (seen r)) else seen r)
       by true is = subst (λ (p : ℕ). Holds p i (after_patience now (after_alignment (seen r)))) patience (gives_up (after_alignment (seen r)) i)
-      by false is = of_watch i (seen r) (IsFresh now (patience_of r)) (rw (looked_over (with_long_put_back r) i is) tt)
+      by false is = of_watch i (seen r) (IsFresh now (patience_of r) (must_go now i (seen r))) (rw (looked_over (with_long_put_back r) i is) tt)
 
     -- two sockets that wait may ask again at one instant
     abbrev Together : ℕ → ℕ → Planned L → Type 0

@@ -1,5 +1,9 @@
 mod First
 mod Comes
 mod Ends
+mod Apart
+mod Expected
+mod GoesOn
+mod Kept
 mod Unchanged
 mod Unnoted

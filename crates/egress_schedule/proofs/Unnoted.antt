@@ -1,6 +1,6 @@
 -- What isn't written down stays so, and where nothing is, idle sockets are passed over.
-use Rattle.std.specs.Prelude.{ℕ, zero, suc, ◌≡◌, ◌≢◌, ◌+◌, ◌<◌, ◌≤◌, ◌||◌, Bool, true, false, ℤ, List, [], ◌∷◌, length, min, replicate}
-use Rattle.std.specs.Prelude.{Option, Some, None, IfSome, get_or, slice_get, slice_set, refl}
+use Rattle.std.specs.Prelude.{ℕ, zero, suc, ◌≡◌, ◌≢◌, ◌+◌, ◌<◌, ◌≤◌, ◌||◌, Bool, true, false, ℤ, List, [], ◌∷◌, length, replicate}
+use Rattle.std.specs.Prelude.{Option, Some, None, IfSome, get_or, slice_set, refl}
 use Rattle.std.specs.Option.{option_and_then}
 use Rattle.std.proofs.Common.{sym, ap, ◌∙◌, arith, subst, add-one}
 use Rattle.std.specs.Prelude.{nat_le, nat_lt}

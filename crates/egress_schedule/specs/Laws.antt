@@ -1,17 +1,86 @@
 -- What a schedule promises, whatever arrives: no packet waits longer than the patience, the turn comes to each socket
 -- that waits, and all that wait do so until one instant.
-use Rattle.std.specs.Prelude.{ℕ, ◌≡◌, ◌≤◌, ◌<◌, ◌+◌, ◌-◌, ◌⊎◌, nat_lt, Bool, true, false, ℤ, IfSome, if◌then◌else◌}
+use Rattle.std.specs.Prelude.{ℕ, ◌≡◌, ◌≢◌, ◌≤◌, ◌<◌, ◌+◌, ◌-◌, ◌⊎◌, nat_lt, Bool, true, false, ℤ, pos, ◌+ℤ◌, List, Some, None, IfSome, if◌then◌else◌}
+use Rattle.std.specs.Prelude.{length, drop, get_or}
 use Rattle.std.specs.Borrow.{Bor}
+use Rattle.std.specs.Ordering.{int_cmp, is_le}
+use Rattle.ip_address.specs.declared.ip.IpAddress.{IpAddress}
+use Rattle.sockets.specs.declared.socket.SocketOf.{SocketOf}
+use Rattle.socket_set.specs.SocketMeta.{Wait, is_permitted}
+use Rattle.socket_set.specs.SocketSet.{Sockets, socket_at, wait_of}
+use Rattle.egress_schedule.specs.LongPackets.{has_long, nobody}
 use Rattle.egress_schedule.specs.Plan.{Planned, waiting_at}
-use Rattle.egress_schedule.specs.Patience.{is_at_end}
-use Rattle.egress_schedule.specs.Rounds.{after_round}
-use Rattle.egress_schedule.specs.Turns.{next_in_turn, turn_after}
+use Rattle.egress_schedule.specs.Queues.{lens_to_send}
+use Rattle.egress_schedule.specs.Patience.{is_at_end, must_go}
+use Rattle.egress_schedule.specs.Rounds.{after_round, before_round}
+use Rattle.egress_schedule.specs.Runs.{IsGivenUp, IsWaiting, MayGiveUp, Round, StillWaits, WaitsThrough, ended}
+use Rattle.egress_schedule.specs.Turns.{after_taking_turns, asks_at, next_in_turn, next_to_ask, turn_after}
 
--- after a round no socket waits for a neighbour that it has waited for as long as the patience
+-- after a round no socket waits that has waited long enough, for the patience or since its packet has to make room
 abbrev pub PatienceEnds : Type 0
 PatienceEnds =
     (now : ℤ) (r : Planned (Bor (Unit {0}))) (i : ℕ) →
-    IfSome (waiting_at i (after_round now r)) (λ w. is_at_end r.plan.patience now w ≡ false)
+    IfSome (waiting_at i (after_round now r))
+    (λ w. is_at_end r.plan.patience now (must_go now i (after_round now r) w) w ≡ false)
+
+-- a socket with this wait may be asked: it doesn't wait, or the neighbour that it waits for is known, or the wait is over
+abbrev pub may_be_asked : (IpAddress → Bool) → ℤ → Wait → Bool
+may_be_asked known now None = true
+may_be_asked known now (Some wait) = is_permitted (Some wait) (known wait.0) now
+
+-- the interface may begin a long packet of the socket at an index in a round: the packet is the first of its queue, and
+-- the socket may be asked
+pub record MayBegin (known : IpAddress → Bool) (now : ℤ) (mtu : ℕ) (is_piece_left : Bool)
+    (r : Planned (Bor (Unit {0}))) (i : ℕ) : Type 0 where
+  pub there : i < length r.plan.watches
+  pub has_wait : i < length r.sockets.waits
+  pub is_long : has_long mtu r.sockets i ≡ true
+  pub is_asked : may_be_asked known now (wait_of (before_round now mtu is_piece_left r).sockets i) ≡ true
+
+-- none of the packets that the first n sockets have to send is long, wherever it stands in its queue
+abbrev pub NoneIsLong : ℕ → ℕ → Sockets (Bor (Unit {0})) → Type 0
+NoneIsLong mtu n s =
+    (i : ℕ) → i < n → IfSome (socket_at s i) (λ socket. (j : ℕ) → get_or (lens_to_send socket) j 0 ≤ mtu)
+
+-- the schedule was told of a long packet, or none is
+abbrev pub IsTold : ℕ → Planned (Bor (Unit {0})) → Type 0
+IsTold mtu r = r.plan.may_have_long ≡ false → NoneIsLong mtu (length r.plan.watches) r.sockets
+
+-- a long packet is begun only where no piece is left, and by one socket in a round; nobody's address is known
+abbrev pub LongPacketsApart : Type 0
+LongPacketsApart =
+    (known : IpAddress → Bool) (now : ℤ) (mtu : ℕ) (is_piece_left : Bool) (r : Planned (Bor (Unit {0}))) (i : ℕ) →
+    known nobody ≡ false → IsTold mtu r → MayBegin known now mtu is_piece_left r i →
+    (is_piece_left ≡ false) × ((j : ℕ) → MayBegin known now mtu is_piece_left r j → j ≡ i)
+
+-- from the queues of the first n sockets packets were taken at their front, and nothing else happened to them
+abbrev pub OnlyTaken : ℕ → Sockets (Bor (Unit {0})) → Sockets (Bor (Unit {0})) → Type 0
+OnlyTaken n s s' =
+    (i : ℕ) → i < n → IfSome (socket_at s' i)
+    (λ left. (had : SocketOf (Bor (Unit {0}))) × (taken : ℕ) × (socket_at s i ≡ Some had)
+    × (lens_to_send left ≡ drop taken (lens_to_send had)))
+
+-- a round keeps that the schedule was told, if packets alone were taken from the queues in it
+abbrev pub LongPacketsExpected : Type 0
+LongPacketsExpected =
+    (now : ℤ) (mtu : ℕ) (is_piece_left : Bool) (r : Planned (Bor (Unit {0}))) (polled : Sockets (Bor (Unit {0}))) →
+    IsTold mtu r → OnlyTaken (length r.plan.watches) r.sockets polled →
+    IsTold mtu (after_round now (record { plan = (before_round now mtu is_piece_left r).plan; sockets = polled }))
+
+-- a packet that goes on waiting in a round does so since the same moment as before, or it is given up in it: after the
+-- patience, and before that only where others wait behind it, or its socket just gave up that neighbour
+abbrev pub WaitsGoOn : Type 0
+WaitsGoOn =
+    (p : Round) (r : Planned (Bor (Unit {0}))) (i : ℕ) (d : IpAddress) (since : ℤ) → d ≢ nobody →
+    i < length p.polled.waits → IsWaiting i d since r → StillWaits i d p r →
+    IsWaiting i d since (ended p r) ⊎ (IsGivenUp i p r × MayGiveUp i d since p r)
+
+-- a packet that has waited for the patience, through as many rounds as there were, is given up in the first round after that
+abbrev pub PatienceIsKept : Type 0
+PatienceIsKept =
+    (i : ℕ) (d : IpAddress) (since : ℤ) (r last : Planned (Bor (Unit {0}))) (rounds : List Round) (p : Round) → d ≢ nobody →
+    r.plan.patience ≢ 0 → IsWaiting i d since r → WaitsThrough i d r rounds last → i < length p.polled.waits →
+    StillWaits i d p last → is_le (int_cmp (since +ℤ pos r.plan.patience) p.now) ≡ true → IsGivenUp i p last
 
 -- how many of n indices stand before one, from the turn on
 abbrev pub ahead : ℕ → ℕ → ℕ → ℕ
@@ -23,6 +92,15 @@ abbrev pub TurnsCome : Type 0
 TurnsCome =
     (p : ℕ → Bool) (n turn i : ℕ) → i < n → turn ≤ n → p i ≡ true →
     (next_in_turn p turn n ≡ i) ⊎ (ahead n (turn_after n turn (next_in_turn p turn n)) i < ahead n turn i)
+
+-- a socket that asks again has its turn in the round, or fewer stand before it from the turn on afterwards
+abbrev pub AskersHaveTurns : Type 0
+AskersHaveTurns =
+    (now : ℤ) (r : Planned (Bor (Unit {0}))) (i : ℕ) → i < length r.plan.watches →
+    r.plan.discovery_turn ≤ length r.plan.watches → asks_at now r i ≡ true →
+    (next_to_ask now r ≡ i)
+    ⊎ (ahead (length r.plan.watches) (after_taking_turns now r).plan.discovery_turn i
+    < ahead (length r.plan.watches) r.plan.discovery_turn i)
 
 -- where none has the property, the turn stays; and it is always one of n indices, or the one after them
 abbrev pub TurnsStay : Type 0

@@ -1,39 +1,45 @@
 -- Packets that have to be cut. The pieces of one replace those that are left of the one before. So one socket at a time
 -- sends such a packet, and none while a piece is left.
-use Rattle.std.specs.Prelude.{ℕ, ◌+◌, ◌==◌, ◌&&◌, not, nat_lt, Bool, false}
-use Rattle.std.specs.Prelude.{List, length, ℤ, Option, Some, None, if◌then◌else◌}
+use Rattle.std.specs.Prelude.{ℕ, ◌==◌, ◌&&◌, ◌||◌, not, nat_lt, Bool, false}
+use Rattle.std.specs.Prelude.{length, ℤ, Option, Some, None, if◌then◌else◌}
 use Rattle.net_base.specs.Time.{silence_from}
 use Rattle.ip_address.specs.declared.ip.IpAddress.{IpAddress}
 use Rattle.ip_address.specs.declared.ip.IpAddress.TheVariants as address
-use Rattle.socket_base.specs.Queue.{first_of}
 use Rattle.sockets.specs.declared.socket.SocketOf.{SocketOf}
-use Rattle.sockets.specs.declared.socket.SocketOf.TheVariants.{Raw, Icmp, Udp, Tcp}
 use Rattle.socket_set.specs.SocketMeta.{Wait}
 use Rattle.socket_set.specs.SocketSet.{Sockets, socket_at, wait_of, with_wait}
 use Rattle.egress_schedule.specs.Plan.{Plan, Planned, each_of, first_from, watch_at, with_watch}
-use Rattle.egress_schedule.specs.Turns.{next_in_turn, turn_after}
+use Rattle.egress_schedule.specs.Queues.{first_len, has_others}
+use Rattle.egress_schedule.specs.Turns.{is_over, next_in_turn, turn_after}
+use Rattle.egress_schedule.specs.declared.watch.Waiting.{Waiting}
 
--- the octets of a queue's first packet behind so many of headers; 0 where there is none
-abbrev pub len_behind : {M : Type 0} → ℕ → Option (M × List ℕ) → ℕ
-len_behind headers None = 0
-len_behind headers (Some p) = headers + length p.1
-
--- the length of the first packet that a socket has to send, over IPv4 (RFC 791 3.1, 768, 9293 3.1): TCP's and UDP's
--- with their headers, a raw one as it stands
-abbrev pub first_len : {L : Type 0} → SocketOf L → ℕ
-first_len (Raw s) = len_behind 0 (first_of s.tx.packets)
-first_len (Icmp s) = len_behind 20 (first_of s.tx.packets)
-first_len (Udp s) = len_behind 28 (first_of s.tx.packets)
-first_len (Tcp s) = len_behind 40 (first_of s.tx.packets)
-
--- it is longer than the link's packets
+-- the first packet is longer than the link's packets
 abbrev pub is_long : {L : Type 0} → ℕ → Option (SocketOf L) → Bool
 is_long mtu None = false
 is_long mtu (Some socket) = nat_lt mtu (first_len socket)
 
+-- it is, or one behind it may be
+abbrev pub may_be_long : {L : Type 0} → ℕ → Option (SocketOf L) → Bool
+may_be_long mtu socket = is_long mtu socket || has_others socket
+
 -- nobody has this address, so who waits for it isn't asked before the end of the wait
 abbrev pub nobody : IpAddress
 nobody = address.Ipv4 (record { bits = 0 })
+
+-- when a socket asks again that isn't asked in a round: if its wait is over, a second later
+abbrev pub until_unasked : ℤ → Waiting → ℤ
+until_unasked now w = if is_over now w then silence_from now else w.until
+
+-- for whom it waits then
+abbrev pub waiting_unasked : ℤ → Option Waiting → Option Waiting
+waiting_unasked now None = None
+waiting_unasked now (Some w) = Some (record w { until = until_unasked now w })
+
+-- the own wait of a socket, if it has one: of one that waits for somebody, until that wait's end
+abbrev pub own_wait : Option Waiting → Wait → Wait
+own_wait None wait = wait
+own_wait (Some w) None = None
+own_wait (Some w) (Some wait) = Some (w.neighbor, w.until)
 
 -- the turn to send a long packet, after the one that had it; it stays while a piece is left
 abbrev pub fragment_turn_after : Bool → ℕ → Plan → ℕ
@@ -44,15 +50,23 @@ module _ {L : Type 0} where
   abbrev pub has_long : ℕ → Sockets L → ℕ → Bool
   has_long mtu s i = is_long mtu (socket_at s i)
 
-  -- a socket with a long packet isn't asked in this round, and its own wait is set aside
-  abbrev pub after_setting_aside_at : ℕ → ℤ → ℕ → ℕ → Planned L → Planned L
-  after_setting_aside_at mtu now next i r =
-      if has_long mtu r.sockets i && not (i == next)
-      then record {
-        plan = with_watch i (record (watch_at i r) { set_aside = Some (wait_of r.sockets i) }) r.plan;
+  abbrev pub may_have_long : ℕ → Sockets L → ℕ → Bool
+  may_have_long mtu s i = may_be_long mtu (socket_at s i)
+
+  -- the own wait of a socket is set aside, so that it isn't asked in this round; it goes on waiting for whom it waits
+  abbrev pub with_wait_aside : ℤ → ℕ → Planned L → Planned L
+  with_wait_aside now i r =
+      let waiting = waiting_unasked now (watch_at i r).waiting in
+      record {
+        plan = with_watch i
+            (record (watch_at i r) { waiting = waiting; set_aside = Some (own_wait waiting (wait_of r.sockets i)) }) r.plan;
         sockets = with_wait r.sockets i (Some (nobody, silence_from now));
       }
-      else r
+
+  -- a socket with a long packet isn't asked in this round
+  abbrev pub after_setting_aside_at : ℕ → ℤ → ℕ → ℕ → Planned L → Planned L
+  after_setting_aside_at mtu now next i r =
+      if has_long mtu r.sockets i && not (i == next) then with_wait_aside now i r else r
 
   -- the socket that may send a long packet: the one whose turn it is, and none while a piece is left
   abbrev pub next_long : ℕ → Bool → Planned L → ℕ
@@ -61,9 +75,10 @@ module _ {L : Type 0} where
       then length r.plan.watches
       else next_in_turn (has_long mtu r.sockets) r.plan.fragment_turn (length r.plan.watches)
 
-  -- some socket has one
-  abbrev pub some_has_long : ℕ → Planned L → Bool
-  some_has_long mtu r = nat_lt (first_from (has_long mtu r.sockets) 0 (length r.plan.watches)) (length r.plan.watches)
+  -- some socket has one, or may have one behind its first packet
+  abbrev pub some_may_have_long : ℕ → Planned L → Bool
+  some_may_have_long mtu r =
+      nat_lt (first_from (may_have_long mtu r.sockets) 0 (length r.plan.watches)) (length r.plan.watches)
 
   -- all others whose first packet is long aren't asked
   abbrev pub after_setting_aside : ℕ → ℤ → Bool → Planned L → Planned L
@@ -74,7 +89,7 @@ module _ {L : Type 0} where
       record rest {
         plan = record rest.plan {
           fragment_turn = fragment_turn_after is_piece_left next r.plan;
-          may_have_long = some_has_long mtu r;
+          may_have_long = some_may_have_long mtu r;
         };
       }
 

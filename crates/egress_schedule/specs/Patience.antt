@@ -13,28 +13,59 @@ use Rattle.socket_set.specs.SocketSet.{Sockets, socket_at, wait_of, with_place, 
 use Rattle.egress_schedule.specs.declared.watch.Waiting.{Waiting}
 use Rattle.egress_schedule.specs.declared.watch.Watch.{Watch}
 use Rattle.egress_schedule.specs.Plan.{Plan, Planned, each_of, idle, waiting_at, watch_at, with_watch}
+use Rattle.egress_schedule.specs.Queues.{has_others, is_crowded}
 
--- since when a neighbour is waited for: since the first wait for it in a row
-abbrev pub since : IpAddress → ℤ → Option Waiting → ℤ
-since neighbor now None = now
-since neighbor now (Some before) = if is_same before.neighbor neighbor then before.since else now
+-- a second after an instant, if there is one, has come: so long a host is silent after a request (RFC 1122 2.3.2.1)
+abbrev pub is_second_over : ℤ → Option ℤ → Bool
+is_second_over now None = false
+is_second_over now (Some t) = is_le (int_cmp (t +ℤ pos 1000000) now)
+
+-- a request may be sent: none was, or the second after the last one is over
+abbrev pub may_ask : ℤ → Option ℤ → Bool
+may_ask now None = true
+may_ask now (Some t) = is_second_over now (Some t)
+
+-- the instant, if something happens at it
+abbrev pub if_asked : Bool → ℤ → Option ℤ → Option ℤ
+if_asked asks now before = if asks then Some now else before
+
+-- a wait that begins: its socket was asked in this round, so its neighbour was asked for, if a request might be sent
+abbrev pub begun : ℤ → Option ℤ → IpAddress × ℤ → Waiting
+begun now last wait = record { neighbor = wait.0; since = now; asked = if_asked (may_ask now last) now None; until = wait.1 }
+
+-- a wait that goes on for the same neighbour, or begins
+abbrev pub begun_or_before : ℤ → Option ℤ → IpAddress × ℤ → Option Waiting → Waiting
+begun_or_before now last wait None = begun now last wait
+begun_or_before now last wait (Some before) =
+    if is_same before.neighbor wait.0 then record before { neighbor = wait.0; until = wait.1 } else begun now last wait
 
 -- for whom a socket waits after a round: for the neighbour of a wait that isn't over
-abbrev pub waiting_after : ℤ → Wait → Option Waiting → Option Waiting
-waiting_after now None before = None
-waiting_after now (Some wait) before =
-    if is_gt (int_cmp wait.1 now)
-    then Some (record { neighbor = wait.0; since = since wait.0 now before; until = wait.1 })
-    else None
+abbrev pub waiting_after : ℤ → Option ℤ → Wait → Option Waiting → Option Waiting
+waiting_after now last None before = None
+waiting_after now last (Some wait) before =
+    if is_gt (int_cmp wait.1 now) then Some (begun_or_before now last wait before) else None
 
--- the patience with a wait has ended: it isn't for ever, and the wait began so long ago
-abbrev pub is_at_end : ℕ → ℤ → Waiting → Bool
-is_at_end patience now w = not (patience == 0) && is_le (int_cmp (w.since +ℤ pos patience) now)
+-- whether a socket that waits began to in this round
+abbrev pub is_new : Option Waiting → Option Waiting → Bool
+is_new None waiting = false
+is_new (Some w) None = true
+is_new (Some w) (Some before) = not (is_same before.neighbor w.neighbor)
 
--- a packet is given up: the patience has ended, or its neighbour was just given up
-abbrev pub is_given_up : ℕ → ℤ → Option IpAddress → Waiting → Bool
-is_given_up patience now None w = is_at_end patience now w
-is_given_up patience now (Some unreachable) w = is_at_end patience now w || is_same unreachable w.neighbor
+-- less than ten seconds after an instant, if there is one
+abbrev pub is_recent : ℤ → Option ℤ → Bool
+is_recent now None = false
+is_recent now (Some t) = is_gt (int_cmp (t +ℤ pos 10000000) now)
+
+-- a wait has lasted long enough, unless the patience is for ever: since the patience, or its packet has to make room
+abbrev pub is_at_end : ℕ → ℤ → Bool → Waiting → Bool
+is_at_end patience now must_go w =
+    not (patience == 0) && (is_le (int_cmp (w.since +ℤ pos patience) now) || must_go)
+
+-- a packet is given up: its wait has lasted long enough, or its neighbour was just given up
+abbrev pub is_given_up : ℕ → ℤ → Bool → Option IpAddress → Waiting → Bool
+is_given_up patience now must_go None w = is_at_end patience now must_go w
+is_given_up patience now must_go (Some unreachable) w =
+    is_at_end patience now must_go w || is_same unreachable w.neighbor
 
 -- the neighbour that was just given up: as long as the socket waits
 abbrev pub unreachable_after : Option Waiting → Option IpAddress → Option IpAddress
@@ -54,9 +85,10 @@ NoneIsNoted watches = (i : ℕ) → IsUnnoted (get_or watches i idle)
 abbrev pub plan_after_look : ℤ → ℕ → Wait → Plan → Plan
 plan_after_look now i wait plan =
     let watch = get_or plan.watches i idle in
-    let waiting = waiting_after now wait watch.waiting in
+    let waiting = waiting_after now plan.asked wait watch.waiting in
     record (with_watch i
     (record watch { waiting = waiting; unreachable = unreachable_after waiting watch.unreachable }) plan) {
+      asked = if_asked (is_new waiting watch.waiting && may_ask now plan.asked) now plan.asked;
       is_waiting = plan.is_waiting || is_some waiting;
     }
 
@@ -80,11 +112,18 @@ earliest_end zero watches = None
 earliest_end (suc n) watches = earliest_with (get_or watches n idle).waiting (earliest_end n watches)
 
 -- what is written down of a socket whose first packet is given up
-abbrev pub watch_after_giving_up : IpAddress → Watch → Watch
-watch_after_giving_up neighbor watch =
-    record watch { waiting = None; unreachable = Some neighbor; given_up = Some neighbor }
+abbrev pub watch_after_giving_up : ℤ → IpAddress → Watch → Watch
+watch_after_giving_up now neighbor watch =
+    record watch { waiting = None; unreachable = Some neighbor; given_up = Some neighbor; dropped = Some now }
 
 module _ {L : Type 0} where
+  -- the first packet of the socket at an index has to make room for those that wait behind it: the request for its
+  -- neighbour wasn't answered for a second; or the queue has no room for more, and the socket just gave one up
+  abbrev pub must_go : ℤ → ℕ → Planned L → Waiting → Bool
+  must_go now i r w =
+      has_others (socket_at r.sockets i)
+      && (is_second_over now w.asked || is_crowded (socket_at r.sockets i) && is_recent now (watch_at i r).dropped)
+
   -- what is written down of a socket after a round
   abbrev pub after_look_at : ℤ → ℕ → Planned L → Planned L
   after_look_at now i r = record r { plan = plan_after_look now i (wait_of r.sockets i) r.plan }
@@ -118,9 +157,9 @@ module _ {L : Type 0} where
   without_first i s (Some socket) = with_place s i (Some (socket_after_told true socket))
 
   -- the first packet of a socket is given up: it is dropped, told of and counted, and the socket waits no more
-  abbrev pub after_giving_up : ℕ → IpAddress → Planned L → Planned L
-  after_giving_up i neighbor r = record {
-    plan = record (with_watch i (watch_after_giving_up neighbor (watch_at i r)) r.plan) {
+  abbrev pub after_giving_up : ℤ → ℕ → IpAddress → Planned L → Planned L
+  after_giving_up now i neighbor r = record {
+    plan = record (with_watch i (watch_after_giving_up now neighbor (watch_at i r)) r.plan) {
       given_up = count_after r.plan.given_up;
     };
     sockets = with_wait (without_first i r.sockets (socket_at r.sockets i)) i None;
@@ -129,11 +168,13 @@ module _ {L : Type 0} where
   abbrev pub if_given_up : ℕ → ℤ → Planned L → Option Waiting → Planned L
   if_given_up i now r None = r
   if_given_up i now r (Some w) =
-      if is_given_up r.plan.patience now (watch_at i r).unreachable w then after_giving_up i w.neighbor r else r
+      if is_given_up r.plan.patience now (must_go now i r w) (watch_at i r).unreachable w
+      then after_giving_up now i w.neighbor r
+      else r
 
   abbrev pub after_patience_at : ℤ → ℕ → Planned L → Planned L
   after_patience_at now i r = if_given_up i now r (waiting_at i r)
 
-  -- each socket whose patience has ended, or whose neighbour was just given up, gives up its first packet
+  -- each socket whose wait has lasted long enough, or whose neighbour was just given up, gives up its first packet
   abbrev pub after_patience : ℤ → Planned L → Planned L
   after_patience now r = each_of (after_patience_at now) (length r.plan.watches) r

@@ -1,6 +1,6 @@
 -- What is kept from one round to the next beside a set of sockets: for each socket whom it waits for,
 -- and whose turn it is.
-use Rattle.std.specs.Prelude.{ℕ, zero, suc, Bool, false, is_some, List, get_or}
+use Rattle.std.specs.Prelude.{ℕ, ℤ, zero, suc, Bool, false, is_some, List, get_or}
 use Rattle.std.specs.Prelude.{slice_set, replicate, Option, None, if◌then◌else◌}
 use Rattle.ip_address.specs.declared.ip.IpAddress.{IpAddress}
 use Rattle.socket_set.specs.SocketSet.{Sockets, wait_of}
@@ -9,20 +9,22 @@ use Rattle.egress_schedule.specs.declared.watch.Watch.{Watch}
 
 -- how long a packet waits for a neighbour, in microseconds, 0 for ever; a watch for each socket, and for how many of
 -- them memory is reserved; from which index on the next socket may ask for its neighbour, and the next may send a long
--- packet; how many packets were given up; whether some socket waits; and whether some packet may be long
+-- packet; when a socket last asked for its neighbour; how many packets were given up; whether some socket waits; and
+-- whether some packet may be long
 pub record Plan : Type 0 where
   pub patience : ℕ
   pub watches : List Watch
   pub room : ℕ
   pub discovery_turn : ℕ
   pub fragment_turn : ℕ
+  pub asked : Option ℤ
   pub given_up : ℕ
   pub is_waiting : Bool
   pub may_have_long : Bool
 
 -- of a socket that doesn't wait nothing is written down
 abbrev pub idle : Watch
-idle = record { waiting = None; unreachable = None; given_up = None; set_aside = None }
+idle = record { waiting = None; unreachable = None; given_up = None; dropped = None; set_aside = None }
 
 -- the plan with another watch at an index
 abbrev pub with_watch : ℕ → Watch → Plan → Plan
@@ -44,6 +46,7 @@ first_plan patience sockets room = record {
   room = room;
   discovery_turn = 0;
   fragment_turn = 0;
+  asked = None;
   given_up = 0;
   is_waiting = false;
   may_have_long = false;

@@ -13,9 +13,9 @@ module _ {L : Type 0} where
   with_long_set_aside mtu now is_piece_left r =
       if r.plan.may_have_long then after_setting_aside mtu now is_piece_left r else r
 
-  -- the sockets that wait ask in turn, and one long packet may go
+  -- one long packet may go, and of the sockets that may be asked those that wait ask in turn
   abbrev pub before_round : ℤ → ℕ → Bool → Planned L → Planned L
-  before_round now mtu is_piece_left r = with_long_set_aside mtu now is_piece_left (with_turns_taken now r)
+  before_round now mtu is_piece_left r = with_turns_taken now (with_long_set_aside mtu now is_piece_left r)
 
   abbrev pub with_long_put_back : Planned L → Planned L
   with_long_put_back r = if r.plan.may_have_long then after_putting_all_back r else r

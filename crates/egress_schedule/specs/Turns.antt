@@ -1,13 +1,13 @@
 -- Turns among sockets that wait for neighbours. One request is sent in a second, for all of them, so the sockets whose
 -- waits are over ask in turn.
 use Rattle.std.specs.Prelude.{ℕ, ◌+◌, ◌-◌, ◌||◌, ◌&&◌, not, nat_lt, Bool, false}
-use Rattle.std.specs.Prelude.{length, ℤ, Option, Some, None, if◌then◌else◌}
+use Rattle.std.specs.Prelude.{length, get_or, ℤ, Option, Some, None, if◌then◌else◌}
 use Rattle.std.specs.Ordering.{int_cmp, is_le}
 use Rattle.net_base.specs.Time.{silence_from}
 use Rattle.socket_set.specs.SocketSet.{with_wait}
 use Rattle.egress_schedule.specs.declared.watch.Waiting.{Waiting}
-use Rattle.egress_schedule.specs.Patience.{is_at_end}
-use Rattle.egress_schedule.specs.Plan.{Planned, each_of, first_from, waiting_at, watch_at, with_watch}
+use Rattle.egress_schedule.specs.Patience.{is_at_end, must_go}
+use Rattle.egress_schedule.specs.Plan.{Plan, Planned, each_of, first_from, idle, waiting_at, watch_at, with_watch}
 
 -- the first of n indices from the turn on that has a property, else the first of all; n where none has it
 abbrev pub next_in_turn : (ℕ → Bool) → ℕ → ℕ → ℕ
@@ -23,18 +23,39 @@ turn_after n turn had = if nat_lt had n then had + 1 else turn
 abbrev pub is_over : ℤ → Waiting → Bool
 is_over now w = is_le (int_cmp w.until now)
 
--- a socket asks again: its wait is over, and the patience with it has not ended
-abbrev pub asks_again : ℕ → ℤ → Option Waiting → Bool
-asks_again patience now None = false
-asks_again patience now (Some w) = is_over now w && not (is_at_end patience now w)
+-- a socket asks again: its wait is over, and has not lasted long enough
+abbrev pub asks_again : ℕ → ℤ → Bool → Waiting → Bool
+asks_again patience now must_go w = is_over now w && not (is_at_end patience now must_go w)
 
--- a socket isn't to ask in this round: its wait is over, and it isn't its turn, or the patience with it has ended
-abbrev pub is_held : ℕ → ℤ → Bool → Waiting → Bool
-is_held patience now is_before w = is_over now w && (is_before || is_at_end patience now w)
+-- a socket isn't to ask in this round: its wait is over, and it isn't its turn, or its packet will be given up
+abbrev pub is_held : ℕ → ℤ → Bool → Bool → Waiting → Bool
+is_held patience now must_go is_before w = is_over now w && (is_before || is_at_end patience now must_go w)
+
+-- when the neighbour of a wait was first asked for
+abbrev pub first_asked : ℤ → Option ℤ → Option ℤ
+first_asked now None = Some now
+first_asked now (Some t) = Some t
+
+-- a wait whose neighbour is asked for
+abbrev pub waiting_asked : ℤ → Option Waiting → Option Waiting
+waiting_asked now None = None
+waiting_asked now (Some w) = Some (record w { asked = first_asked now w.asked })
+
+-- the socket whose turn it is, if there is one, asks
+abbrev pub plan_asked : ℤ → ℕ → Plan → Plan
+plan_asked now next plan =
+    let watch = get_or plan.watches next idle in
+    if nat_lt next (length plan.watches)
+    then record (with_watch next (record watch { waiting = waiting_asked now watch.waiting }) plan) { asked = Some now }
+    else plan
 
 module _ {L : Type 0} where
+  abbrev pub if_asking : ℤ → Planned L → ℕ → Option Waiting → Bool
+  if_asking now r i None = false
+  if_asking now r i (Some w) = asks_again r.plan.patience now (must_go now i r w) w
+
   abbrev pub asks_at : ℤ → Planned L → ℕ → Bool
-  asks_at now r i = asks_again r.plan.patience now (waiting_at i r)
+  asks_at now r i = if_asking now r i (waiting_at i r)
 
   -- the socket whose turn it is to ask
   abbrev pub next_to_ask : ℤ → Planned L → ℕ
@@ -50,7 +71,9 @@ module _ {L : Type 0} where
   abbrev pub if_held : ℤ → ℕ → ℕ → Planned L → Option Waiting → Planned L
   if_held now next i r None = r
   if_held now next i r (Some w) =
-      if is_held r.plan.patience now (nat_lt i next) w then with_wait_longer now i w r else r
+      if is_held r.plan.patience now (must_go now i r w) (nat_lt i next) w
+      then with_wait_longer now i w r
+      else r
 
   abbrev pub after_hold_at : ℤ → ℕ → ℕ → Planned L → Planned L
   after_hold_at now next i r = if_held now next i r (waiting_at i r)
@@ -62,4 +85,4 @@ module _ {L : Type 0} where
       let n = length r.plan.watches in
       let next = next_to_ask now r in
       let held = each_of (after_hold_at now next) n r in
-      record held { plan = record held.plan { discovery_turn = turn_after n r.plan.discovery_turn next } }
+      record held { plan = record (plan_asked now next held.plan) { discovery_turn = turn_after n r.plan.discovery_turn next } }

@@ -1,5 +1,6 @@
 //! What a schedule promises, whatever comes, each law as the contract of an empty function.
-ghost use Rattle.egress_schedule.specs.Laws.{PatienceEnds, TurnsCome, TurnsStay, WaitsEndTogether};
+ghost use Rattle.egress_schedule.specs.Laws.{AskersHaveTurns, LongPacketsApart, LongPacketsExpected, PatienceEnds};
+ghost use Rattle.egress_schedule.specs.Laws.{PatienceIsKept, TurnsCome, TurnsStay, WaitsEndTogether, WaitsGoOn};
 
 /// After a round no socket waits for a neighbour that it has waited for as long as the patience: its packet was given
 /// up. So whatever a stranger sends, a packet stops those after it for that long at most, until the next round.
@@ -23,4 +24,35 @@ pub fn turns_stay()
 /// silence of another one that asks in between.
 pub fn waits_end_together()
     ensures { WaitsEndTogether }
+{}
+
+/// A long packet is begun only where no piece of another one is left, and by one socket in a round, wherever it stood in
+/// its queue before. So the pieces of two packets never mix, as long as the schedule is told of each long packet.
+pub fn long_packets_apart()
+    ensures { LongPacketsApart }
+{}
+
+/// A schedule that was told of each long packet, as the law above asks, still expects one after a round, as long as one
+/// is queued: behind short ones too. It has to be told anew only of those that are queued later.
+pub fn long_packets_expected()
+    ensures { LongPacketsExpected }
+{}
+
+/// A packet that goes on waiting in a round does so since the same moment as before, or it is given up in it. So the
+/// patience counts from the round in which it was first found to wait, however often its socket isn't asked. It is given
+/// up after the patience, and before that only where others wait behind it, or its socket just gave up that neighbour.
+pub fn waits_go_on()
+    ensures { WaitsGoOn }
+{}
+
+/// A packet that has waited for the patience is given up in the first round after that, through as many rounds as it
+/// waited, and whether its socket was asked in each of them or not.
+pub fn patience_is_kept()
+    ensures { PatienceIsKept }
+{}
+
+/// A socket that asks again has its turn in the round, or fewer stand before it from the turn on afterwards. So it has its
+/// turn after at most as many rounds in which it asks as there are sockets.
+pub fn askers_have_turns()
+    ensures { AskersHaveTurns }
 {}

@@ -11,6 +11,7 @@
 pub mod laws;
 pub mod long_packets;
 pub mod patience;
+pub mod queues;
 pub mod schedule;
 pub mod turns;
 pub mod watch;

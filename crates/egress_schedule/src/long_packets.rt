@@ -1,21 +1,19 @@
 //! Packets that have to be cut, of which one goes at a time.
-ghost use Rattle.std.specs.Prelude.{◌≡◌, ◌-◌, ◌≤◌, length};
+ghost use Rattle.std.specs.Prelude.{◌≡◌, ◌-◌, length};
 ghost use Rattle.net_base.specs.Time.{IsMoment};
-ghost use Rattle.socket_base.specs.Queue.{first_of};
 ghost use Rattle.egress_schedule.specs.LongPackets as spec;
 ghost use Rattle.egress_schedule.specs.LongPackets.{after_putting_back_at, after_setting_aside_at};
-ghost use Rattle.egress_schedule.specs.LongPackets.{has_long, len_behind, some_has_long};
+ghost use Rattle.egress_schedule.specs.LongPackets.{has_long, may_have_long, some_may_have_long, with_wait_aside};
 ghost use Rattle.egress_schedule.specs.Plan.{each_of, first_from, planned};
 ghost use Rattle.egress_schedule.specs.Turns.{next_in_turn};
 
+use crate::queues::{first_len, has_others};
 use crate::schedule::Schedule;
 use crate::turns::turn_after;
-use crate::watch::Watch;
+use crate::watch::{Waiting, Watch};
 use ip_wire::{IpAddress, Ipv4Address};
 use net_base::time::Instant;
 use socket_set::{Meta, SocketSetOf, by_index};
-use sockets::Queue;
-use sockets::socket::SocketOf;
 
 /// Nobody has this address, so who waits for it isn't asked before the end of the wait.
 const NOBODY: IpAddress = IpAddress::Ipv4(Ipv4Address { bits: 0 });
@@ -37,7 +35,7 @@ impl Schedule {
     {
         let next = self.next_of_long(ip_mtu, is_piece_left, sockets);
         let turn = self.fragment_turn_after(is_piece_left, next);
-        let may_have_long = self.some_has_long(ip_mtu, sockets);
+        let may_have_long = self.some_may_have_long(ip_mtu, sockets);
         self.set_all_aside(next, now, ip_mtu, sockets);
         self.fragment_turn = turn;
         self.may_have_long = may_have_long;
@@ -71,12 +69,12 @@ impl Schedule {
         }
     }
 
-    /// Whether some socket has a long packet to send first.
-    fn some_has_long<L: Drop>(&self, ip_mtu: usize, sockets: &SocketSetOf<L>) -> bool
-        ensures { result ≡ some_has_long ip_mtu (planned self.now sockets.now) }
+    /// Whether some socket has a long packet to send first, or may have one behind its first packet.
+    fn some_may_have_long<L: Drop>(&self, ip_mtu: usize, sockets: &SocketSetOf<L>) -> bool
+        ensures { result ≡ some_may_have_long ip_mtu (planned self.now sockets.now) }
     {
         let count = self.watches.len();
-        first_long(0, count, ip_mtu, sockets) < count
+        first_maybe_long(count, ip_mtu, sockets) < count
     }
 
     /// Lets all sockets whose first packet is long not be asked, but for one.
@@ -111,13 +109,26 @@ impl Schedule {
             ≡ after_setting_aside_at ip_mtu now next index (planned self.old sockets.old) }
     {
         if has_long(index, ip_mtu, sockets) && index != next {
-            let watch = Watch {
-                set_aside: Some(by_index::wait(sockets, index)),
-                ..self.watch(index)
-            };
-            self.set_watch(index, watch);
-            by_index::neighbor_missing(sockets, index, now, NOBODY);
+            self.set_wait_aside(index, now, sockets);
         }
+    }
+
+    /// Sets the own wait of the socket at an index aside, so that it isn't asked in this round. If that is over, it lasts a
+    /// second longer.
+    fn set_wait_aside<L: Drop>(&mut self, index: usize, now: Instant, sockets: &mut SocketSetOf<L>)
+        requires { IsMoment now }
+        ensures { planned self.new sockets.new ≡ with_wait_aside now index (planned self.old sockets.old) }
+    {
+        let watch = self.watch(index);
+        let waiting = waiting_unasked(now, watch.waiting);
+        let own = own_wait(&waiting, by_index::wait(sockets, index));
+        let aside = Watch {
+            waiting,
+            set_aside: Some(own),
+            ..watch
+        };
+        self.set_watch(index, aside);
+        by_index::neighbor_missing(sockets, index, now, NOBODY);
     }
 
     /// Gives the sockets that weren't to be asked their own waits again.
@@ -143,6 +154,48 @@ impl Schedule {
             self.set_watch(index, watch);
             by_index::set_wait(sockets, index, wait);
         }
+    }
+}
+
+/// For whom a socket waits that isn't asked in a round.
+fn waiting_unasked(now: Instant, waiting: Option<Waiting>) -> Option<Waiting>
+    requires { IsMoment now }
+    ensures { result ≡ spec.waiting_unasked now waiting }
+{
+    match waiting {
+        None => None,
+        Some(waiting) => Some(Waiting {
+            until: until_unasked(now, &waiting),
+            ..waiting
+        }),
+    }
+}
+
+/// When a socket asks again that isn't asked in a round: a second later, if its wait is over.
+fn until_unasked(now: Instant, waiting: &Waiting) -> Instant
+    requires { IsMoment now }
+    ensures { result ≡ spec.until_unasked now waiting.now }
+{
+    if waiting.is_over(now) {
+        now + Meta::DISCOVERY_SILENT_TIME
+    } else {
+        waiting.until
+    }
+}
+
+/// The own wait of a socket, for whom it waits, and its wait as it stands.
+fn own_wait(
+    waiting: &Option<Waiting>,
+    wait: Option<(IpAddress, Instant)>,
+) -> Option<(IpAddress, Instant)>
+    ensures { result ≡ spec.own_wait waiting.now wait }
+{
+    match waiting {
+        None => wait,
+        Some(waiting) => match wait {
+            None => None,
+            Some(_) => Some((waiting.neighbor, waiting.until)),
+        },
     }
 }
 
@@ -180,25 +233,25 @@ fn has_long<L: Drop>(index: usize, ip_mtu: usize, sockets: &SocketSetOf<L>) -> b
     }
 }
 
-/// The length of the first packet that a socket has to send, over IPv4; 0 where it has none.
-fn first_len<L: Drop>(socket: &SocketOf<L>) -> usize
-    ensures { result ≡ spec.first_len socket.now }
+/// The first index whose socket's first packet is long, or may be followed by a long one; the number of indices if there
+/// is none.
+fn first_maybe_long<L: Drop>(count: usize, ip_mtu: usize, sockets: &SocketSetOf<L>) -> usize
+    ensures { result ≡ first_from (may_have_long ip_mtu sockets.now) 0 count }
 {
-    match socket {
-        SocketOf::Raw(raw) => len_behind(0, raw.tx()),
-        SocketOf::Icmp(icmp) => len_behind(20, icmp.tx()),
-        SocketOf::Udp(udp) => len_behind(28, udp.tx()),
-        SocketOf::Tcp(tcp) => len_behind(40, tcp.tx()),
+    for index in 0..count {
+        if may_have_long(index, ip_mtu, sockets) {
+            return index;
+        }
     }
+    count
 }
 
-/// The octets of a queue's first packet after so many of headers, at most 40; 0 if there is none.
-fn len_behind<M: Drop>(headers: usize, queue: &Queue<M>) -> usize
-    requires { headers ≤ 40 }
-    ensures { result ≡ len_behind headers (first_of queue.now.packets) }
+/// Whether the first packet of the socket at an index is longer than the link's packets, or others wait behind it.
+fn may_have_long<L: Drop>(index: usize, ip_mtu: usize, sockets: &SocketSetOf<L>) -> bool
+    ensures { result ≡ may_have_long ip_mtu sockets.now index }
 {
-    match queue.front() {
-        None => 0,
-        Some((_, octets)) => headers + octets.len(),
+    match by_index::socket(sockets, index) {
+        None => false,
+        Some(socket) => ip_mtu < first_len(socket) || has_others(socket),
     }
 }

@@ -4,11 +4,15 @@ ghost use Rattle.egress_schedule.specs.Plan.{each_of, idle, planned};
 ghost use Rattle.egress_schedule.specs.Patience as spec;
 ghost use Rattle.egress_schedule.specs.Patience.{IsUnnoted, NoneIsNoted, after_alignment_at, after_giving_up};
 ghost use Rattle.egress_schedule.specs.Patience.{after_look_at, after_patience_at, earliest_end};
-ghost use Rattle.egress_schedule.specs.Patience.{earliest_with, plan_after_look, without_first};
+ghost use Rattle.egress_schedule.specs.Patience.{earliest_with, must_go, plan_after_look, without_first};
 ghost use Rattle.socket_set.specs.SocketSet.{socket_at};
 
+use crate::queues::{has_others, is_crowded};
 use crate::schedule::Schedule;
-use crate::watch::{Waiting, Watch, is_given_up, waiting_after};
+use crate::watch::{
+    Waiting, Watch, if_asked, is_given_up, is_new, is_recent, is_second_over, may_ask,
+    waiting_after,
+};
 use ip_wire::IpAddress;
 use net_base::time::Instant;
 use socket_set::{SocketSetOf, by_index};
@@ -78,7 +82,8 @@ impl Schedule {
         ensures { self.new ≡ plan_after_look now index wait self.old }
     {
         let watch = self.watch(index);
-        let waiting = waiting_after(now, wait, watch.waiting);
+        let waiting = waiting_after(now, self.asked, wait, watch.waiting);
+        let asks = is_new(&waiting, &watch.waiting) && may_ask(now, self.asked);
         let unreachable = match waiting {
             None => None,
             Some(_) => watch.unreachable,
@@ -91,6 +96,7 @@ impl Schedule {
                 ..watch
             },
         );
+        self.asked = if_asked(asks, now, self.asked);
         self.is_waiting |= waiting.is_some();
     }
 
@@ -136,7 +142,7 @@ impl Schedule {
         }
     }
 
-    /// Each socket whose patience has ended, or whose neighbour was just given up, gives up its first packet.
+    /// Each socket whose wait has lasted long enough, or whose neighbour was just given up, gives up its first packet.
     #[inline(never)]
     pub(crate) fn give_up<L: Drop>(&mut self, now: Instant, sockets: &mut SocketSetOf<L>)
         ensures { planned self.new sockets.new ≡ spec.after_patience now (planned self.old sockets.old) }
@@ -146,7 +152,8 @@ impl Schedule {
         }
     }
 
-    /// The socket at an index gives up its first packet, if its patience has ended or its neighbour was just given up.
+    /// The socket at an index gives up its first packet, if its wait has lasted long enough or its neighbour was just given
+    /// up.
     fn give_up_at<L: Drop>(&mut self, index: usize, now: Instant, sockets: &mut SocketSetOf<L>)
         ensures { planned self.new sockets.new ≡ after_patience_at now index (planned self.old sockets.old) }
     {
@@ -154,8 +161,33 @@ impl Schedule {
             return;
         };
         let unreachable = self.watch(index).unreachable;
-        if is_given_up(self.patience, now, unreachable, &waiting) {
-            self.drop_first(index, waiting.neighbor, sockets);
+        let must_go = self.must_go(index, now, &waiting, sockets);
+        if is_given_up(self.patience, now, must_go, unreachable, &waiting) {
+            self.drop_first(index, now, waiting.neighbor, sockets);
+        }
+    }
+
+    /// Whether the first packet of the socket at an index has to make room for those that wait behind it: the request for
+    /// its neighbour wasn't answered for a second; or the queue has no room for more, and the socket just gave one up.
+    pub(crate) fn must_go<L: Drop>(
+        &self,
+        index: usize,
+        now: Instant,
+        waiting: &Waiting,
+        sockets: &SocketSetOf<L>,
+    ) -> bool
+        ensures { result ≡ must_go now index (planned self.now sockets.now) waiting.now }
+    {
+        let is_unanswered = is_second_over(now, waiting.asked);
+        let is_recent = is_recent(now, self.watch(index).dropped);
+        // Most packets needn't go, whatever is queued.
+        if !is_unanswered && !is_recent {
+            return false;
+        }
+        match by_index::socket(sockets, index) {
+            None => false,
+            Some(socket) => has_others(socket)
+                && (is_unanswered || is_crowded(socket) && is_recent),
         }
     }
 
@@ -163,15 +195,17 @@ impl Schedule {
     fn drop_first<L: Drop>(
         &mut self,
         index: usize,
+        now: Instant,
         neighbor: IpAddress,
         sockets: &mut SocketSetOf<L>,
     )
-        ensures { planned self.new sockets.new ≡ after_giving_up index neighbor (planned self.old sockets.old) }
+        ensures { planned self.new sockets.new ≡ after_giving_up now index neighbor (planned self.old sockets.old) }
     {
         let watch = Watch {
             waiting: None,
             unreachable: Some(neighbor),
             given_up: Some(neighbor),
+            dropped: Some(now),
             ..self.watch(index)
         };
         self.set_watch(index, watch);

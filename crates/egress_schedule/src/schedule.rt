@@ -22,6 +22,8 @@ pub struct Schedule {
     pub(crate) watches: Vec<Watch>,
     pub(crate) discovery_turn: usize,
     pub(crate) fragment_turn: usize,
+    // When a socket last asked for its neighbour.
+    pub(crate) asked: Option<Instant>,
     pub(crate) given_up: u64,
     pub(crate) is_waiting: bool,
     pub(crate) may_have_long: bool,
@@ -42,6 +44,7 @@ impl Model for Schedule {
       room = vec_capacity s.watches;
       discovery_turn = s.discovery_turn;
       fragment_turn = s.fragment_turn;
+      asked = s.asked;
       given_up = s.given_up;
       is_waiting = s.is_waiting;
       may_have_long = s.may_have_long;
@@ -61,6 +64,7 @@ impl Schedule {
             watches: Vec::from_elem(alloc, Watch::IDLE, sockets)?,
             discovery_turn: 0,
             fragment_turn: 0,
+            asked: None,
             given_up: 0,
             is_waiting: false,
             may_have_long: false,
@@ -141,9 +145,9 @@ impl Schedule {
         self.may_have_long = true;
     }
 
-    /// Prepares a round of an interface, which polls at a moment. Of the sockets whose waits are over, those before the
-    /// one whose turn it is wait a second more. Of the sockets whose first packet is longer than the link's packets,
-    /// only the one whose turn it is will be asked, and none while a piece of a packet is left.
+    /// Prepares a round of an interface, which polls at a moment. Of the sockets whose first packet is longer than the
+    /// link's packets, only the one whose turn it is will be asked, and none while a piece of a packet is left. Of the
+    /// sockets whose waits are over, those that aren't asked and those before the one whose turn it is wait a second more.
     pub fn before_round<L: Drop>(
         &mut self,
         now: Instant,
@@ -154,8 +158,8 @@ impl Schedule {
         requires { IsMoment now }
         ensures { planned self.new sockets.new ≡ before_round now ip_mtu is_piece_left (planned self.old sockets.old) }
     {
-        self.prepare_waiting(now, sockets);
         self.prepare_long(now, ip_mtu, is_piece_left, sockets);
+        self.prepare_waiting(now, sockets);
     }
 
     /// Lets the sockets that wait ask in turn, if some wait.

@@ -3,10 +3,10 @@ ghost use Rattle.std.specs.Prelude.{◌≡◌, ◌-◌, length};
 ghost use Rattle.net_base.specs.Time.{IsMoment};
 ghost use Rattle.egress_schedule.specs.Plan.{each_of, first_from, planned};
 ghost use Rattle.egress_schedule.specs.Turns as spec;
-ghost use Rattle.egress_schedule.specs.Turns.{after_hold_at, asks_at, next_to_ask, with_wait_longer};
+ghost use Rattle.egress_schedule.specs.Turns.{after_hold_at, asks_at, next_to_ask, plan_asked, with_wait_longer};
 
 use crate::schedule::Schedule;
-use crate::watch::{Waiting, Watch, asks_again};
+use crate::watch::{Waiting, Watch};
 use net_base::time::Instant;
 use socket_set::{Meta, SocketSetOf, by_index};
 
@@ -20,7 +20,25 @@ impl Schedule {
         let next = self.next_to_ask(now, sockets);
         let turn = turn_after(self.watches.len(), self.discovery_turn, next);
         self.hold_all(next, now, sockets);
+        self.ask(next, now);
         self.discovery_turn = turn;
+    }
+
+    /// Writes down that the socket at an index asks, if there is one.
+    fn ask(&mut self, next: usize, now: Instant)
+        ensures { self.new ≡ plan_asked now next self.old }
+    {
+        if next < self.watches.len() {
+            let watch = self.watch(next);
+            self.set_watch(
+                next,
+                Watch {
+                    waiting: waiting_asked(now, watch.waiting),
+                    ..watch
+                },
+            );
+            self.asked = Some(now);
+        }
     }
 
     /// Lets the sockets that aren't to ask, as it isn't their turn or their packets are given up, wait a second more.
@@ -53,11 +71,28 @@ impl Schedule {
     {
         let count = self.watches.len();
         for index in from..count {
-            if asks_again(self.patience, now, self.waiting_at(sockets, index)) {
+            if self.asks_at(index, now, sockets) {
                 return index;
             }
         }
         from.max(count)
+    }
+
+    /// Whether the socket at an index asks for its neighbour again.
+    fn asks_at<L: Drop>(&self, index: usize, now: Instant, sockets: &SocketSetOf<L>) -> bool
+        ensures { result ≡ asks_at now (planned self.now sockets.now) index }
+    {
+        match self.waiting_at(sockets, index) {
+            None => false,
+            Some(waiting) => {
+                // Most waits aren't over, so it isn't read why a packet would have to go.
+                if !waiting.is_over(now) {
+                    return false;
+                }
+                let must_go = self.must_go(index, now, &waiting, sockets);
+                waiting.asks_again(self.patience, now, must_go)
+            }
+        }
     }
 
     /// The socket at an index waits a second more, if its wait is over and it isn't to ask.
@@ -74,7 +109,11 @@ impl Schedule {
         let Some(waiting) = self.waiting_at(sockets, index) else {
             return;
         };
-        if waiting.is_held(self.patience, now, index < next) {
+        if !waiting.is_over(now) {
+            return;
+        }
+        let must_go = self.must_go(index, now, &waiting, sockets);
+        if waiting.is_held(self.patience, now, must_go, index < next) {
             self.wait_longer(index, now, waiting, sockets);
         }
     }
@@ -99,6 +138,29 @@ impl Schedule {
         };
         self.set_watch(index, watch);
         by_index::neighbor_missing(sockets, index, now, waiting.neighbor);
+    }
+}
+
+/// A wait whose neighbour is asked for.
+fn waiting_asked(now: Instant, waiting: Option<Waiting>) -> Option<Waiting>
+    ensures { result ≡ spec.waiting_asked now waiting }
+{
+    match waiting {
+        None => None,
+        Some(waiting) => Some(Waiting {
+            asked: first_asked(now, waiting.asked),
+            ..waiting
+        }),
+    }
+}
+
+/// When the neighbour of a wait was first asked for.
+fn first_asked(now: Instant, asked: Option<Instant>) -> Option<Instant>
+    ensures { result ≡ spec.first_asked now asked }
+{
+    match asked {
+        None => Some(now),
+        Some(asked) => Some(asked),
     }
 }
 

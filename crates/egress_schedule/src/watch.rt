@@ -14,6 +14,8 @@ pub struct Waiting {
     pub neighbor: IpAddress,
     /// When the socket was first seen to wait for it.
     pub since: Instant,
+    /// When a request for it was first sent for this socket, if one was.
+    pub asked: Option<Instant>,
     /// When it asks again.
     pub until: Instant,
 }
@@ -27,6 +29,8 @@ pub struct Watch {
     pub unreachable: Option<IpAddress>,
     /// The destination of the packet that was given up last, until that was told.
     pub given_up: Option<IpAddress>,
+    /// When a packet was given up last, if one was.
+    pub dropped: Option<Instant>,
     /// Its own wait, while it isn't to be asked for a long packet.
     pub set_aside: Option<Option<(IpAddress, Instant)>>,
 }
@@ -37,6 +41,7 @@ impl Watch {
         waiting: None,
         unreachable: None,
         given_up: None,
+        dropped: None,
         set_aside: None,
     };
 
@@ -48,23 +53,57 @@ impl Watch {
     }
 }
 
+/// Whether a second after an instant, if there is one, has come.
+pub(crate) fn is_second_over(now: Instant, at: Option<Instant>) -> bool
+    ensures { result ≡ spec.is_second_over now at }
+{
+    match at {
+        None => false,
+        Some(at) => i128::from(at.total_micros()) + 1_000_000 <= i128::from(now.total_micros()),
+    }
+}
+
+/// Whether it is less than ten seconds after an instant, if there is one.
+pub(crate) fn is_recent(now: Instant, at: Option<Instant>) -> bool
+    ensures { result ≡ spec.is_recent now at }
+{
+    match at {
+        None => false,
+        Some(at) => i128::from(at.total_micros()) + 10_000_000 > i128::from(now.total_micros()),
+    }
+}
+
+/// Whether a request may be sent: none was, or the second after the last one is over.
+pub(crate) fn may_ask(now: Instant, last: Option<Instant>) -> bool
+    ensures { result ≡ spec.may_ask now last }
+{
+    match last {
+        None => true,
+        Some(last) => is_second_over(now, Some(last)),
+    }
+}
+
+/// The moment, if a request is sent at it; else when one was sent before.
+pub(crate) fn if_asked(asks: bool, now: Instant, before: Option<Instant>) -> Option<Instant>
+    ensures { result ≡ spec.if_asked asks now before }
+{
+    if asks { Some(now) } else { before }
+}
+
 /// For whom a socket waits after a round, whose wait is this. One whose end has come is over.
 pub(crate) fn waiting_after(
     now: Instant,
+    last: Option<Instant>,
     wait: Option<(IpAddress, Instant)>,
     before: Option<Waiting>,
 ) -> Option<Waiting>
-    ensures { result ≡ spec.waiting_after now wait before }
+    ensures { result ≡ spec.waiting_after now last wait before }
 {
     match wait {
         None => None,
         Some((neighbor, until)) => {
             if until > now {
-                Some(Waiting {
-                    neighbor,
-                    since: since(&neighbor, now, before),
-                    until,
-                })
+                Some(begun_or_before(now, last, neighbor, until, before))
             } else {
                 None
             }
@@ -72,19 +111,54 @@ pub(crate) fn waiting_after(
     }
 }
 
-/// Since when a neighbour is waited for.
-fn since(neighbor: &IpAddress, now: Instant, before: Option<Waiting>) -> Instant
-    ensures { result ≡ spec.since neighbor.now now before }
+/// A wait that goes on for the same neighbour, or begins.
+fn begun_or_before(
+    now: Instant,
+    last: Option<Instant>,
+    neighbor: IpAddress,
+    until: Instant,
+    before: Option<Waiting>,
+) -> Waiting
+    ensures { result ≡ spec.begun_or_before now last (neighbor, until) before }
 {
     match before {
-        None => now,
+        None => begun(now, last, neighbor, until),
         Some(before) => {
-            if before.neighbor == *neighbor {
-                before.since
+            if before.neighbor == neighbor {
+                Waiting {
+                    neighbor,
+                    until,
+                    ..before
+                }
             } else {
-                now
+                begun(now, last, neighbor, until)
             }
         }
+    }
+}
+
+/// A wait that begins, for a neighbour for whom a request is sent, if one may be.
+fn begun(now: Instant, last: Option<Instant>, neighbor: IpAddress, until: Instant) -> Waiting
+    ensures { result ≡ spec.begun now last (neighbor, until) }
+{
+    Waiting {
+        neighbor,
+        since: now,
+        asked: if_asked(may_ask(now, last), now, None),
+        until,
+    }
+}
+
+/// Whether a socket that waits began to in this round.
+pub(crate) fn is_new(waiting: &Option<Waiting>, before: &Option<Waiting>) -> bool
+    ensures { result ≡ spec.is_new waiting.now before.now }
+{
+    match waiting {
+        None => false,
+        Some(waiting) => match before {
+            None => true,
+            Some(before) => before.neighbor != waiting.neighbor,
+        },
     }
 }
 
@@ -96,43 +170,50 @@ impl Waiting {
         self.until <= now
     }
 
-    /// Whether the socket isn't to ask in a round: the wait is over, and it isn't its turn, or the patience has ended.
-    pub(crate) fn is_held(&self, patience: Duration, now: Instant, is_before: bool) -> bool
-        ensures { result ≡ turns.is_held patience now is_before self.now }
+    /// Whether the socket isn't to ask in a round: the wait is over, and it isn't its turn, or its packet will be given up.
+    pub(crate) fn is_held(
+        &self,
+        patience: Duration,
+        now: Instant,
+        must_go: bool,
+        is_before: bool,
+    ) -> bool
+        ensures { result ≡ turns.is_held patience now must_go is_before self.now }
     {
-        self.is_over(now) && (is_before || self.is_at_end(patience, now))
+        self.is_over(now) && (is_before || self.is_at_end(patience, now, must_go))
     }
 
-    /// Whether the patience with the wait has ended; one of no time never does.
-    pub(crate) fn is_at_end(&self, patience: Duration, now: Instant) -> bool
-        ensures { result ≡ spec.is_at_end patience now self.now }
+    /// Whether the wait has lasted long enough: since the patience, or its packet has to make room. With a patience of no
+    /// time it never has.
+    pub(crate) fn is_at_end(&self, patience: Duration, now: Instant, must_go: bool) -> bool
+        ensures { result ≡ spec.is_at_end patience now must_go self.now }
     {
         let end = i128::from(self.since.total_micros()) + i128::from(patience.total_micros());
-        patience.total_micros() != 0 && end <= i128::from(now.total_micros())
+        patience.total_micros() != 0 && (end <= i128::from(now.total_micros()) || must_go)
+    }
+
+    /// Whether a socket asks again: its wait is over, and has not lasted long enough.
+    pub(crate) fn asks_again(&self, patience: Duration, now: Instant, must_go: bool) -> bool
+        ensures { result ≡ turns.asks_again patience now must_go self.now }
+    {
+        self.is_over(now) && !self.is_at_end(patience, now, must_go)
     }
 }
 
-/// Whether a socket asks again: its wait is over, and the patience with it has not ended.
-pub(crate) fn asks_again(patience: Duration, now: Instant, waiting: Option<Waiting>) -> bool
-    ensures { result ≡ turns.asks_again patience now waiting }
-{
-    match waiting {
-        None => false,
-        Some(waiting) => waiting.is_over(now) && !waiting.is_at_end(patience, now),
-    }
-}
-
-/// Whether a packet is given up: the patience has ended, or its neighbour was just given up.
+/// Whether a packet is given up: its wait has lasted long enough, or its neighbour was just given up.
 pub(crate) fn is_given_up(
     patience: Duration,
     now: Instant,
+    must_go: bool,
     unreachable: Option<IpAddress>,
     waiting: &Waiting,
 ) -> bool
-    ensures { result ≡ spec.is_given_up patience now unreachable waiting.now }
+    ensures { result ≡ spec.is_given_up patience now must_go unreachable waiting.now }
 {
     match unreachable {
-        None => waiting.is_at_end(patience, now),
-        Some(unreachable) => { waiting.is_at_end(patience, now) || unreachable == waiting.neighbor }
+        None => waiting.is_at_end(patience, now, must_go),
+        Some(unreachable) => {
+            waiting.is_at_end(patience, now, must_go) || unreachable == waiting.neighbor
+        }
     }
 }

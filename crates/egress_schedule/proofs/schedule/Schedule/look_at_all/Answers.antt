@@ -1,4 +1,4 @@
-use Rattle.std.proofs.Common.{◌≡◌, ◌≤◌, ℕ, List, length, refl, sym, ap, ◌∙◌, arith, subst}
+use Rattle.std.proofs.Common.{◌≡◌, ◌≤◌, List, length, refl, sym, ap, ◌∙◌, arith, subst}
 use Rattle.socket_set.specs.SocketSet.{wait_of}
 use Rattle.egress_schedule.specs.declared.watch.Watch.{Watch}
 use Rattle.egress_schedule.specs.Patience.{NoneIsNoted, after_look_at}

@@ -1,7 +1,6 @@
-use Rattle.std.proofs.Common.{◌≡◌, ◌+◌, ◌<◌, ◌≤◌, ℕ, List, get_or, length, refl, ap, arith, subst}
+use Rattle.std.proofs.Common.{◌≡◌, ◌+◌, ◌<◌, ◌≤◌, ℕ, get_or, length, refl, ap, arith, subst}
 use Rattle.std.specs.Prelude.{min}
 use Rattle.socket_set.specs.SocketSet.{wait_of}
-use Rattle.egress_schedule.specs.declared.watch.Watch.{Watch}
 use Rattle.egress_schedule.specs.Patience.{IsUnnoted, after_look_at}
 use Rattle.egress_schedule.specs.Plan.{Plan, Planned, each_of, idle, planned}
 use Rattle.egress_schedule.proofs.Unnoted.{none_behind, nobody_waits, one_more, skip, waits_not}

@@ -1,4 +1,4 @@
-use Rattle.std.proofs.Common.{◌≡◌, ◌<◌, ◌≤◌, ◌-◌, ℕ, get_or, length}
+use Rattle.std.proofs.Common.{◌≡◌, ◌≤◌, ◌-◌, ℕ, get_or, length}
 use Rattle.std.specs.Prelude.{min}
 use Rattle.egress_schedule.specs.Patience.{IsUnnoted, after_look_at}
 use Rattle.egress_schedule.specs.Plan.{each_of, idle, planned}
