@@ -91,10 +91,14 @@ static void hear(iface *host, iface *from, const uint8_t *frame, size_t length) 
 
 /* Hands a frame over, and what is sent in response. */
 static void hear_only(iface *host, iface *from, const uint8_t *frame, size_t length) {
-    uint8_t reply[IFACE_FRAME_ROOM], last[IFACE_FRAME_ROOM];
-    size_t n = 0, none = 0;
+    uint8_t reply[IFACE_FRAME_ROOM];
+    size_t n = 0;
     must("receive", iface_receive(host, now, frame, length, reply, sizeof reply, &n));
-    if (n > 0) must("response", iface_receive(from, now, reply, n, last, sizeof last, &none));
+    if (n > 0) {
+        uint8_t last[IFACE_FRAME_ROOM];
+        size_t none = 0;
+        must("response", iface_receive(from, now, reply, n, last, sizeof last, &none));
+    }
 }
 
 /* The earlier of the instants at which two hosts are to be asked again. */
