@@ -60,8 +60,8 @@ pub struct Guard {
 }
 
 impl Guard {
-    /// A guard that lets through, of those that aren't known, two neighbours in a second and a packet in two seconds; a query in a
-    /// second; and another router in a minute.
+    /// A guard that lets through, of those that aren't known, two neighbours a second, two of them at once, and a packet in two
+    /// seconds; a query in a second; and another router in a minute.
     pub const fn new() -> Guard
         ensures { result ≡ spec.new_guard }
     {

@@ -2,8 +2,7 @@
 ghost use Rattle.guard.specs.Laws.{FewNeighborsPass, FewDiscoveriesPass, FewQueriesPass, KnownArpPass, KnownPass, OthersPass, OwnAddressesStay, RoutersStay};
 
 /// Of ARP packets and neighbour messages of somebody that isn't known and wasn't asked for, so many pass from one instant to another:
-/// as many as the rate's depth, and one for each of its intervals. So a neighbour whom the host hears every second isn't evicted
-/// by them from four places, as long as that is two in a second.
+/// as many as the rate's depth, and one for each of its intervals.
 pub fn few_neighbors_pass()
     ensures { FewNeighborsPass }
 {}

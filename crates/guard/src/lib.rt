@@ -1,5 +1,5 @@
-//! A guard in front of a host on Ethernet: which frames the host gets to see, so that strangers on the link evict no neighbour,
-//! use up no discovery, and postpone no report.
+//! A guard in front of a host on Ethernet: which frames the host gets to see. It bounds how fast strangers on the link fill the
+//! entries for neighbours, use up discovery, and postpone reports.
 //!
 //! A [`Guard`] stands before the call that takes a frame, and changes no frame. Whatever it lets through, the host's rules and
 //! laws hold as they are.
