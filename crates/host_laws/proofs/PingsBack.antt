@@ -39,7 +39,7 @@ use Rattle.host_machine.specs.Sending.Packet as packet
 use Rattle.host_machine.specs.Sending.Frame.{link_header, packet_text, payload_text}
 use Rattle.host_machine.specs.Polling.Run.{Transition}
 use Rattle.host_machine.specs.Laws.Calls.{IsCallOf, IsEgress, IsIngress, KeepsCallLaws}
-use Rattle.host_machine.specs.Laws.Service.{HasPacketV4, Pings as AsksByEcho, HasEchoReply, Takes}
+use Rattle.host_machine.specs.Laws.Service.{HasPacketV4, IsToItself, Pings as AsksByEcho, HasEchoReply, Takes}
 use Rattle.host_machine.proofs.Receiving.FrameReplies.{pings_served}
 use Rattle.host_machine.proofs.Receiving.EchoReplies.{replies_queued}
 use Rattle.host_machine.proofs.Sending.FirstPackets.{first_echoes_go}
@@ -48,6 +48,7 @@ use Rattle.host_laws.specs.PingsInRuns.{PingsReturn, RunsReturnPings}
 
 -- what is read of the frame of an echo message by the host that it is for
 record ReadsEcho (far : EthernetAddress) (K : Host) (frame : List ℕ) (r : Ipv4Repr) (message : Icmpv4Repr) (octets text : List ℕ) : Type 0 where
+  itself : IsToItself (hardware.Ethernet far) frame
   in_packet : HasPacketV4 (hardware.Ethernet far) K frame r text
   is_message : IsIcmpv4 (is_rx K.capabilities.checksum.icmpv4) text
   values : icmpv4_in text ≡ (message, octets)
@@ -114,6 +115,7 @@ reads H K own far p message octets is m eight len on six_own six_far headers mes
     (summed_is (is_rx K.capabilities.checksum.icmpv4) (is_tx H.capabilities.checksum.icmpv4) messages) in
     let values : ipv4_in (drop 14 (message_frame H far p)) ≡ (r, whole, text) = ap ipv4_in behind ∙ packet_again.1 in
     record {
+      itself = ap (λ (h : EthernetRepr). h.dst_addr) header;
       in_packet = record {
         taken = record {
           whole = subst (λ f. 14 ≤ length f) (sym frame_is) (header_long far.0 own.0 0x0800 body six_far six_own);
@@ -162,7 +164,7 @@ answered ha hb a b hop_limit ident seq_no octets t u A B B' told_b ka kb ident_f
       values = asked.values;
     } in
     pings_served u B B' told_b (hardware.Ethernet hb) (message_frame A hb request) (header_v4 request) ident seq_no octets
-    (hardware.Ethernet ha) takes pings kb.reached fits
+    (hardware.Ethernet ha) takes asked.itself pings kb.reached fits
 
 pub come_back : PingsComeBack
 come_back ha hb a b ident seq_no octets t u v i k A A' B B' C C' told_a told_b told_c p =

@@ -17,6 +17,7 @@ pub mod SocketDelivery
 pub mod FrameRepliesV6
 pub mod ReceivedFrames
 pub mod ForeignFrames
+pub mod WordsByLists
 pub mod WrongSums
 pub mod WrongRebuilt
 pub mod NeighborOrigins

@@ -24,6 +24,7 @@ ghost use Rattle.host_machine.specs.Laws.RequestOctets.{PingFramesAreRead, Solic
 ghost use Rattle.host_machine.specs.Laws.ReplyOctets.{ArpRequestsAreAnsweredByOctets, PingsAreAnsweredByOctets};
 ghost use Rattle.host_machine.specs.Laws.Received.{EchoRepliesV6AreQueued, RawPacketsAreQueued, SegmentsAreQueued};
 ghost use Rattle.host_machine.specs.Laws.Service.{ArpRequestsAreAnswered, ClosedPortsAreAnswered, ClosedPortsV6AreAnswered};
+ghost use Rattle.host_machine.specs.Laws.Service.{AdvertisersAreLearnt, ArpSendersAreLearnt};
 ghost use Rattle.host_machine.specs.Laws.Service.{DatagramsAreQueued, DatagramsV6AreQueued, DueIsDone};
 ghost use Rattle.host_machine.specs.Laws.Service.{EchoRepliesAreQueued, FirstDatagramsGo, FirstEchoesGo, FirstPacketsGo};
 ghost use Rattle.host_machine.specs.Laws.Service.{LittleStaysDue, PiecesGo, PingsAreAnswered, PingsV6AreAnswered};
@@ -482,14 +483,15 @@ pub fn polls_end_in_calls()
     ensures { PollsEndInCalls }
 {}
 
-/// So if `poll_at` after such a call names a moment that has passed, there is a pending fragment, the next IGMP report,
+/// So if `poll_at` after such a call names a moment that has passed, there is a pending fragment, an IGMP report that is due,
 /// or a socket with one packet less; or a SLAAC sync is pending, which a poll does.
 pub fn little_stays_due()
     ensures { LittleStaysDue }
 {}
 
 /// So it is after a poll with a budget, without frames received and with every transmit token granted. If something is
-/// still due at a moment that has passed, it is one of these four, where packets are counted from some host.
+/// still due at a moment that has passed, it is one of these four, where packets are counted from the host before the
+/// poll's last call that sends.
 pub fn polls_leave_little()
     ensures { PollsLeaveLittle }
 {}
@@ -508,4 +510,15 @@ pub fn ping_frames_are_read()
 /// So it is with a neighbour solicitation whose only option is the source's link-layer address.
 pub fn solicitation_frames_are_read()
     ensures { SolicitationFramesAreRead }
+{}
+
+/// The sender of an ARP packet to the host, a question or an answer, is a known neighbour after the call that receives it.
+pub fn arp_senders_are_learnt()
+    ensures { ArpSendersAreLearnt }
+{}
+
+/// A neighbour that advertises its own address to the host, with the flag Override, is known after the call that receives
+/// this, and nothing is sent.
+pub fn advertisers_are_learnt()
+    ensures { AdvertisersAreLearnt }
 {}

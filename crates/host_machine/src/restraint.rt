@@ -14,6 +14,7 @@ ghost use Rattle.host_machine.specs.Laws.Restraint.Replies.{AdvertisementsTellIt
 ghost use Rattle.host_machine.specs.Laws.Restraint.Replies.{ErrorsHaveCause, ErrorsV6HaveCause, ResetsHaveCause};
 ghost use Rattle.host_machine.specs.Laws.Restraint.Settings.{FramesKeepSettings, OtherStepsKeepSettings};
 ghost use Rattle.host_machine.specs.Laws.Restraint.Settings.{SendingKeepsSettings};
+ghost use Rattle.host_machine.specs.Laws.Restraint.Words.{WordsAreLists};
 
 /// An IPv4 packet to an address in no list of the host's sends nothing: not assigned, no group of the host, no
 /// broadcast address of an own network, not routed here by AnyIP. It changes nothing but slots for its fragments, and
@@ -174,4 +175,10 @@ pub fn joins_are_told_once()
 /// broadcast address or a group, or a reset.
 pub fn turned_frames_are_ignored()
     ensures { TurnedFramesAreIgnored }
+{}
+
+/// An address of the list is assigned, an address of one host is unicast, the solicited-node group of an own address is the
+/// host's, and a right datagram, segment or message is one: so the laws of service are about them.
+pub fn words_are_lists()
+    ensures { WordsAreLists }
 {}

@@ -158,18 +158,21 @@ until_ends_in (polling.Spent r) some = ends_in r some
 until_ends_in (polling.Done n so last notes_so notes_last mid less r call e f) some =
     record { mid = mid; answer = result.None; front = so; told_last = last; notes_last = notes_last; call = call; behind = e }
 
+-- and so does all that a poll does
+behind_all : {t : ℤ} {new : Host} {told sending : List Event} (receiving : List Event) → told ≡ receiving ++ sending → EndsIn t sending new →
+    EndsIn t told new
+behind_all receiving is e = record {
+  mid = e.mid;
+  answer = e.answer;
+  front = receiving ++ e.front;
+  told_last = e.told_last;
+  notes_last = e.notes_last;
+  call = e.call;
+  behind = is ∙ ap (λ x. receiving ++ x) e.behind ∙ sym (append_assoc receiving e.front e.told_last);
+}
+
 pub polls_end_in_calls : PollsEndInCalls
-polls_end_in_calls t budget answer old new told notes p some =
-    let e = until_ends_in p.sends some in
-    record {
-      mid = e.mid;
-      answer = e.answer;
-      front = p.told_receiving ++ e.front;
-      told_last = e.told_last;
-      notes_last = e.notes_last;
-      call = e.call;
-      behind = p.events ∙ ap (λ x. p.told_receiving ++ x) e.behind ∙ sym (append_assoc p.told_receiving e.front e.told_last);
-    }
+polls_end_in_calls t budget answer old new told notes p some = behind_all p.told_receiving p.events (until_ends_in p.sends some)
 
 -- What stays due behind a poll
 
@@ -222,26 +225,30 @@ synced_waits H h = by (sync_required H.slaac H.moment) where
 
 last_grants : {t : ℤ} {answer : PollResult} {mid new : Host} (front last : List Event) {told : List Event} {notes : List Note} (x : ℤ) →
     Egress t answer mid last notes new → told ≡ front ++ last → all_granted told ≡ true → HasWaits mid →
-    Due (at new t) x → x ≤ℤ t → (m : Host) × IsStillDue (at m t) (at new t)
-last_grants {t} {answer} {mid} {new} front last {told} {notes} x e is all h named le =
-    (mid, little_stays_due t answer mid new last notes x e (given_parts front last (sym (ap all_granted is) ∙ all)).1 h named le)
+    Due (at new t) x → x ≤ℤ t → (m : EndsIn t told new) × IsStillDue (at m.mid t) (at new t)
+last_grants {t} {answer} {mid} {new} front last {told} {notes} x e is all h named le = (
+  record { mid = mid; answer = answer; front = front; told_last = last; notes_last = notes; call = e; behind = is },
+  little_stays_due t answer mid new last notes x e (given_parts front last (sym (ap all_granted is) ∙ all)).1 h named le,
+)
 
 repeats_grants : {t : ℤ} {old new : Host} {n : ℕ} {told : List Event} {notes : List Note} {changed : Bool} (x : ℤ) →
     Repeats (Egress t) result.None is_changed old n told notes new changed → 1 ≤ n → all_granted told ≡ true → HasWaits old →
-    Due (at new t) x → x ≤ℤ t → (m : Host) × IsStillDue (at m t) (at new t)
+    Due (at new t) x → x ≤ℤ t → (m : EndsIn t told new) × IsStillDue (at m.mid t) (at new t)
 repeats_grants x polling.Begins some all h named le = absurd (omega (arith, some))
 repeats_grants x (polling.Again {told_so = so} answer told notes new r call other) some all h named le =
     last_grants so told x call refl all (sends_waits r h) named le
 
 until_grants : {t : ℤ} {budget : ℕ} {changed : Bool} {old new : Host} {told : List Event} {notes : List Note} (x : ℤ) →
     Until (Egress t) result.None is_changed budget changed old told notes new → 1 ≤ budget → all_granted told ≡ true →
-    HasWaits old → Due (at new t) x → x ≤ℤ t → (m : Host) × IsStillDue (at m t) (at new t)
+    HasWaits old → Due (at new t) x → x ≤ℤ t → (m : EndsIn t told new) × IsStillDue (at m.mid t) (at new t)
 until_grants x (polling.Spent r) some all h named le = repeats_grants x r some all h named le
 until_grants x (polling.Done n so last notes_so notes_last mid less r call e f) some all h named le =
     last_grants so last x call e all (sends_waits r h) named le
 
 pub polls_leave_little : PollsLeaveLittle
+unfolding behind_all until_grants
 polls_leave_little t budget answer old new told notes x p some none all h named le =
     let parts = nothing_handed p.told_receiving p.told_sending (sym (ap handed_frames p.events) ∙ none) in
     let given = given_parts p.told_receiving p.told_sending (sym (ap all_granted p.events) ∙ all) in
-    until_grants x p.sends some given.1 (received_waits p.receives parts.0 (synced_waits (without_expired (at old t) t) h)) named le
+    let last = until_grants x p.sends some given.1 (received_waits p.receives parts.0 (synced_waits (without_expired (at old t) t) h)) named le in
+    (behind_all p.told_receiving p.events last.0, last.1)

@@ -191,7 +191,7 @@ datagram_heard {payload = payload} {taken = taken} {frames = frames} source more
     )
 
 pub datagrams_queued : DatagramsAreQueued
-datagrams_queued t old new told own frame r ports octets i s w d heard_by =
+datagrams_queued t old new told own frame r ports octets i s w itself d heard_by =
     let k = v4_of own w d.in_packet.taken d.in_packet.is_packet in
     let H : Host = without_expired old t in
     let mid : Host = met k.source r d.payload H in
@@ -229,7 +229,7 @@ udp_refused {r = r} {H = H} {payload = payload} ports octets (udp.Delivered plac
 udp_refused ports octets (udp.NotAccepted d none rep n e) is values nobody = record { replies = rep; host_is = e }
 
 pub ports_told : ClosedPortsAreAnswered
-ports_told t old new told own frame r ports octets h w d nobody not_accepted reach fits =
+ports_told t old new told own frame r ports octets h w itself d nobody not_accepted reach fits =
     let k = v4_of own w d.in_packet.taken d.in_packet.is_packet in
     let H : Host = without_expired old t in
     let source : HardwareAddress = k.source in

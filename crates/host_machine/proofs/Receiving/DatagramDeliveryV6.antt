@@ -89,7 +89,7 @@ datagrams_v6_queued t old new told own frame r ports octets i s w d heard_by =
 
 -- a closed port
 pub ports_v6_told : ClosedPortsV6AreAnswered
-ports_v6_told t old new told own frame r ports octets h w d to_one nobody not_accepted reach fits =
+ports_v6_told t old new told own frame r ports octets h w itself d to_one nobody not_accepted reach fits =
     let k = v6_of own w d.in_packet.packet.taken d.in_packet.packet.is_packet in
     let H : Host = without_expired old t in
     let source : HardwareAddress = k.source in

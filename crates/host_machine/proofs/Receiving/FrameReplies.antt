@@ -23,6 +23,7 @@ use Rattle.ip_address.specs.Ipv4 as ipv4
 use Rattle.ip_address.specs.EthernetAddress as ethernet_address
 use Rattle.iface_tables.specs.Route.{IsRouter}
 use Rattle.ip_wire.specs.declared.arp.ArpRepr.{ArpRepr}
+use Rattle.ip_wire.specs.declared.arp.ArpOperation.{ArpOperation}
 use Rattle.ip_wire.specs.declared.arp.ArpOperation.TheVariants as operation
 use Rattle.ip_wire.specs.declared.ethernet.EthernetProtocol.{EthernetProtocol}
 use Rattle.ip_wire.specs.declared.ethernet.EthernetProtocol.TheVariants as protocol
@@ -70,7 +71,7 @@ use Rattle.host_machine.specs.Sending.Dispatch as dispatch
 use Rattle.host_machine.specs.Receiving.Response.{Responds}
 use Rattle.host_machine.specs.Polling.Ingress.{Ingress}
 use Rattle.host_machine.specs.Polling.Ingress as ingress
-use Rattle.host_machine.specs.Laws.Service.{RequestFramesAreRead, request_frame, ArpRequestsAreAnswered}
+use Rattle.host_machine.specs.Laws.Service.{RequestFramesAreRead, request_frame, ArpRequestsAreAnswered, ArpSendersAreLearnt}
 use Rattle.host_machine.specs.Laws.Service.{HasPacketV4, HasWay, IsAccepted, IsReached, IsTaken, PingsAreAnswered, Takes, packet_in}
 use Rattle.host_machine.proofs.Receiving.Malformed.{handed_frames-received, handed_frames-sends, sent_frames-sends}
 use Rattle.host_machine.proofs.Polling.EarliestInstant.{hop_is_one}
@@ -336,6 +337,34 @@ arp_served t old new told own frame r w a =
     learnt_found t answered.learns.filled in
     (k.sends_them ∙ went.0, rw (went.2, answered.learns.same) known)
 
+-- whether it asks or answers, its sender is learnt
+record ArpTaught (own : EthernetAddress) (r : ArpRepr) (H : Host) (reply : Option Reply) (new : Host) : Type 0 where
+  learns : LearnsSender H r new
+  replies : reply ≡ answer_by r.operation own r
+
+arp_taught : {own : EthernetAddress} {H new : Host} {payload : List ℕ} {reply : Option Reply} {notes : List Note} (r : ArpRepr) →
+    ProcessesArp own H payload reply notes new → IsArp payload → arp_in payload ≡ r → is_for_us H r ≡ true → ArpTaught own r H reply new
+arp_taught r (arp.Malformed m d) is values hears = absurd (m is)
+arp_taught {H = H} r (arp.NotForUs p l d) is values hears = absurd (clash (ap (is_for_us H) values ∙ hears) l)
+arp_taught {own} {H} {new} r (arp.Learnt p l learns rep n) is values hears = record {
+  learns = subst (λ x. LearnsSender H x new) values learns;
+  replies = rep ∙ ap (λ (x : ArpRepr). answer_by x.operation own x) values;
+}
+
+arp_settled : (own : EthernetAddress) (r : ArpRepr) (K new : Host) (reply : Option Reply) (frames : List (List ℕ)) (more : List Note)
+    (o : ArpOperation) → reply ≡ answer_by o own r → Responds reply K frames more new → new ≡ K
+arp_settled own r K new reply frames more operation.Request e x = (subst (λ y. Responds y K frames more new) e x).2
+arp_settled own r K new reply frames more operation.Reply e x = (subst (λ y. Responds y K frames more new) e x).2
+
+pub arp_teaches : ArpSendersAreLearnt
+arp_teaches t old new told own frame r w a =
+    let k = taken_of protocol.Arp w a.taken in
+    let hears : is_for_us (without_expired old t) r ≡ true = rw (a.target, a.sender, a.sender_hardware, a.near) refl in
+    let taught = arp_taught r k.takes a.is_packet a.values hears in
+    let known : answer_of taught.learns.neighbors (Ipv4 r.source_protocol_addr) t ≡ Found (hardware.Ethernet r.source_hardware_addr) =
+    learnt_found t taught.learns.filled in
+    rw (arp_settled own r k.taken new k.reply k.frames k.more r.operation taught.replies k.responds, taught.learns.same) known
+
 -- a packet to one host
 
 -- a packet that is short enough goes to a known hop, whole
@@ -521,7 +550,7 @@ echo_answered {H} r ident seq_no octets (icmp.Taken i rep n e) is values from to
 }
 
 pub pings_served : PingsAreAnswered
-pings_served t old new told own frame r ident seq_no octets h w p reach fits =
+pings_served t old new told own frame r ident seq_no octets h w itself p reach fits =
     let k = v4_of own w p.in_packet.taken p.in_packet.is_packet in
     let mid : Host = met k.source r p.payload (without_expired old t) in
     let any = packet_served k p.in_packet in

@@ -1,6 +1,7 @@
 -- Frames of IPv6 that ask for something are answered in the call that takes them.
 use Rattle.std.proofs.Common.{◌≡◌, ℕ, ◌+◌, ◌≤◌, ◌==◌, Bool, true, false, List, [], ◌∷◌, length, refl, sym, ◌∙◌, ap, subst, Option, Some, None, arith}
 use Rattle.std.specs.Prelude.{ℤ, ◌&&◌, ◌||◌, not, if◌then◌else◌}
+use Rattle.std.specs.Int.RustNames.{bit_and}
 use Rattle.net_base.specs.Checksum.{ip_mtu_of}
 use Rattle.net_base.specs.Device.{Event}
 use Rattle.ip_address.specs.declared.ethernet_address.EthernetAddress.{EthernetAddress}
@@ -20,9 +21,9 @@ use Rattle.ipv6_wire.specs.Ipv6Packet.{IsIpv6, ipv6_in}
 use Rattle.ipv6_wire.specs.HopByHop.{hop_by_hop_in}
 use Rattle.icmpv6_wire.specs.Icmpv6.{icmpv6_in}
 use Rattle.icmpv6_wire.specs.declared.icmpv6.Icmpv6Repr.TheVariants as icmp
-use Rattle.icmpv6_wire.specs.declared.ndisc.NdiscRepr.TheVariants.{NeighborSolicit}
+use Rattle.icmpv6_wire.specs.declared.ndisc.NdiscRepr.TheVariants.{NeighborAdvert, NeighborSolicit}
 use Rattle.iface_tables.specs.declared.neighbor.Answer.TheVariants.{Found}
-use Rattle.iface_tables.specs.Neighbor.{Neighbors, answer_of, expiry_from, after_renewal}
+use Rattle.iface_tables.specs.Neighbor.{Neighbors, answer_of, expiry_from, is_found, after_renewal}
 use Rattle.host_machine.specs.State.Note.{Note}
 use Rattle.host_machine.specs.State.Host.{Host, at, without_expired, has_ip_addr, in_same_network, is_assigned, is_routed_here, with_neighbors}
 use Rattle.host_machine.specs.State.Addresses.{has_multicast_group, has_solicited_node, is_broadcast, is_for_host, is_loopback, is_unicast}
@@ -36,13 +37,15 @@ use Rattle.host_machine.specs.Receiving.Renewal.{sender_renewed}
 use Rattle.host_machine.specs.Receiving.Icmpv6.{IsMessage, ProcessesIcmpv6, ProcessesMessage, message_back}
 use Rattle.host_machine.specs.Receiving.Icmpv6 as v6
 use Rattle.host_machine.specs.Receiving.Ndisc.{ProcessesNdiscMessage, Learns, LearnsNeighbor, ProcessesNdisc, advertisement_of}
+use Rattle.icmpv6_wire.specs.declared.ndisc.NdiscNeighborFlags.{NdiscNeighborFlags}
 use Rattle.host_machine.specs.Receiving.Ndisc.{is_target, answer_by, solicited_flag, has_no_unicast, usable_lladdr}
+use Rattle.host_machine.specs.Receiving.Ndisc.{advertised_lladdr, has_override}
 use Rattle.host_machine.specs.Receiving.Ndisc as ndisc
 use Rattle.host_machine.specs.Receiving.Ipv6.{ProcessesIpv6, ProcessesPacket, ProcessesHopByHop, ProcessesDatagramV6, ProcessesProtocol}
 use Rattle.host_machine.specs.Receiving.Ipv6 as ip
 use Rattle.host_machine.specs.Sending.Dispatch.{OnLink}
 use Rattle.host_machine.specs.Receiving.Response.{Responds}
-use Rattle.host_machine.specs.Laws.Service.{AfterHeader, AfterOptions, HasPayloadV6, HasWay, IsCarried, IsReached, PingsV6AreAnswered, SolicitationsAreAnswered}
+use Rattle.host_machine.specs.Laws.Service.{AdvertisersAreLearnt, AfterHeader, AfterOptions, HasPayloadV6, HasWay, IsCarried, IsReached, PingsV6AreAnswered, SolicitationsAreAnswered}
 use Rattle.host_machine.proofs.Receiving.FrameReplies.{PacketTaken, clash, goes_whole, hop_as, learnt_found, renewed_found, v6_of, way_by}
 use Rattle.host_machine.proofs.Sending.GrantedEgress.{unicast_for}
 
@@ -268,3 +271,59 @@ solicitations_served t old new told own frame r target h w s fits =
     ) where
       ap_le : {m n : ℕ} → m ≡ n → 72 ≤ n → 72 ≤ m
       ap_le e l = omega (arith, e, l)
+
+-- what an advertisement brings about
+record IsTold (r : Ipv6Repr) (h : EthernetAddress) (H : Host) (reply : Option Reply) (new : Host) : Type 0 where
+  learns : LearnsNeighbor H r.src_addr h new
+  replies : reply ≡ None
+
+told_by : {own : EthernetAddress} {r : Ipv6Repr} {H new : Host} {reply : Option Reply} {notes : List Note} (flags : NdiscNeighborFlags)
+    (target : Ipv6Address) (h : EthernetAddress) →
+    ProcessesNdiscMessage own r H reply notes new (NeighborAdvert flags target (Some h)) → bit_and flags.0 0x20 ≡ 0x20 →
+    ethernet.is_unicast h ≡ true → ipv6.is_unicast target ≡ true → IsTold r h H reply new
+told_by {own} {r} {H} {new} flags target h (ndisc.Advertised _ _ _ learns rep n) over one two =
+    let overrides : has_override flags ≡ true = ap (λ n. n == 0x20) over in
+    let usable : usable_lladdr (Some h) target ≡ Some h = rw (one, two) refl in
+    let told : advertised_lladdr H r flags target (Some h) ≡ Some h =
+    ap (λ b. if b || not (is_found (answer_of H.neighbors (Ipv6 r.src_addr) H.moment)) then usable_lladdr (Some h) target else None) overrides
+    ∙ usable in
+    record {
+      learns = subst (λ o. Learns o r.src_addr H new) told learns;
+      replies = rep;
+    }
+
+ndisc_told : {own : EthernetAddress} {r : Ipv6Repr} {H new : Host} {reply : Option Reply} {notes : List Note} (flags : NdiscNeighborFlags)
+    (target : Ipv6Address) (h : EthernetAddress) → ProcessesNdisc r (NeighborAdvert flags target (Some h)) H reply notes new →
+    r.hop_limit ≡ 255 → H.hardware_addr ≡ hardware.Ethernet own → bit_and flags.0 0x20 ≡ 0x20 →
+    ethernet.is_unicast h ≡ true → ipv6.is_unicast target ≡ true → IsTold r h H reply new
+ndisc_told flags target h (ndisc.FromAfar far d) near on over one two = absurd (let bad : (255 == 255) ≡ false = sym (ap (λ n. n == 255) near) ∙ far in cc)
+ndisc_told flags target h (ndisc.WithoutAddresses none d) near on over one two = absurd cc
+ndisc_told flags target h (ndisc.FromNeighbor other far is m) near on over one two = told_by flags target h m over one two
+
+assigned_for_host : (H : Host) (a : Ipv6Address) → is_assigned H.ip_addrs (Ipv6 a) ≡ true → is_for_host H (Ipv6 a) ≡ true
+assigned_for_host H a given = first_or (is_assigned H.ip_addrs (Ipv6 a)) (H.any_ip && is_routed_here H (Ipv6 a)) (has_multicast_group H (Ipv6 a))
+    (is_broadcast H.ip_addrs (Ipv6 a)) (is_loopback (Ipv6 a)) given
+
+pub advertisers_learnt : AdvertisersAreLearnt
+advertisers_learnt t old new told own frame r flags target h w s =
+    let k = v6_of (hardware.Ethernet own) w s.in_packet.packet.taken s.in_packet.packet.is_packet in
+    let H : Host = without_expired old t in
+    let source : HardwareAddress = k.source in
+    let mid : Host = met source r s.payload H in
+    let K : Host = v6.host_after_delivery r s.payload mid in
+    let any = message_served k s.in_packet (assigned_for_host H r.dst_addr s.for_host) in
+    let same : apart mid old.neighbors ≡ apart (raw.host_after_raw_delivery (repr.Ipv6 r) s.payload H) old.neighbors =
+    met_apart source r s.payload H old.neighbors in
+    let message = message_taken any (subst (λ (x : Host). IsMessage x r s.payload) (sym same) s.is_message) in
+    let heard : ProcessesNdisc r (NeighborAdvert flags target (Some h)) K k.reply k.notes k.taken =
+    subst (λ m. ProcessesMessage r m (icmpv6_in s.payload).1 K k.reply k.notes k.taken) s.values message in
+    let on : K.hardware_addr ≡ hardware.Ethernet own = ap (λ (x : Host). x.hardware_addr) same ∙ w.on_medium in
+    let adv = ndisc_told flags target h heard s.by_neighbor on s.override s.hardware s.target_is_one in
+    let there : Responds None k.taken k.frames k.more new = subst (λ x. Responds x k.taken k.frames k.more new) adv.replies k.responds in
+    let after : new ≡ with_neighbors K adv.learns.neighbors = there.2 ∙ adv.learns.same in
+    let moment : K.moment ≡ t = ap (λ (x : Host). x.moment) same in
+    let known : answer_of adv.learns.neighbors (Ipv6 r.src_addr) K.moment ≡ Found (hardware.Ethernet h) = learnt_found K.moment adv.learns.filled in (
+      k.sends_them ∙ there.0,
+      ap (λ (a : Ipv6Address). answer_of new.neighbors (Ipv6 a) t) (sym s.itself) ∙ (ap (λ (x : Host). answer_of x.neighbors (Ipv6 r.src_addr) t) after
+          ∙ (ap (answer_of adv.learns.neighbors (Ipv6 r.src_addr)) (sym moment) ∙ known)),
+    )

@@ -92,7 +92,7 @@ completes {source} {H} {new} {octets = octets} {reply} {notes} more r f payload 
     (subst (λ y. ProcessesPacket source y (ipv4_in octets).1 H (ipv4_in octets).2 reply notes new) header t)) x may part e
 
 pub rebuilt_queued : RebuiltDatagramsAreQueued
-rebuilt_queued t old new told own frame r ports octets i s w d heard_by =
+rebuilt_queued t old new told own frame r ports octets i s w itself d heard_by =
     let p = d.in_frame in
     let k = v4_of own w p.taken p.is_packet in
     let H : Host = without_expired old t in

@@ -33,7 +33,7 @@ reply_of r ident seq_no octets = Ip (packet.Ipv4 (record {
 }))
 
 pub rebuilt_pings_served : RebuiltPingsAreAnswered
-rebuilt_pings_served t old new told own frame r ident seq_no octets h w p reach fits =
+rebuilt_pings_served t old new told own frame r ident seq_no octets h w itself p reach fits =
     let d = p.in_frame in
     let k = v4_of own w d.taken d.is_packet in
     let H : Host = without_expired old t in

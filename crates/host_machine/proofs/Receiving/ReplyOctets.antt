@@ -1,5 +1,5 @@
 -- Which octets the frames of replies have.
-use Rattle.std.proofs.Common.{◌≡◌, ℕ, ◌+◌, ◌/◌, ◌%◌, ◌*◌, ◌==◌, ◌⊎◌, inl, inr, Bool, true, List, [], ◌∷◌, ◌++◌, length, drop}
+use Rattle.std.proofs.Common.{◌≡◌, ℕ, ◌+◌, ◌-◌, ◌/◌, ◌%◌, ◌*◌, ◌==◌, ◌⊎◌, inl, inr, Bool, true, List, [], ◌∷◌, ◌++◌, length, drop}
 use Rattle.std.proofs.Common.{refl, sym, ◌∙◌, ap, subst, arith}
 use Rattle.std.proofs.lemmas.List.{append-nil}
 use Rattle.std.specs.Prelude.{take, slice_index, if◌then◌else◌}
@@ -45,12 +45,21 @@ between r payload h = let e = ethernet_again.read_again r payload h in record {
 record HeaderOctets (r : Ipv4Repr) (text octets : List ℕ) : Type 0 where
   version : slice_index octets 0 / 16 ≡ 4
   header_len : slice_index octets 0 % 16 * 4 ≡ 20
+  fragment : u16_at octets 6 ≡ 0x4000
   hop_limit : slice_index octets 8 ≡ r.hop_limit
+  long : length octets ≡ 20 + length text
   behind : drop 20 octets ≡ text
 
 header_octets : (summed : Bool) (r : Ipv4Repr) (text : List ℕ) → HeaderOctets r text (ipv4.header_text summed r whole ++ text)
 unfolding front back header_with
-header_octets summed r text = record { version = refl; header_len = refl; hop_limit = refl; behind = refl }
+header_octets summed r text = record {
+  version = refl;
+  header_len = refl;
+  fragment = refl;
+  hop_limit = refl;
+  long = omega arith;
+  behind = refl;
+}
 
 icmp_is : (summed : Bool) (p : PacketV4) (message : Icmpv4Repr) (octets text : List ℕ) → p.payload ≡ Icmpv4 message octets →
     slice_index (ipv4.header_text summed (header_v4 p) whole ++ text) 9 ≡ 1
@@ -130,8 +139,8 @@ reply_fields ident seq_no octets text type e =
     let v = values_are 0 (EchoReply ident seq_no) octets text type e (inr refl) in (v.0, v.1)
 
 pub pings_by_octets : PingsAreAnsweredByOctets
-pings_by_octets t old new told own h frame r ident seq_no octets w p reach f fits short headers messages =
-    let gone = pings_served t old new told (hardware.Ethernet own) frame r ident seq_no octets (hardware.Ethernet h) w p reach fits in
+pings_by_octets t old new told own h frame r ident seq_no octets w itself p reach f fits short headers messages =
+    let gone = pings_served t old new told (hardware.Ethernet own) frame r ident seq_no octets (hardware.Ethernet h) w itself p reach fits in
     let echo : PacketV4 = record {
       src_addr = r.dst_addr;
       dst_addr = r.src_addr;
@@ -160,6 +169,8 @@ pings_by_octets t old new told own h frame r ident seq_no octets w p reach f fit
     } in
     let read = v4_again summed q text headers form len in
     let head = header_octets summed q text in
+    let total : u16_at body 2 - slice_index body 0 % 16 * 4 ≡ q.payload_len =
+    ap (λ (x : Ipv4Repr × Ipv4Fragment × List ℕ). x.0.payload_len) read.1 in
     let it = icmpv4_again.read_again true (is_tx old.capabilities.checksum.icmpv4) summed (EchoReply ident seq_no) octets
     (f.ident_fits, f.seq_no_fits) (λ c. messages) in
     let fields = reply_fields ident seq_no octets text said.type it.1 in
@@ -175,6 +186,8 @@ pings_by_octets t old new told own h frame r ident seq_no octets w p reach f fit
     let back : IsPacketBack (drop 14 frame) body = record {
       version = head.version;
       header_len = head.header_len;
+      total_len = omega (arith, total, head.header_len, read.0.header_fits, head.long, len);
+      fragment = head.fragment;
       hop_limit = head.hop_limit;
       protocol_is = icmp_is summed echo (EchoReply ident seq_no) octets text refl;
       from = ap (λ (x : Ipv4Repr × Ipv4Fragment × List ℕ). x.0.src_addr.bits) read.1
@@ -224,6 +237,8 @@ arp_by_octets t old new told own frame r w a six f =
             (between link (arp.text reply) linked);
         hardware_is = is.hardware;
         protocol_is = is.protocol;
+        hardware_len = is.hardware_len;
+        protocol_len = is.protocol_len;
         operation = is_reply (u16_at (drop 14 octets) 6) is.operation (ap (λ (x : ArpRepr). x.operation) read);
         source_hardware = ap (λ (x : ArpRepr). x.source_hardware_addr.0) read;
         source = ap (λ (x : ArpRepr). x.source_protocol_addr.bits) read

@@ -390,7 +390,7 @@ segment_heard {r = r} {mid} {payload} {taken = taken} {frames = frames} more new
     )
 
 segments_v4_queued : (t : ℤ) (old new : Host) (told : List Event) → QueuesSegments t old told new
-segments_v4_queued t old new told own frame r segment octets i s w d f =
+segments_v4_queued t old new told own frame r segment octets i s w itself d f =
     let k = v4_of own w d.in_packet.taken d.in_packet.is_packet in
     let H : Host = without_expired old t in
     let mid : Host = met k.source r d.payload H in

@@ -22,8 +22,8 @@ use Rattle.host_machine.proofs.Receiving.DatagramDeliveryV6.{datagrams_v6_queued
 use Rattle.host_machine.proofs.Receiving.EchoReplies.{replies_queued, replies_v6_queued}
 use Rattle.host_machine.proofs.Receiving.ForeignFrames.{foreign_dropped, foreign_v6_dropped, frames_for_others_dropped}
 use Rattle.host_machine.proofs.Receiving.ForeignFrames.{unheard, unheard_v6}
-use Rattle.host_machine.proofs.Receiving.FrameReplies.{arp_served, pings_served}
-use Rattle.host_machine.proofs.Receiving.FrameRepliesV6.{pings_v6_served, solicitations_served}
+use Rattle.host_machine.proofs.Receiving.FrameReplies.{arp_served, arp_teaches, pings_served}
+use Rattle.host_machine.proofs.Receiving.FrameRepliesV6.{advertisers_learnt, pings_v6_served, solicitations_served}
 use Rattle.host_machine.proofs.Receiving.LearntNeighbors.{neighbors_came}
 use Rattle.host_machine.proofs.Receiving.RebuiltDelivery.{rebuilt_queued}
 use Rattle.host_machine.proofs.Receiving.RebuiltPings.{rebuilt_pings_served}
@@ -73,7 +73,9 @@ received t answer p i = record {
   frames = ingress_frames t answer p.before p.after p.told p.notes i;
   serves = record {
     arp_requests = arp_served t p.before p.after p.told;
+    arp_senders = arp_teaches t p.before p.after p.told;
     solicitations = solicitations_served t p.before p.after p.told;
+    advertisers = advertisers_learnt t p.before p.after p.told;
     pings = pings_served t p.before p.after p.told;
     rebuilt_pings = rebuilt_pings_served t p.before p.after p.told;
     pings_v6 = pings_v6_served t p.before p.after p.told;

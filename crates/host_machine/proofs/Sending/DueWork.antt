@@ -487,7 +487,7 @@ still_by H new x d same (due.OfRouter i e) le =
     absurd (omega (arith, ints, later, same, le))
 still_by H new x d same (due.OfJoin e) le = absurd (let bad : None ≡ Some x = sym d.joins ∙ e in cc)
 still_by H new x d same (due.OfLeave e) le = absurd (let bad : None ≡ Some x = sym d.leaves_reported ∙ e in cc)
-still_by H new x d same (due.OfIgmpReport e) le = StillReport x e
+still_by H new x d same (due.OfIgmpReport e) le = StillReport x e le
 still_by H new x d same (due.OfMldReport e) le = absurd (later_not (mld_timeout_of new.mld_report) H.moment x d.mld e le)
 still_by H new x d same (due.OfSocket i e) le = StillSocket i (d.sockets i x e le)
 

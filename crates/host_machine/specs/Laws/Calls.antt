@@ -13,6 +13,7 @@ use Rattle.host_machine.specs.Sending.Egress.{Egress}
 use Rattle.host_machine.specs.Polling.Ingress.{Ingress}
 use Rattle.host_machine.specs.Polling.Run.{Transition}
 use Rattle.host_machine.specs.Laws.Service.{AnswersArpRequests, AnswersClosedPorts, AnswersClosedPortsV6}
+use Rattle.host_machine.specs.Laws.Service.{LearnsAdvertisers, LearnsArpSenders}
 use Rattle.host_machine.specs.Laws.Service.{AnswersPings, AnswersPingsV6}
 use Rattle.host_machine.specs.Laws.Service.{AnswersSolicitations, DoesWhatIsDue, QueuesDatagrams, QueuesDatagramsV6}
 use Rattle.host_machine.specs.Laws.Service.{QueuesEchoReplies, SendsFirstDatagrams, SendsFirstEchoes, SendsFirstPackets}
@@ -37,7 +38,9 @@ use Rattle.host_machine.specs.Laws.Restraint.Settings.{KeepsAddressesAndRoutes, 
 -- what a call at t that receives does for others
 pub record ServesOthers (t : ℤ) (old : Host) (told : List Event) (new : Host) : Type 0 where
   pub arp_requests : AnswersArpRequests t old told new
+  pub arp_senders : LearnsArpSenders t old told new
   pub solicitations : AnswersSolicitations t old told new
+  pub advertisers : LearnsAdvertisers t old told new
   pub pings : AnswersPings t old told new
   pub rebuilt_pings : AnswersRebuiltPings t old told new
   pub pings_v6 : AnswersPingsV6 t old told new

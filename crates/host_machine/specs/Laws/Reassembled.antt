@@ -25,7 +25,7 @@ use Rattle.host_machine.specs.Sending.Packet.{Icmpv4}
 use Rattle.host_machine.specs.Sending.Packet as packet
 use Rattle.host_machine.specs.Sending.Frame.{ip_frame}
 use Rattle.host_machine.specs.Laws.Arrivals.{rebuilt}
-use Rattle.host_machine.specs.Laws.Service.{HasWay, IsAccepted, IsAcceptedBy, IsQueued, Takes, packet_in}
+use Rattle.host_machine.specs.Laws.Service.{HasWay, IsAccepted, IsAcceptedBy, IsQueued, IsToItself, Takes, packet_in}
 
 -- the frame carries a fragment with this header and these fields (RFC 791 3.1), from a unicast address, to one assigned
 -- to the host
@@ -57,7 +57,7 @@ abbrev pub QueuesRebuiltDatagrams : ℤ → Host → List Event → Host → Typ
 QueuesRebuiltDatagrams t old told new =
     (own : HardwareAddress) (frame : List ℕ) (r : Ipv4Repr) (ports : UdpRepr) (octets : List ℕ) (i : ℕ)
     (s : UdpSocket) →
-    (w : Takes own t frame old told new) → CompletesDatagram own old frame w.notes r ports octets →
+    (w : Takes own t frame old told new) → IsToItself own frame → CompletesDatagram own old frame w.notes r ports octets →
     IsAcceptedBy old (Ipv4 r.dst_addr) ports octets i s →
     IsQueued (Ipv4 r.src_addr) ports octets i s old new × (sent_frames told ≡ [])
 
@@ -80,7 +80,7 @@ abbrev pub AnswersRebuiltPings : ℤ → Host → List Event → Host → Type 0
 AnswersRebuiltPings t old told new =
     (own : HardwareAddress) (frame : List ℕ) (r : Ipv4Repr) (ident seq_no : ℕ) (octets : List ℕ)
     (h : HardwareAddress) →
-    (w : Takes own t frame old told new) → CompletesPing own old frame w.notes r ident seq_no octets →
+    (w : Takes own t frame old told new) → IsToItself own frame → CompletesPing own old frame w.notes r ident seq_no octets →
     HasWay own (at old t) (Ipv4 r.src_addr) h →
     28 + length octets ≤ ip_mtu_of old.capabilities →
     sent_frames told ≡ ip_frame old h (packet.Ipv4 (record {

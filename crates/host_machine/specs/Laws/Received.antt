@@ -31,7 +31,7 @@ use Rattle.host_machine.specs.State.Host.{Host, is_assigned}
 use Rattle.host_machine.specs.State.Addresses.{is_unicast_v4}
 use Rattle.host_machine.specs.Receiving.Icmpv6.{IsMessage}
 use Rattle.host_machine.specs.Receiving.Tcp.{IsSegment, destination_of, source_of}
-use Rattle.host_machine.specs.Laws.Service.{HasPacketV4, HasPacketV6, HasPayloadV6, IsAccepted, Takes, packet_in}
+use Rattle.host_machine.specs.Laws.Service.{HasPacketV4, HasPacketV6, HasPayloadV6, IsAccepted, IsToItself, Takes, packet_in}
 
 -- Raw packets
 
@@ -130,7 +130,7 @@ abbrev pub QueuesSegments : ℤ → Host → List Event → Host → Type 0
 QueuesSegments t old told new =
     (own : HardwareAddress) (frame : List ℕ) (r : Ipv4Repr) (segment : TcpRepr) (octets : List ℕ) (i : ℕ)
     (s : TcpSocket) →
-    Takes own t frame old told new → HasSegment own old frame r segment octets →
+    Takes own t frame old told new → IsToItself own frame → HasSegment own old frame r segment octets →
     IsFirstFor old (repr.Ipv4 r) segment octets i s →
     HasSegmentLast (repr.Ipv4 r) segment octets i s new × (sent_frames told ≡ [])
 

@@ -15,7 +15,7 @@ use Rattle.ip_wire.specs.declared.ipv4_packet.Ipv4Repr.{Ipv4Repr}
 use Rattle.ip_wire.specs.Arp.{IsPacket}
 use Rattle.ip_wire.specs.Ethernet.{header_in}
 use Rattle.host_machine.specs.State.Host.{Host, at}
-use Rattle.host_machine.specs.Laws.Service.{AsksByArp, IsReached, Pings, Takes}
+use Rattle.host_machine.specs.Laws.Service.{AsksByArp, IsReached, IsToItself, Pings, Takes}
 
 -- a frame from one hardware address to another, with a type
 pub record IsBetweenHosts (source destination : List ℕ) (type : EthernetProtocol) (frame : List ℕ) : Type 0 where
@@ -24,10 +24,12 @@ pub record IsBetweenHosts (source destination : List ℕ) (type : EthernetProtoc
   pub of_type : (header_in frame).ethertype ≡ type
 
 -- a header of IPv4 without options (RFC 791 3.1), for a message of ICMP, from the destination of another packet to its
--- source, with TTL 64 and a right checksum
+-- source, whole and not to be fragmented, with its length, TTL 64 and a right checksum
 pub record IsPacketBack (packet reply : List ℕ) : Type 0 where
   pub version : slice_index reply 0 / 16 ≡ 4
   pub header_len : slice_index reply 0 % 16 * 4 ≡ 20
+  pub total_len : u16_at reply 2 ≡ length reply
+  pub fragment : u16_at reply 6 ≡ 0x4000
   pub hop_limit : slice_index reply 8 ≡ 64
   pub protocol_is : slice_index reply 9 ≡ 1
   pub from : u32_at reply 12 ≡ u32_at packet 16
@@ -67,18 +69,21 @@ abbrev pub PingsAreAnsweredByOctets : Type 0
 PingsAreAnsweredByOctets =
     (t : ℤ) (old new : Host) (told : List Event) (own h : EthernetAddress) (frame : List ℕ) (r : Ipv4Repr)
     (ident seq_no : ℕ) (octets : List ℕ) →
-    Takes (hardware.Ethernet own) t frame old told new → Pings (hardware.Ethernet own) old frame r ident seq_no octets →
+    Takes (hardware.Ethernet own) t frame old told new → IsToItself (hardware.Ethernet own) frame →
+    Pings (hardware.Ethernet own) old frame r ident seq_no octets →
     IsReached (at old t) (Ipv4 r.src_addr) (hardware.Ethernet h) → IsWithinFields own h r ident seq_no →
     28 + length octets ≤ ip_mtu_of old.capabilities → 28 + length octets < 2 ^ 16 →
     is_tx old.capabilities.checksum.ipv4 ≡ true → is_tx old.capabilities.checksum.icmpv4 ≡ true →
     (reply : List ℕ) × (sent_frames told ≡ reply ∷ []) × IsEchoReplyTo own h frame reply
 
--- the frame of the ARP reply to the request in another frame: hardware of Ethernet, protocol IPv4, and the host's
+-- the frame of the ARP reply to the request in another frame: hardware of Ethernet, protocol IPv4, their lengths, and the host's
 -- hardware address for the address that was asked for, to who asked
 pub record IsArpReplyTo (own : EthernetAddress) (frame reply : List ℕ) : Type 0 where
   pub link : IsBetweenHosts own.0 (slice_range (drop 14 frame) 8 14) protocol.Arp reply
   pub hardware_is : u16_at (drop 14 reply) 0 ≡ 1
   pub protocol_is : u16_at (drop 14 reply) 2 ≡ 0x0800
+  pub hardware_len : slice_index (drop 14 reply) 4 ≡ 6
+  pub protocol_len : slice_index (drop 14 reply) 5 ≡ 4
   pub operation : u16_at (drop 14 reply) 6 ≡ 2
   pub source_hardware : slice_range (drop 14 reply) 8 14 ≡ own.0
   pub source : u32_at (drop 14 reply) 14 ≡ u32_at (drop 14 frame) 24

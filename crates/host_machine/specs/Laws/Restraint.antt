@@ -8,3 +8,4 @@ pub mod NextHop
 pub mod Queries
 pub mod SentFrames
 pub mod Settings
+pub mod Words

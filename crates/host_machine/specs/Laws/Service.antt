@@ -2,6 +2,7 @@
 -- what may be sent is sent.
 use Rattle.std.specs.Prelude.{◌≡◌, ◌≢◌, ℕ, ◌+◌, ◌<◌, ◌≤◌, ℤ, pos, ◌≤ℤ◌, ◌<ℤ◌, ◌⊎◌, ◌||◌, ◌&&◌, not, is_some}
 use Rattle.std.specs.Prelude.{Bool, true, false, List, [], ◌∷◌, ◌++◌, length, drop, take, slice_get, Option, Some, None}
+use Rattle.std.specs.Int.RustNames.{bit_and}
 use Rattle.std.specs.List.{list_all}
 use Rattle.net_base.specs.Checksum.{is_rx, ip_mtu_of}
 use Rattle.net_base.specs.Time.{silence_from}
@@ -28,6 +29,7 @@ use Rattle.ipv6_wire.specs.declared.hop_by_hop.Ipv6OptionFailureType.TheVariants
 use Rattle.icmpv6_wire.specs.Icmpv6.{icmpv6_in}
 use Rattle.icmpv6_wire.specs.declared.icmpv6.Icmpv6Repr.TheVariants as icmpv6
 use Rattle.icmpv6_wire.specs.declared.icmpv6.Icmpv6DstUnreachable.TheVariants.{PortUnreachable as PortUnreachableV6}
+use Rattle.icmpv6_wire.specs.declared.ndisc.NdiscNeighborFlags.{NdiscNeighborFlags}
 use Rattle.icmpv6_wire.specs.declared.ndisc.NdiscRepr.TheVariants.{NeighborSolicit, NeighborAdvert}
 use Rattle.ip_wire.specs.declared.arp.ArpRepr.{ArpRepr}
 use Rattle.ip_wire.specs.declared.arp.ArpOperation.TheVariants as operation
@@ -93,6 +95,13 @@ abbrev pub IsAccepted : HardwareAddress → EthernetProtocol → List ℕ → Ty
 IsAccepted (hardware.Ethernet own) type frame = IsTaken own type frame
 IsAccepted hardware.Ip type frame = Unit {0}
 
+-- a frame to the host's own hardware address; where there are none, any frame. What came to all hardware addresses, or to
+-- a group's, is to be dropped unless its packet is to all or to a group, and brings no error (RFC 1122 3.2.2, 3.3.6,
+-- RFC 4443 2.4 e): so the laws of pings, datagrams, segments and errors aren't about it
+abbrev pub IsToItself : HardwareAddress → List ℕ → Type 0
+IsToItself (hardware.Ethernet own) frame = (header_in frame).dst_addr ≡ own
+IsToItself hardware.Ip frame = Unit {0}
+
 -- the packet in it: what follows the frame's header, or the whole frame
 abbrev pub packet_in : HardwareAddress → List ℕ → List ℕ
 packet_in (hardware.Ethernet own) frame = drop 14 frame
@@ -144,6 +153,28 @@ AnswersArpRequests t old told new =
 abbrev pub ArpRequestsAreAnswered : Type 0
 ArpRequestsAreAnswered = (t : ℤ) (old new : Host) (told : List Event) → AnswersArpRequests t old told new
 
+-- an ARP packet with these values, a question or an answer, is for an address assigned to the host, from a unicast sender
+-- in a network of it
+pub record TellsArp (own : EthernetAddress) (addrs : List IpCidr) (frame : List ℕ) (r : ArpRepr) : Type 0 where
+  pub taken : IsTaken own protocol.Arp frame
+  pub is_packet : IsArp (drop 14 frame)
+  pub values : arp_in (drop 14 frame) ≡ r
+  pub target : is_assigned addrs (Ipv4 r.target_protocol_addr) ≡ true
+  pub sender : ipv4.is_unicast r.source_protocol_addr ≡ true
+  pub sender_hardware : ethernet.is_unicast r.source_hardware_addr ≡ true
+  pub near : in_same_network addrs (Ipv4 r.source_protocol_addr) ≡ true
+
+-- its sender is a known neighbour after the call that receives it, so what was asked for is known once it is answered
+-- (RFC 826)
+abbrev pub LearnsArpSenders : ℤ → Host → List Event → Host → Type 0
+LearnsArpSenders t old told new =
+    (own : EthernetAddress) (frame : List ℕ) (r : ArpRepr) →
+    Takes (hardware.Ethernet own) t frame old told new → TellsArp own old.ip_addrs frame r →
+    answer_of new.neighbors (Ipv4 r.source_protocol_addr) t ≡ Found (hardware.Ethernet r.source_hardware_addr)
+
+abbrev pub ArpSendersAreLearnt : Type 0
+ArpSendersAreLearnt = (t : ℤ) (old new : Host) (told : List Event) → LearnsArpSenders t old told new
+
 -- Echo
 
 -- the way to an address is known: its next hop, itself or a gateway, is a neighbour with this hardware address
@@ -185,7 +216,7 @@ abbrev pub AnswersPings : ℤ → Host → List Event → Host → Type 0
 AnswersPings t old told new =
     (own : HardwareAddress) (frame : List ℕ) (r : Ipv4Repr) (ident seq_no : ℕ) (octets : List ℕ)
     (h : HardwareAddress) →
-    Takes own t frame old told new → Pings own old frame r ident seq_no octets →
+    Takes own t frame old told new → IsToItself own frame → Pings own old frame r ident seq_no octets →
     HasWay own (at old t) (Ipv4 r.src_addr) h →
     28 + length octets ≤ ip_mtu_of old.capabilities →
     sent_frames told ≡ ip_frame old h (packet.Ipv4 (record {
@@ -237,7 +268,7 @@ abbrev pub QueuesDatagrams : ℤ → Host → List Event → Host → Type 0
 QueuesDatagrams t old told new =
     (own : HardwareAddress) (frame : List ℕ) (r : Ipv4Repr) (ports : UdpRepr) (octets : List ℕ) (i : ℕ)
     (s : UdpSocket) →
-    Takes own t frame old told new → HasDatagram own old frame r ports octets →
+    Takes own t frame old told new → IsToItself own frame → HasDatagram own old frame r ports octets →
     IsAcceptedBy old (Ipv4 r.dst_addr) ports octets i s →
     IsQueued (Ipv4 r.src_addr) ports octets i s old new × (sent_frames told ≡ [])
 
@@ -250,7 +281,7 @@ abbrev pub AnswersClosedPorts : ℤ → Host → List Event → Host → Type 0
 AnswersClosedPorts t old told new =
     (own : HardwareAddress) (frame : List ℕ) (r : Ipv4Repr) (ports : UdpRepr) (octets : List ℕ)
     (h : HardwareAddress) →
-    Takes own t frame old told new → (d : HasDatagram own old frame r ports octets) →
+    Takes own t frame old told new → IsToItself own frame → (d : HasDatagram own old frame r ports octets) →
     ((k : ℕ) (other : UdpSocket) → slice_get old.sockets.places k ≡ Some (Some (Udp other)) →
     other.endpoint.port ≢ ports.dst_port) →
     raw.is_taken (repr.Ipv4 r) old ≡ false → HasWay own (at old t) (Ipv4 r.src_addr) h →
@@ -537,7 +568,7 @@ abbrev pub AnswersClosedPortsV6 : ℤ → Host → List Event → Host → Type 
 AnswersClosedPortsV6 t old told new =
     (own : HardwareAddress) (frame : List ℕ) (r : Ipv6Repr) (ports : UdpRepr) (octets : List ℕ)
     (h : HardwareAddress) →
-    Takes own t frame old told new → (d : HasDatagramV6 own old frame r ports octets) →
+    Takes own t frame old told new → IsToItself own frame → (d : HasDatagramV6 own old frame r ports octets) →
     ipv6.is_unicast r.dst_addr ≡ true →
     ((k : ℕ) (other : UdpSocket) → slice_get old.sockets.places k ≡ Some (Some (Udp other)) →
     other.endpoint.port ≢ ports.dst_port) →
@@ -585,6 +616,33 @@ AnswersSolicitations t old told new =
 
 abbrev pub SolicitationsAreAnswered : Type 0
 SolicitationsAreAnswered = (t : ℤ) (old new : Host) (told : List Event) → AnswersSolicitations t old told new
+
+-- a neighbour advertises its own address to an address assigned to the host, and gives its hardware address, with the
+-- flag Override, as an answer to a solicitation has it (RFC 4861 4.4, 7.2.4)
+pub record AdvertisesItself (own : EthernetAddress) (H : Host) (frame : List ℕ) (r : Ipv6Repr) (flags : NdiscNeighborFlags)
+    (target : Ipv6Address) (h : EthernetAddress) : Type 0 where
+  pub payload : List ℕ
+  pub in_packet : HasPayloadV6 (hardware.Ethernet own) H frame r ip_protocol.Icmpv6 payload
+  pub is_message : IsMessage H r payload
+  pub values : (icmpv6_in payload).0 ≡ icmpv6.Ndisc (NeighborAdvert flags target (Some h))
+  pub override : bit_and flags.0 0x20 ≡ 0x20
+  pub by_neighbor : r.hop_limit ≡ 255
+  pub itself : r.src_addr ≡ target
+  pub hardware : ethernet.is_unicast h ≡ true
+  pub target_is_one : ipv6.is_unicast target ≡ true
+  pub for_host : is_assigned H.ip_addrs (Ipv6 r.dst_addr) ≡ true
+
+-- it is a known neighbour after the call that receives it, and nothing is sent: so who was asked for is known once it
+-- answers (RFC 4861 7.2.5)
+abbrev pub LearnsAdvertisers : ℤ → Host → List Event → Host → Type 0
+LearnsAdvertisers t old told new =
+    (own : EthernetAddress) (frame : List ℕ) (r : Ipv6Repr) (flags : NdiscNeighborFlags) (target : Ipv6Address)
+    (h : EthernetAddress) → Takes (hardware.Ethernet own) t frame old told new →
+    AdvertisesItself own old frame r flags target h →
+    (sent_frames told ≡ []) × (answer_of new.neighbors (Ipv6 target) t ≡ Found (hardware.Ethernet h))
+
+abbrev pub AdvertisersAreLearnt : Type 0
+AdvertisersAreLearnt = (t : ℤ) (old new : Host) (told : List Event) → LearnsAdvertisers t old told new
 
 -- Nothing stays due
 
@@ -665,11 +723,11 @@ PollsEndInCalls =
     Polls t budget answer old told notes new → 1 ≤ budget → EndsIn t told new
 
 -- what may still be due at a moment after a call that sends: a sync of addresses and routes, which a poll does; a
--- pending fragment; the next IGMP report; and a socket that has one packet less to send
+-- pending fragment; the next IGMP report, whose moment has come; and a socket that has one packet less to send
 pub data IsStillDue (H new : Host) : Type 0 where
   StillLine : sync_poll_at new ≡ Some (pos 0) → IsStillDue H new
   StillPiece : (piece : Piece) (rest : List Piece) → new.left ≡ piece ∷ rest → IsStillDue H new
-  StillReport : (x : ℤ) → igmp_poll_at new ≡ Some x → IsStillDue H new
+  StillReport : (x : ℤ) → igmp_poll_at new ≡ Some x → x ≤ℤ H.moment → IsStillDue H new
   StillSocket : (i : ℕ) → HasOneLess i H new → IsStillDue H new
 
 -- so whatever `poll_at` names after it, at a moment that has passed, is one of these; and if there is none
@@ -699,10 +757,10 @@ RequestFramesAreRead =
     AsksByArp own addrs (request_frame source destination r padding) r
 
 -- after a poll with a budget, without frames received and with every transmit token granted: if something is still due,
--- it is one of these, where packets are counted from some host
+-- it is one of these, where packets are counted from the host before the poll's last call that sends
 abbrev pub PollsLeaveLittle : Type 0
 PollsLeaveLittle =
     (t : ℤ) (budget : ℕ) (answer : PollResult) (old new : Host) (told : List Event) (notes : List Note) (x : ℤ) →
     Polls t budget answer old told notes new → 1 ≤ budget → handed_frames told ≡ [] → all_granted told ≡ true →
     length old.sockets.waits ≡ length old.sockets.places →
-    Due (at new t) x → x ≤ℤ t → (mid : Host) × IsStillDue (at mid t) (at new t)
+    Due (at new t) x → x ≤ℤ t → (last : EndsIn t told new) × IsStillDue (at last.mid t) (at new t)

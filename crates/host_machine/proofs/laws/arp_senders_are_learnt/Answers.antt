@@ -1,0 +1,5 @@
+use Rattle.host_machine.proofs.Receiving.FrameReplies.{arp_teaches}
+use Rattle.host_machine.proofs.laws.arp_senders_are_learnt.Goals as goal
+
+pub returns : goal.returns
+returns c = arp_teaches
