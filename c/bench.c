@@ -1,7 +1,8 @@
 /* Has a host do one thing over and over, so that its instructions can be counted:
  *
  *   bench WORK ROUNDS [SOCKETS]      WORK: arp, echo, deliver (and read), back (delivered, read and sent back), send, next
- *                                    (nothing to send), waiting (the same while each socket waits for a neighbour), poll_at
+ *                                    (nothing to send), waiting (the same while each socket waits for a neighbour), poll_at,
+ *                                    until (poll_at while each socket waits)
  *
  * The socket of the work is the last of SOCKETS, 1 if not given.
  * valgrind --tool=callgrind counts them; the difference of two runs, divided by the rounds between them, is a call's.
@@ -100,8 +101,8 @@ int main(int argc, char **argv) {
     socket = sockets[count - 1];
     must("receive", iface_receive(&host, 0, frame, length, out, sizeof out, &n));
     must("next", iface_next(&host, 0, out, sizeof out, &n)); /* as any program asks, once before all */
-    char work = argv[1][0]; /* arp, echo, deliver, back, send, next, waiting, poll_at */
-    if (work == 'w') wait_all(&host, sockets, count);
+    char work = argv[1][0]; /* arp, echo, deliver, back, send, next, waiting, poll_at, until */
+    if (work == 'w' || work == 'u') wait_all(&host, sockets, count);
     if (work == 'e') length = echo_request();
     if (work == 'd' || work == 'b') length = datagram();
     for (long i = 0; i < rounds; i++) {
@@ -112,7 +113,7 @@ int main(int argc, char **argv) {
         } else if (work == 'n' || work == 'w') {
             must("next", iface_next(&host, 0, out, sizeof out, &n));
             octets += (long)n;
-        } else if (work == 'p') {
+        } else if (work == 'p' || work == 'u') {
             must("poll_at", iface_poll_at(&host, 0, &at));
             octets += at == IFACE_NEVER;
         } else {

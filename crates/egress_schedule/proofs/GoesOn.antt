@@ -36,7 +36,7 @@ use Rattle.egress_schedule.proofs.Ends.{here_set, kept, len_set, other_get, othe
 use Rattle.egress_schedule.proofs.First.{below}
 
 -- an address is the same as itself
-same_itself : (a : IpAddress) → is_same a a ≡ true
+pub same_itself : (a : IpAddress) → is_same a a ≡ true
 same_itself (Ipv4 a) = eq-eqb a.bits a.bits refl
 same_itself (Ipv6 a) = eq-eqb a.bits a.bits refl
 

@@ -5,5 +5,6 @@ mod Apart
 mod Expected
 mod GoesOn
 mod Kept
+mod AllSettled
 mod Unchanged
 mod Unnoted

@@ -13,6 +13,7 @@ pub mod long_packets;
 pub mod patience;
 pub mod queues;
 pub mod schedule;
+pub mod settled;
 pub mod turns;
 pub mod watch;
 

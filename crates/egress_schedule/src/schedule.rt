@@ -3,7 +3,9 @@ ghost use Rattle.std.specs.Prelude.{◌≡◌, true, IfOk, IsSome, IsNone, get_o
 ghost use Rattle.net_base.specs.Time.{IsMoment};
 ghost use Rattle.egress_schedule.specs.Plan.{first_plan, given_up_at, idle, planned};
 ghost use Rattle.egress_schedule.specs.Plan.{waiting_at, with_watch, without_given_up};
+ghost use Rattle.egress_schedule.specs.Patience.{after_look};
 ghost use Rattle.egress_schedule.specs.Rounds.{after_round, before_round, with_long_set_aside, with_turns_taken};
+ghost use Rattle.egress_schedule.specs.Rounds.{with_waits_ended};
 
 use crate::watch::{Waiting, Watch};
 use ip_wire::IpAddress;
@@ -197,6 +199,17 @@ impl Schedule {
     {
         if self.may_have_long {
             self.put_all_back(sockets);
+        }
+        self.end_waits(now, sockets);
+    }
+
+    /// Writes down which sockets wait, lets them all ask again at one instant, and gives up the packets that waited as long
+    /// as the patience.
+    fn end_waits<L: Drop>(&mut self, now: Instant, sockets: &mut SocketSetOf<L>)
+        ensures { planned self.new sockets.new ≡ with_waits_ended now (after_look now (planned self.old sockets.old)) }
+    {
+        if self.is_waiting && self.stays_as_it_is(now, sockets) {
+            return;
         }
         self.look(now, sockets);
         if self.is_waiting {

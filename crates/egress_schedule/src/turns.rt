@@ -17,6 +17,10 @@ impl Schedule {
         requires { IsMoment now }
         ensures { planned self.new sockets.new ≡ spec.after_taking_turns now (planned self.old sockets.old) }
     {
+        // In most rounds no wait is over.
+        if !self.has_over(now) {
+            return;
+        }
         let next = self.next_to_ask(now, sockets);
         let turn = turn_after(self.watches.len(), self.discovery_turn, next);
         self.hold_all(next, now, sockets);

@@ -83,6 +83,8 @@ fn act<O: Owner>(
 
 impl<'a, O: Owner> Network<'a, O> {
     /// A network of these hosts, numbered in this order from 0. It keeps no transmission. It allocates nothing.
+    ///
+    /// What `networks_keep_laws` says is said of hosts in whose devices no frame is queued, and none waits that was sent.
     pub fn new(alloc: Global, hosts: Vec<Host<'a, O>>) -> Network<'a, O>
         ensures { network_of result ≡ record { hosts = hosts.entry.items; forgotten = 0; wire = [] } }
     {
@@ -90,6 +92,15 @@ impl<'a, O: Owner> Network<'a, O> {
             hosts,
             kept: Kept::new(alloc),
         }
+    }
+
+    /// Gives the hosts back, by their numbers, as they are now. What the network keeps is dropped. A program may then add a
+    /// socket to a host, and make a network of them again.
+    pub fn into_hosts(self) -> Vec<Host<'a, O>>
+        ensures { result.items ≡ (network_of self.entry).hosts }
+    {
+        let Network { hosts, kept: _ } = self;
+        hosts
     }
 
     /// The hosts, by their numbers.
