@@ -38,6 +38,7 @@
 #include <stdio.h>
 #include <stdlib.h>
 #include <sys/ioctl.h>
+#include <sys/prctl.h>
 #include <sys/socket.h>
 #include <sys/wait.h>
 #include <time.h>
@@ -283,6 +284,7 @@ static pid_t start(char **words) {
     pid_t child = fork();
     if (child < 0) fail("fork");
     if (child == 0) {
+        prctl(PR_SET_PDEATHSIG, SIGTERM);
         if (form == FRAMES) {
             if (in[0] == 3 ? fcntl(3, F_SETFD, 0) < 0 : dup2(in[0], 3) < 0) fail("descriptor 3");
         } else if (dup2(in[0], 0) < 0 || dup2(out[1], 1) < 0) fail("standard streams");

@@ -83,10 +83,23 @@ static int no_end(struct segment *s) {
     return s->way == TO || !(s->control & FIN);
 }
 
-static int end_without_octets(struct segment *s) {
-    if (s->way == TO || !(s->control & FIN) || s->length == 0) return 1;
-    s->tcp[13] = s->control & (uint8_t)~FIN; /* the end never comes, but all octets do */
+static int end_too_early(struct segment *s) {
+    static unsigned long count;
+    if (!is_data_from(s) || !is_number(&count, 100)) return 1;
+    s->tcp[13] |= FIN;
     mend(s);
+    return 1;
+}
+
+/* What is sent again isn't what was sent before. */
+static int other_octets_again(struct segment *s) {
+    static uint32_t top;
+    static unsigned port;
+    if (!is_data_from(s)) return 1;
+    if (s->port != port) port = s->port, top = s->seq;
+    int32_t ahead = (int32_t)(s->seq + (uint32_t)s->length - top);
+    if (ahead > 0) top += (uint32_t)ahead;
+    else s->payload[0] ^= 0x20, mend(s);
     return 1;
 }
 
@@ -235,7 +248,8 @@ static const struct wrong {
     {"octets-twice", octets_twice},
     {"checksum", no_checksum},
     {"end-missing", no_end},
-    {"last-octets-without-end", end_without_octets},
+    {"end-too-early", end_too_early},
+    {"other-octets-again", other_octets_again},
     {"reset-missing", no_reset},
     {"reset-acknowledges-more", wrong_reset},
     {"reset-with-a-number", other_reset},

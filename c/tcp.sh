@@ -62,6 +62,7 @@ case " $* " in
     there ip link set tap1 up
     nsenter --net="/proc/$other/ns/net" python3 "$here/tcp_peer.py" serve &
     server=$!
+    until there bash -c ': >/dev/tcp/::1/80' 2>/dev/null; do sleep 0.1; done
     OTHER=/proc/$other/ns/net python3 "$here/tcp_peer.py" "$@"
     ;;
 *)

@@ -103,7 +103,7 @@ class Relay:
             end = time.time() + 10
             while subprocess.run(["ping", "-c", "1", "-W", "1", address], capture_output=True, check=False).returncode:
                 if time.time() > end or self.process.poll() is not None:
-                    self.process.kill()
+                    self.process.terminate()
                     raise SystemExit(f"tcp_peer.py: {address} doesn't answer a ping")
         return self
 
@@ -426,8 +426,31 @@ def absent(host):
     shown = ", ".join(f"{gap:.2f}" for gap in gaps)
     wanted(len(gaps) >= 2, f"the answer was sent {len(times)} times in nine seconds")
     wanted(min(gaps) >= 0.15, f"it was sent again too soon: after {shown} s")
-    wanted(all(after > 1.4 * before for before, after in zip(gaps, gaps[1:])), f"the time wasn't doubled: {shown} s")
+    # The first one may be a probe of what was lost last, before the timer (RFC 8985 7).
+    wanted(all(after > 1.4 * before for before, after in zip(gaps[1:], gaps[2:])), f"the time wasn't doubled: {shown} s")
+    wanted(gaps[-1] > 1.4 * gaps[0], f"the time didn't grow: {shown} s")
     return f"sent again after {shown} s; it came {seconds:.2f} s after the peer was back"
+
+
+def distance(a, b):
+    """From one number to another, either way."""
+    return (a - b + 2**31) % 2**32 - 2**31
+
+
+def closed_windows(segments, begin):
+    """How many octets came beyond Linux's closed window, and the probes of either side: with octets, or of numbers that the
+    other side has."""
+    edges, beyond, probes = {True: None, False: None}, 0, {True: [], False: []}
+    for t in segments:
+        edge = edges[not t.is_ours]
+        if t.at > begin and edge is not None:
+            if t.length or distance(t.seq, edge) < 0:
+                probes[t.is_ours].append(t)
+            if not t.is_ours:
+                beyond = max(beyond, distance(t.seq + t.length, edge))
+        if t.control & ACK:
+            edges[t.is_ours] = t.ack if t.window == 0 else None
+    return beyond, probes[False], probes[True]
 
 
 def zero_window(host):
@@ -450,20 +473,13 @@ def zero_window(host):
         got = receive(s, len(sent))
         finish(s)
     wanted(got == sent, f"{len(got)} of {len(sent)} octets came back, or others")
-    edge, beyond = None, 0
-    for t in segments:
-        if t.is_ours and t.window == 0:
-            edge = t.ack
-        elif t.is_ours and t.control & ACK:
-            edge = None
-        elif edge is not None and t.at > begin:
-            beyond = max(beyond, (t.seq + t.length - edge + 2**31) % 2**32 - 2**31)
-    probes = [t.at for t in segments if not t.is_ours and t.at > begin and (t.length or (t.seq - segments[-1].ack) % 2**32)]
-    kernel = [t.at for t in segments if t.is_ours and t.at > begin]
+    beyond, probes, kernels = closed_windows(segments, begin + 1)
     wanted(beyond <= 1, f"{beyond} octets came beyond a closed window")
-    wanted(kernel and len([t for t in segments if not t.is_ours and t.at > begin]) > 1, "there was no probe")
-    wanted(len(probes) <= 2 * seconds, f"{len(probes)} segments came in {seconds} s of a closed window")
-    return f"closed for {seconds} s: {len(probes)} segments came, none with more than an octet beyond; then all {len(sent)} octets"
+    wanted(0 < len(probes) <= seconds, f"{len(probes)} probes came in {seconds} s of a closed window")
+    unanswered = [t for t in kernels if not any(not a.is_ours and t.at <= a.at < t.at + 1 for a in segments)]
+    wanted(not unanswered, f"{len(unanswered)} of Linux's {len(kernels)} probes weren't answered within a second")
+    return (f"closed for {seconds} s: {len(probes)} probes came, none with more than an octet; {len(kernels)} of Linux's were answered; "
+            f"then all {len(sent)} octets")
 
 
 def in_a_row(host):
@@ -632,8 +648,8 @@ CASES = [
 # What a relay does wrong on purpose, and the case that has to see it.
 WRONGS = [
     ("refuses", "one-octet"), ("only-ipv4", "one-octet"), ("end-missing", "one-octet"),
-    ("one-octet", "transfer"), ("octets-twice", "transfer"), ("checksum", "transfer"), ("last-octets-without-end", "transfer"),
-    ("window-stays-closed", "transfer"), ("acknowledged-unread", "transfer"),
+    ("one-octet", "transfer"), ("octets-twice", "transfer"), ("checksum", "transfer"), ("end-too-early", "transfer"),
+    ("window-stays-closed", "transfer"), ("acknowledged-unread", "transfer"), ("other-octets-again", "loss-5"),
     ("half-close-resets", "half-close"), ("end-not-acknowledged", "simultaneous-close"),
     ("reset-missing", "refused"), ("reset-acknowledges-more", "refused"), ("reset-with-a-number", "refused"),
     ("deaf-to-resets", "killed"), ("impatient", "absent"), ("no-probe", "zero-window"), ("window-ignored", "zero-window"),
@@ -698,6 +714,7 @@ def main():
     if sys.argv[1:] == ["serve"]:
         serve()
     plan = read_plan()
+    signal.signal(signal.SIGTERM, lambda *_: sys.exit(2))
     begin = time.time()
     if plan.kind == "wrong":
         plan.megabytes, plan.zero, plan.patience = 2, 8, 4
