@@ -199,12 +199,17 @@ static void carry_frames(int way, int in) {
     }
 }
 
+static int digit(char c) {
+    return c >= '0' && c <= '9' ? c - '0' : c >= 'a' && c <= 'f' ? c - 'a' + 10 : c >= 'A' && c <= 'F' ? c - 'A' + 10 : -1;
+}
+
 /* What the program wrote: a frame, a moment, or something for who reads along. */
 static void take_line(const char *line) {
     static uint8_t frame[LONGEST];
-    int length = 0, used = 0;
+    int length = 0;
     long long at;
-    while (length < LONGEST && sscanf(line + 2 * length, "%2hhx%n", &frame[length], &used) == 1 && used == 2) length++;
+    for (const char *c = line; length < LONGEST && digit(c[0]) >= 0 && digit(c[1]) >= 0; c += 2)
+        frame[length++] = (uint8_t)(digit(c[0]) << 4 | digit(c[1]));
     if (length >= 14 && line[2 * length] == 0) carry(FROM, frame, length);
     else if (strcmp(line, "at never") == 0) told_at = NEVER;
     else if (sscanf(line, "at %lld", &at) == 1) told_at = at;

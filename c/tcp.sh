@@ -33,7 +33,7 @@ if [ -z "${IS_INSIDE:-}" ]; then
     for tool in unshare nsenter ip ping python3; do
         command -v "$tool" >/dev/null || need "$tool"
     done
-    make -s -C "$here" build/relay
+    make -s -C "$here" UNPROVED= TARGET= build/relay
     exec env IS_INSIDE=1 unshare -n -- "$0" "$@"
 fi
 

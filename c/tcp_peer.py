@@ -420,7 +420,7 @@ def absent(host):
             seconds = time.time() - back
             finish(s)
     finally:
-        subprocess.run(["ip", "addr", "del", own + ("/64" if host.family == 6 else "/24"), "dev", "tap0"], check=False)
+        subprocess.run(["ip", "addr", "del", own + ("/64" if host.family == 6 else "/24"), "dev", "tap0"], capture_output=True, check=False)
     times = [t.at for t in wire.of(port, False) if t.length and begin < t.at < back]
     gaps = [after - before for before, after in zip(times, times[1:])]
     shown = ", ".join(f"{gap:.2f}" for gap in gaps)

@@ -6,7 +6,7 @@
 #include <stddef.h>
 #include <stdint.h>
 
-enum { MOST_CONNECTIONS = 10000 };
+enum { MOST_CONNECTIONS = 10016 };
 
 void host_new(void);
 
