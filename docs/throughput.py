@@ -19,7 +19,7 @@ import sys
 
 from plots import picture, text
 
-WIDTH, HEIGHT, LEFT, RIGHT, TOP, BOTTOM = 900, 500, 80, 40, 96, 70
+WIDTH, HEIGHT, LEFT, APART, RIGHT, TOP, BOTTOM = 900, 500, 80, 220, 60, 96, 70
 
 
 class Bad(Exception):
@@ -45,8 +45,8 @@ def read(lines):
         raise Bad("mss and rtt have to be told, and 'each' is 1 or 2")
     if min(settings.values()) <= 0 or not all(0 <= loss < 100 and min(found) > 0 for loss, found in measured.items()):
         raise Bad("a loss is from 0 to 100, and everything else above 0")
-    if len(measured) < 2:
-        raise Bad("there are fewer than two losses")
+    if sum(loss > 0 for loss in measured) < 2:
+        raise Bad("there are fewer than two losses above 0")
     return settings, dict(sorted(measured.items()))
 
 
@@ -62,20 +62,23 @@ def means(measured):
 
 
 class Scale:
-    """Places in the picture: losses across, and throughputs up by their logarithm."""
+    """Places in the picture: losses across and bits a second up, both by their logarithm; no loss stands apart at the left."""
 
     def __init__(self, settings, measured):
-        self.most = max(measured)
+        self.losses = [loss for loss in measured if loss > 0]
         values = [value for found in measured.values() for value in found]
-        values += [formula(settings, loss) for loss in measured if loss > 0]
-        self.low, self.high = math.floor(math.log10(min(values))), math.ceil(math.log10(max(values)))
+        values += [formula(settings, loss) for loss in self.losses]
+        self.low, self.high = math.floor(math.log10(8 * min(values))), math.ceil(math.log10(8 * max(values)))
         self.high += self.high == self.low
 
     def across(self, loss):
-        return LEFT + 20 + (WIDTH - LEFT - 20 - RIGHT) * loss / self.most
+        if loss == 0:
+            return LEFT + 40
+        least, most = math.log(self.losses[0]), math.log(self.losses[-1])
+        return APART + (WIDTH - RIGHT - APART) * (math.log(loss) - least) / (most - least)
 
     def down(self, value):
-        return HEIGHT - BOTTOM - (HEIGHT - TOP - BOTTOM) * (math.log10(value) - self.low) / (self.high - self.low)
+        return HEIGHT - BOTTOM - (HEIGHT - TOP - BOTTOM) * (math.log10(8 * value) - self.low) / (self.high - self.low)
 
 
 def shown(value):
@@ -101,16 +104,16 @@ def draw(settings, measured):
         '<rect class="p1" x="140" y="66" width="14" height="4"/>', text(160, 73, "Mathis et al., 1997"),
     ]
     for power in range(scale.low, scale.high + 1):
-        y = scale.down(10.0**power)
+        y = scale.down(10.0**power / 8)
         parts.append(f'<line class="grid" x1="{LEFT}" y1="{y:.1f}" x2="{WIDTH - RIGHT}" y2="{y:.1f}"/>')
-        parts.append(text(LEFT - 8, y + 4, shown(10.0**power), "axis", "end"))
+        parts.append(text(LEFT - 8, y + 4, shown(10.0**power / 8), "axis", "end"))
     for loss in measured:
         parts.append(text(scale.across(loss), HEIGHT - BOTTOM + 22, f"{loss:g}", "axis", "middle"))
-    parts.append(text((LEFT + WIDTH - RIGHT) / 2, HEIGHT - 16, "loss in percent", "axis", "middle"))
-    least = min(loss for loss in measured if loss > 0)
-    steps = [least + (scale.most - least) * i / 200 for i in range(201)]
-    parts.append(line(scale, [(loss, formula(settings, loss)) for loss in steps], "c1", ' stroke-dasharray="6 4"'))
-    parts.append(line(scale, means(measured).items(), "c0"))
+    parts.append(text((LEFT + WIDTH - RIGHT) / 2, HEIGHT - 16, "loss in percent, by its logarithm; no loss stands apart", "axis", "middle"))
+    # By logarithms the formula is a straight line.
+    parts.append(line(scale, [(loss, formula(settings, loss)) for loss in (scale.losses[0], scale.losses[-1])], "c1",
+                      ' stroke-dasharray="6 4"'))
+    parts.append(line(scale, [(loss, means(measured)[loss]) for loss in scale.losses], "c0"))
     for loss, found in measured.items():
         parts += [f'<circle class="p0" cx="{scale.across(loss):.1f}" cy="{scale.down(value):.1f}" r="4"/>' for value in found]
         parts.append(text(scale.across(loss), scale.down(max(found)) - 10, shown(means(measured)[loss]), "value", "middle"))
@@ -124,20 +127,21 @@ def test():
     assert round(formula(made, 1)) == 178_813 and round(2 * formula(made, 4)) == 178_813
     assert formula(made, 0) is None
     assert math.isclose(formula({**made, "each": 2.0}, 1) * math.sqrt(2), formula(made, 1))
-    lines = ["# made", "mss 1460", "rtt 100000 # 100 ms", "each 1", "", "4 89406", "0 1000000", "1 170000", "1 187626"]
+    lines = ["# made", "mss 1460", "rtt 100000 # 100 ms", "each 1", "", "4 89406", "0 1000000", "1 170000", "1 187626", "2 126440"]
     settings, measured = read(lines)
-    assert settings == made and list(measured) == [0, 1, 4] and measured[1] == [170_000, 187_626]
-    assert means(measured) == {0: 1_000_000, 1: 178_813, 4: 89_406}
+    assert settings == made and list(measured) == [0, 1, 2, 4] and measured[1] == [170_000, 187_626]
+    assert means(measured) == {0: 1_000_000, 1: 178_813, 2: 126_440, 4: 89_406}
     scale = Scale(settings, measured)
-    assert (scale.low, scale.high) == (4, 6)
-    assert scale.down(1e6) == TOP and scale.down(1e4) == HEIGHT - BOTTOM and scale.down(1e5) == (TOP + HEIGHT - BOTTOM) / 2
-    assert scale.across(4) == WIDTH - RIGHT and scale.across(2) == (scale.across(0) + scale.across(4)) / 2
+    assert (scale.low, scale.high) == (5, 7)
+    assert scale.down(1.25e6) == TOP and scale.down(1.25e4) == HEIGHT - BOTTOM and scale.down(1.25e5) == (TOP + HEIGHT - BOTTOM) / 2
+    assert scale.across(1) == APART and scale.across(4) == WIDTH - RIGHT and scale.across(2) == (APART + WIDTH - RIGHT) / 2
     drawn = draw(settings, measured)
-    curve = drawn.split('class="line c1"')[1].split('points="')[1].split('"')[0].split()
-    points = drawn.split('class="line c0"')[1].split('points="')[1].split('"')[0].split()
-    assert len(curve) == 201 and len(points) == 3 and drawn.count("<circle") == 4
-    assert curve[0] == points[1] and curve[-1] == points[2], "a point by the formula isn't on its curve"
-    for bad in (["mss 1460"], lines[:4] + ["1 5"], lines + ["5"], lines + ["x 1"], lines + ["100 1"], lines + ["1 0"],
+    line_of, points = (drawn.split(f'class="line {kind}"')[1].split('points="')[1].split('"')[0].split() for kind in ("c1", "c0"))
+    assert len(line_of) == 2 and len(points) == 3 and drawn.count("<circle") == 5
+    assert line_of == [points[0], points[2]], "a point by the formula isn't on its line"
+    (_, begin), (_, middle), (_, end) = (map(float, point.split(",")) for point in points)
+    assert abs(begin + end - 2 * middle) < 0.2, "points by the formula aren't on one line"
+    for bad in (["mss 1460"], lines[:4] + ["0 5", "1 5"], lines + ["5"], lines + ["x 1"], lines + ["100 1"], lines + ["1 0"],
                 ["mss 0"] + lines[2:], lines + ["each 3"]):
         try:
             read(bad)
