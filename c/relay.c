@@ -54,6 +54,7 @@ struct way {
     double loss, repeat, reorder; /* chances, from 0 to 1 */
     int64_t delay, hold;
     uint64_t random;
+    int64_t first, last; /* moments of frames that were delivered */
     unsigned long frames, octets, lost, repeated, held, crowded;
 };
 
@@ -166,8 +167,13 @@ static void deliver(int way, const uint8_t *frame, int length) {
     int is_taken;
     if (way == TO && form != FRAMES) is_taken = write_line(now_micros(), frame, length);
     else is_taken = write(way == TO ? to_program : device, frame, (size_t)length) == length;
-    if (is_taken) w->frames++, w->octets += (unsigned long)length;
-    else w->crowded++;
+    if (!is_taken) {
+        w->crowded++;
+        return;
+    }
+    w->last = now_micros();
+    if (w->frames++ == 0) w->first = w->last;
+    w->octets += (unsigned long)length;
 }
 
 /* Carries a frame that came, now or later. */
@@ -323,10 +329,12 @@ static void set(struct way *w, const char *words) {
     if (*words) fprintf(stderr, "relay: %s: what is that?\n", words), exit(2);
 }
 
-static void tell(const char *what, const struct way *w, double seconds) {
-    printf("%s: %lu frames, %lu octets, %.0f frames a second, %.1f Mbit/s; %lu lost, %lu repeated, %lu held back, %lu without room\n",
-           what, w->frames, w->octets, (double)w->frames / seconds, (double)w->octets * 8e-6 / seconds, w->lost, w->repeated,
-           w->held, w->crowded);
+/* What was carried between the first frame and the last one. */
+static void tell(const char *what, const struct way *w) {
+    double seconds = (double)(w->last - w->first + 1) * 1e-6;
+    printf("%s: %lu frames, %lu octets in %.2f s, %.0f a second, %.1f Mbit/s; %lu lost, %lu repeated, %lu held back, %lu without room\n",
+           what, w->frames, w->octets, seconds, (double)w->frames / seconds, (double)w->octets * 8e-6 / seconds, w->lost,
+           w->repeated, w->held, w->crowded);
 }
 
 int main(int argc, char **argv) {
@@ -354,10 +362,10 @@ int main(int argc, char **argv) {
     device = open_device(argv[optind], NULL);
     pid_t child = other ? 0 : start(argv + optind + 1);
     if (other) to_program = from_program = open_device(other, namespace);
-    int64_t begin = now_micros();
+    now_micros(); /* moments count from here */
     run();
-    double seconds = (double)(now_micros() - begin + 1) * 1e-6;
-    tell("to", &ways[TO], seconds), tell("from", &ways[FROM], seconds);
+    tell("to", &ways[TO]), tell("from", &ways[FROM]);
+    printf("%.2f s of a processor\n", (double)clock() / CLOCKS_PER_SEC);
     if (child == 0) return 0;
     if (has_ended) fprintf(stderr, "relay: the program ended\n");
     close(to_program), close(from_program);

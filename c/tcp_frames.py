@@ -1,0 +1,167 @@
+"""Frames at Linux's side of tcp.sh: the segments that pass on tap0, and a flood of SYNs."""
+import array
+import collections
+import selectors
+import socket
+import struct
+import subprocess
+import threading
+import time
+
+ECHO = 7
+FIN, SYN, RST, ACK = 1, 2, 4, 16
+
+
+# The wire at tap0.
+
+Segment = collections.namedtuple("Segment", "at is_ours ours own seq ack control window length")
+
+
+def read_segment(at, is_ours, frame):
+    """The segment in a frame, or None. `ours` is Linux's port, `own` the program's."""
+    kind = frame[12:14]
+    if kind == b"\x08\x00" and len(frame) >= 54 and frame[23] == 6:
+        header, whole = (frame[14] & 15) * 4, int.from_bytes(frame[16:18], "big")
+    elif kind == b"\x86\xdd" and len(frame) >= 74 and frame[20] == 6:
+        header, whole = 40, 40 + int.from_bytes(frame[18:20], "big")
+    else:
+        return None
+    source, to, seq, ack, offset, control, window = struct.unpack_from("!HHIIBBH", frame, 14 + header)
+    ports = (source, to) if is_ours else (to, source)
+    return Segment(at, is_ours, *ports, seq, ack, control, window, whole - header - (offset >> 4) * 4)
+
+
+class Wire:
+    """The segments that pass on tap0 meanwhile."""
+
+    def __enter__(self):
+        self.segments, self.is_over = [], False
+        self.device = socket.socket(socket.AF_PACKET, socket.SOCK_RAW, socket.htons(3))
+        self.device.setsockopt(socket.SOL_SOCKET, 33, 1 << 25)  # SO_RCVBUFFORCE
+        self.device.bind(("tap0", 0))
+        self.device.settimeout(0.1)
+        self.thread = threading.Thread(target=self.watch)
+        self.thread.start()
+        return self
+
+    def watch(self):
+        while not self.is_over:
+            try:
+                frame, (_, _, kind, _, _) = self.device.recvfrom(65536)
+            except TimeoutError:
+                continue
+            if segment := read_segment(time.time(), kind == 4, frame):  # 4: PACKET_OUTGOING
+                self.segments.append(segment)
+
+    def __exit__(self, *_):
+        self.is_over = True
+        self.thread.join()
+        self.device.close()
+
+    def of(self, port, is_ours):
+        """The segments of one way of the connection that has this port of Linux."""
+        return [s for s in self.segments if s.ours == port and s.is_ours == is_ours]
+
+
+def distance(a, b):
+    """From one number to another, either way."""
+    return (a - b + 2**31) % 2**32 - 2**31
+
+
+def closed_windows(segments, begin):
+    """How many octets came beyond Linux's closed window, and the probes of either side: with octets, or of numbers that the
+    other side has."""
+    edges, beyond, probes = {True: None, False: None}, 0, {True: [], False: []}
+    for t in segments:
+        edge = edges[not t.is_ours]
+        if t.at > begin and edge is not None:
+            if t.length or distance(t.seq, edge) < 0:
+                probes[t.is_ours].append(t)
+            if not t.is_ours:
+                beyond = max(beyond, distance(t.seq + t.length, edge))
+        if t.control & ACK:
+            edges[t.is_ours] = t.ack if t.window == 0 else None
+    return beyond, probes[False], probes[True]
+
+
+# The flood.
+
+def checksum(octets):
+    total = sum(struct.unpack(f"!{len(octets) // 2}H", octets))
+    while total >> 16:
+        total = (total & 0xffff) + (total >> 16)
+    return ~total & 0xffff
+
+
+def flood_address(family, i):
+    return socket.inet_pton(socket.AF_INET, f"192.168.69.{128 + i % 100}") if family == 4 \
+        else socket.inet_pton(socket.AF_INET6, f"fd69::f:{i % 100:x}")
+
+
+SHAM = bytes([2, 0, 0, 0, 15, 15])
+
+
+def flood_frame(host, hardware, i):
+    """A SYN to the service from an address of nobody's."""
+    source, to = flood_address(host.family, i), socket.inet_pton(socket.AF_INET6 if host.family == 6 else socket.AF_INET, host.address)
+    syn = struct.pack("!HHIIBBHHHBBH", 1024 + i // 100 % 60000, ECHO, i * 2654435761 % 2**32, 0, 0x60, SYN, 65535, 0, 0, 2, 4, 1460)
+    syn = syn[:16] + struct.pack("!H", checksum(source + to + struct.pack("!HH", 6, len(syn)) + syn)) + syn[18:]
+    if host.family == 6:
+        return hardware + SHAM + b"\x86\xdd" + struct.pack("!IHBB", 6 << 28, len(syn), 6, 64) + source + to + syn
+    header = struct.pack("!BBHHHBBH", 0x45, 0, 20 + len(syn), 0, 0x4000, 64, 6, 0) + source + to
+    return hardware + SHAM + b"\x08\x00" + header[:10] + struct.pack("!H", checksum(header)) + header[12:] + syn
+
+
+def answer_for_nobody(is_over):
+    """Answers who asks for the hardware addresses of a flood's sources, so that what is sent to them has a way."""
+    arp = socket.socket(socket.AF_PACKET, socket.SOCK_RAW, socket.htons(0x0806))
+    ndisc = socket.socket(socket.AF_PACKET, socket.SOCK_RAW, socket.htons(0x86dd))
+    # Only ICMPv6: the octet 20 of a frame is 58 (classic BPF, SO_ATTACH_FILTER).
+    code = array.array("B", struct.pack("HBBIHBBIHBBIHBBI", 0x30, 0, 0, 20, 0x15, 0, 1, 58, 6, 0, 0, 65536, 6, 0, 0, 0))
+    ndisc.setsockopt(socket.SOL_SOCKET, 26, struct.pack("HL", 4, code.buffer_info()[0]))
+    chosen = selectors.DefaultSelector()
+    for s in (arp, ndisc):
+        s.bind(("tap0", 0))
+        chosen.register(s, selectors.EVENT_READ)
+    of_flood = {flood_address(family, i) for family in (4, 6) for i in range(100)}
+    while not is_over.is_set():
+        for key, _ in chosen.select(0.1):
+            frame = key.fileobj.recv(2048)
+            if key.fileobj is arp and frame[20:22] == b"\0\1" and frame[38:42] in of_flood:
+                arp.send(frame[6:12] + SHAM + frame[12:20] + b"\0\2" + SHAM + frame[38:42] + frame[22:32])
+            elif key.fileobj is ndisc and len(frame) >= 78 and frame[54] == 135 and frame[62:78] in of_flood:
+                message = struct.pack("!BBHI", 136, 0, 0, 0x60000000) + frame[62:78] + b"\2\1" + SHAM
+                addresses = frame[62:78] + frame[22:38]
+                total = checksum(addresses + struct.pack("!II", len(message), 58) + message)
+                ndisc.send(frame[6:12] + SHAM + b"\x86\xdd" + struct.pack("!IHBB", 6 << 28, len(message), 58, 255) + addresses
+                           + message[:2] + struct.pack("!H", total) + message[4:])
+
+
+class Flood(threading.Thread):
+    """Sends so many SYNs to the service, at so many a second."""
+
+    def __init__(self, host, count, rate):
+        super().__init__(daemon=True)
+        self.host, self.count, self.rate, self.sent, self.is_over = host, count, rate, 0, threading.Event()
+
+    def run(self):
+        try:
+            self.send()
+        finally:
+            self.is_over.set()
+
+    def send(self):
+        told = subprocess.run(["ip", "neigh", "show", self.host.address, "dev", "tap0"], capture_output=True, text=True, check=True).stdout
+        hardware = bytes.fromhex(told.split("lladdr ")[1].split()[0].replace(":", ""))
+        frames = [flood_frame(self.host, hardware, i) for i in range(self.count)]
+        with socket.socket(socket.AF_PACKET, socket.SOCK_RAW) as device:
+            device.bind(("tap0", 0))
+            begin = time.time()
+            for i, frame in enumerate(frames):
+                while i % 100 == 0 and time.time() < begin + i / self.rate:
+                    time.sleep(0.001)
+                try:
+                    device.send(frame)
+                    self.sent += 1
+                except OSError:
+                    time.sleep(0.001)  # the device is full: as good as lost
