@@ -55,9 +55,9 @@ static void mend(const struct segment *s) {
     put_16(s->tcp + 16, checksum_of(sum, s->tcp, length));
 }
 
-/* Whether this is the n-th thing of its kind that has come. */
-static int is_number(unsigned long *count, unsigned long n) {
-    return ++*count == n;
+/* Whether so many things of a kind have come: of these each n-th one, since one of them may be lost afterwards. */
+static int is_turn(unsigned long *count, unsigned long n) {
+    return ++*count % n == 0;
 }
 
 static int is_data_from(const struct segment *s) {
@@ -68,7 +68,7 @@ static int is_data_from(const struct segment *s) {
 
 static int one_octet(struct segment *s) {
     static unsigned long count;
-    if (!is_data_from(s) || !is_number(&count, 100)) return 1;
+    if (!is_data_from(s) || !is_turn(&count, 100)) return 1;
     s->payload[s->length / 2] ^= 0x20;
     mend(s);
     return 1;
@@ -85,7 +85,7 @@ static int no_end(struct segment *s) {
 
 static int end_too_early(struct segment *s) {
     static unsigned long count;
-    if (!is_data_from(s) || !is_number(&count, 100)) return 1;
+    if (!is_data_from(s) || !is_turn(&count, 100)) return 1;
     s->tcp[13] |= FIN;
     mend(s);
     return 1;
@@ -173,7 +173,7 @@ static int octets_twice(struct segment *s) {
     static size_t length;
     static unsigned long count;
     if (!is_data_from(s)) return 1;
-    if (s->length == length && length > 16 && ++count == 50) memcpy(s->payload, last, length), mend(s);
+    if (s->length == length && length > 16 && is_turn(&count, 50)) memcpy(s->payload, last, length), mend(s);
     length = s->length;
     memcpy(last, s->payload, length);
     return 1;
@@ -200,9 +200,9 @@ static int acknowledged_unread(struct segment *s) {
     static unsigned long count;
     static uint32_t seq, length;
     static unsigned port;
-    if (s->way == TO && s->length > 1000 && is_number(&count, 100)) seq = s->seq, length = (uint32_t)s->length, port = s->port;
+    if (s->way == TO && s->length > 1000 && ++count == 100) seq = s->seq, length = (uint32_t)s->length, port = s->port;
     if (length == 0 || s->port != port) return 1;
-    if (s->way == TO) return s->seq != seq || s->length == 0;
+    if (s->way == TO) return (int32_t)(s->seq - seq) >= (int32_t)length || (int32_t)(s->seq + (uint32_t)s->length - seq) <= 0;
     if (s->ack == seq) put_32(s->tcp + 8, seq + length), mend(s);
     return 1;
 }
