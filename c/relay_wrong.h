@@ -240,6 +240,26 @@ static int impatient(struct segment *s) {
     return is_data_from(s) ? 3 : 1;
 }
 
+static int edge_goes_back(struct segment *s) {
+    static unsigned long count;
+    if (s->way == FROM && !(s->control & (SYN | RST)) && is_turn(&count, 50))
+        put_16(s->tcp + 14, get_16(s->tcp + 14) / 2u), mend(s);
+    return 1;
+}
+
+static int acknowledges_too_much(struct segment *s) {
+    static unsigned long count;
+    if (is_data_from(s) && is_turn(&count, 50)) put_32(s->tcp + 8, s->ack + 1000000), mend(s);
+    return 1;
+}
+
+/* Octets are sent, and others in their place before the peer has taken these: its checksum keeps the first ones out. */
+static int changes_its_mind(struct segment *s) {
+    static unsigned long count;
+    if (is_data_from(s) && is_turn(&count, 50)) s->payload[0] ^= 0x20;
+    return 1;
+}
+
 static const struct wrong {
     const char *name;
     int (*spoil)(struct segment *);
@@ -267,6 +287,9 @@ static const struct wrong {
     {"drowned", drowned},
     {"only-ipv4", only_ipv4},
     {"impatient", impatient},
+    {"edge-goes-back", edge_goes_back},
+    {"acknowledges-too-much", acknowledges_too_much},
+    {"changes-its-mind", changes_its_mind},
 };
 
 static const struct wrong *wrong;

@@ -11,7 +11,7 @@ import subprocess
 import threading
 import time
 
-from tcp_frames import ACK, ECHO, FIN, RST, Flood, Wire, answer_for_nobody, closed_windows
+from tcp_frames import ACK, ECHO, FIN, RST, Flood, Wire, answer_for_nobody, broken_promises, closed_windows
 
 HTTP, NOBODY = 80, 4444
 
@@ -70,6 +70,12 @@ def read_some(s, most=1 << 16):
         raise Wrong(f"while reading: {error}") from error
 
 
+def send_in_pieces(s, octets):
+    """Sends octets, each piece within the patience."""
+    for at in range(0, len(octets), 10_000):
+        s.sendall(octets[at:at + 10_000])
+
+
 def wants_end(s):
     wanted(read_some(s, 1) == b"", "octets came after the last one")
 
@@ -123,8 +129,7 @@ def transfer(host):
             for _ in range(count):
                 block = source.randbytes(1_000_000)
                 sent.update(block)
-                for at in range(0, len(block), 10_000):  # each within the patience
-                    s.sendall(block[at:at + 10_000])
+                send_in_pieces(s, block)
             s.shutdown(socket.SHUT_WR)
         except OSError:
             pass  # the reader tells why
@@ -140,7 +145,8 @@ def transfer(host):
     s.close()
     wanted(length == count * 1_000_000, f"{length} octets came back")
     wanted(sent.digest() == got.digest(), "other octets came back: their sha256 differs")
-    return f"{count} MB each way in {seconds:.2f} s, {8 * count / seconds:.1f} Mbit/s each way, sha256 equal; Linux sent {again} segments again"
+    speed = f"{count} MB each way in {seconds:.2f} s, {8 * count / seconds:.1f} Mbit/s each way"
+    return f"{speed}, sha256 equal; Linux sent {again} segments again"
 
 
 PAGES = {}
@@ -326,6 +332,31 @@ def zero_window(host):
             f"then all {len(sent)} octets")
 
 
+def restraint(host):
+    """Some frames are lost, and the reader is slow, so that its window closes at times. On the wire the program never sends
+    other octets under a number, beyond the window, acknowledges what wasn't sent, or takes back the edge of its own window."""
+    octets = random.Random(11).randbytes(2_000_000)
+    with Wire() as wire:
+        s = host.connect(room=20_000)
+        port = s.getsockname()[1]
+        sender = threading.Thread(target=lambda: (send_in_pieces(s, octets), s.shutdown(socket.SHUT_WR)), daemon=True)
+        sender.start()
+        got = bytearray()
+        while data := read_some(s, 50_000):
+            got += data
+            if len(got) // 100_000 != (len(got) - len(data)) // 100_000:
+                time.sleep(0.05)
+        s.close()
+        time.sleep(0.3)
+        segments = [t for t in wire.segments if t.ours == port]
+    wanted(got == octets, f"{len(got)} of {len(octets)} octets came back, or others")
+    broken = list(broken_promises(segments, octets))
+    wanted(not broken, f"{len(broken)} times, first {broken[:1]}")
+    closed = sum(t.is_ours and t.window == 0 for t in segments)
+    theirs = sum(not t.is_ours for t in segments)
+    return f"{theirs} segments of the program's keep what was promised; Linux's window was closed {closed} times"
+
+
 def in_a_row(host):
     count, begin, slowest = 1000, time.time(), 0.0
     for i in range(count):
@@ -335,7 +366,8 @@ def in_a_row(host):
         finish(s)
         slowest = max(slowest, time.time() - since)
     seconds = time.time() - begin
-    return f"{count} connections, 64 octets each way, in {seconds:.2f} s: {count / seconds:.0f} a second, the slowest {slowest * 1000:.0f} ms"
+    speed = f"{count / seconds:.0f} a second, the slowest {slowest * 1000:.0f} ms"
+    return f"{count} connections, 64 octets each way, in {seconds:.2f} s: {speed}"
 
 
 def at_once(host):
@@ -367,7 +399,8 @@ def at_once(host):
                     s.close()
     wrong = sum(a != b for a, b in zip(octets, got))
     wanted(wrong == 0, f"other octets came back in {wrong} of {count} connections")
-    return f"{count} at once, connected in {connected:.2f} s; {length} octets each way in each, all over after {time.time() - begin:.2f} s"
+    told = f"{count} at once, connected in {connected:.2f} s"
+    return f"{told}; {length} octets each way in each, all over after {time.time() - begin:.2f} s"
 
 
 def flood(host):

@@ -14,7 +14,17 @@ FIN, SYN, RST, ACK = 1, 2, 4, 16
 
 # The wire at tap0.
 
-Segment = collections.namedtuple("Segment", "at is_ours ours own seq ack control window length")
+Segment = collections.namedtuple("Segment", "at is_ours ours own seq ack control window length scale octets")
+
+
+def read_scale(options):
+    """The shift of a window's option, or None if it isn't there (RFC 7323 2.2)."""
+    while options and options[0] != 0:
+        length = 1 if options[0] == 1 else options[1]
+        if options[0] == 3:
+            return options[2]
+        options = options[length:]
+    return None
 
 
 def read_segment(at, is_ours, frame):
@@ -28,7 +38,10 @@ def read_segment(at, is_ours, frame):
         return None
     source, to, seq, ack, offset, control, window = struct.unpack_from("!HHIIBBH", frame, 14 + header)
     ports = (source, to) if is_ours else (to, source)
-    return Segment(at, is_ours, *ports, seq, ack, control, window, whole - header - (offset >> 4) * 4)
+    begin = 14 + header + (offset >> 4) * 4
+    octets = frame[begin:14 + whole]
+    scale = read_scale(frame[34 + header:begin]) if control & SYN else None
+    return Segment(at, is_ours, *ports, seq, ack, control, window, len(octets), scale, octets)
 
 
 class Wire:
@@ -96,6 +109,36 @@ def checksum(octets):
 def flood_address(family, i):
     return socket.inet_pton(socket.AF_INET, f"192.168.69.{128 + i % 100}") if family == 4 \
         else socket.inet_pton(socket.AF_INET6, f"fd69::f:{i % 100:x}")
+
+
+def broken_promises(segments, octets):
+    """What the program may not do, in a connection in which it sends these octets: in words, each that it did."""
+    syns = {t.is_ours: t for t in segments if t.control & SYN}
+    scaled = all(t.scale is not None for t in syns.values())
+    shift = {is_ours: syn.scale if scaled else 0 for is_ours, syn in syns.items()}
+    begin, top = syns[False].seq + 1, syns[True].seq + 1
+    edges = {True: None, False: None}  # the highest ones that were promised
+    for t in segments:
+        if t.control & SYN:
+            continue
+        edge = t.ack + (t.window << shift[t.is_ours])
+        known = edges[t.is_ours]
+        if t.is_ours:
+            top = max((top, t.seq + t.length + (t.control & FIN)), key=lambda n: distance(n, syns[True].seq))
+        else:
+            at = distance(t.seq, begin)
+            if distance(t.ack, top) > 0:
+                yield f"it acknowledges {distance(t.ack, top)} octets that weren't sent"
+            if known is not None and distance(edge, known) <= -(1 << shift[False]):
+                yield f"the edge of its window goes back by {distance(known, edge)}"
+            if edges[True] is not None and distance(t.seq + t.length, edges[True]) > 1:
+                yield f"it sends {distance(t.seq + t.length, edges[True])} octets beyond the window"
+            if t.octets != octets[at:at + t.length] and t.length:
+                yield f"it sends other octets from number {at}"
+            if t.control & RST:
+                yield "it resets"
+        if known is None or distance(edge, known) > 0:
+            edges[t.is_ours] = edge
 
 
 SHAM = bytes([2, 0, 0, 0, 15, 15])

@@ -119,6 +119,7 @@ CASES = [
     Case("killed", "", cases.killed),
     Case("absent", "delay=50", cases.absent),
     Case("zero-window", "", cases.zero_window),
+    Case("restraint", "loss=1", cases.restraint),
     Case("in-a-row", "", cases.in_a_row),
     Case("at-once", "", cases.at_once),
     Case("flood", "", cases.flood),
@@ -132,6 +133,7 @@ WRONGS = [
     ("half-close-resets", "half-close"), ("end-not-acknowledged", "simultaneous-close"),
     ("reset-missing", "refused"), ("reset-acknowledges-more", "refused"), ("reset-with-a-number", "refused"),
     ("deaf-to-resets", "killed"), ("impatient", "absent"), ("no-probe", "zero-window"), ("window-ignored", "zero-window"),
+    ("edge-goes-back", "restraint"), ("acknowledges-too-much", "restraint"), ("changes-its-mind", "restraint"),
     ("few-in-all", "in-a-row"), ("few-at-once", "at-once"), ("crossed", "at-once"), ("drowned", "flood"),
 ]
 
