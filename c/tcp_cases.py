@@ -423,6 +423,7 @@ def flood(host):
     exchange(kept, b"after")
     finish(kept)
     one_octet(host)
+    wanted(slowest < 8, f"{made} connections beside the flood, but one took {slowest:.1f} s: more than its SYN sent three times")
     wanted(flooder.sent > 0.9 * flooder.count, f"only {flooder.sent} SYNs were sent, so the case says nothing")
     return (f"{flooder.sent} SYNs in {seconds:.1f} s: {made} connections beside them, the slowest {slowest * 1000:.0f} ms; "
             f"one went on, {made * 10_000} octets")

@@ -1,6 +1,6 @@
 /* lwIP for the same as examples/freestanding.c: UDP, raw and ICMP over both families, on Ethernet, with fragments,
  * groups and addresses from routers, without threads, TCP or statistics. With -DLWIP_TCP=1 it is that of tcp.sh: TCP with
- * windows that never stop what is measured, and memory for 10,000 connections. */
+ * windows that stop nothing that is measured, and memory for 10,016 connections. */
 #define NO_SYS 1
 #define LWIP_TIMERS 1
 #define SYS_LIGHTWEIGHT_PROT 0

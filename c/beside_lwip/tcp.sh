@@ -3,7 +3,8 @@
 # the return, without the program that calls them and the peer. Each is the difference of two runs, divided by the rounds.
 #
 #   tcp.sh SOURCE                 the unpacked source of lwIP 2.1.3, as of `apt-get source lwip` on Debian 12
-#   tcp.sh SOURCE build FOLDER    just builds tcp_bench and tcp_echo, which is a stand-in for ../tcp.sh, into a folder
+#   tcp.sh SOURCE build FOLDER    just builds into a folder: tcp_bench; tcp_echo, which is a stand-in for ../tcp.sh; tcp_script,
+#                                 which prints the frames and calls of tcp_bench
 #
 # It needs a C compiler and valgrind.
 set -eu
@@ -19,6 +20,7 @@ build() { # build PROGRAM FLAG.. -- FILE..
         "$source"/src/core/ipv4/*.c "$source"/src/core/ipv6/*.c "$source/src/netif/ethernet.c" -o "$work/$program"
 }
 build tcp_bench -DLWIP_IPV6=0 "$here/tcp_bench.c" "$here/tcp_lwip.c"
+${CC:-cc} -O2 "$here/tcp_bench.c" "$here/tcp_script.c" -o "$work/tcp_script"
 build tcp_echo -DLWIP_IPV6=1 -DTCP_WND=65535 "$here/tcp_echo.c"
 [ $# = 1 ] || exit 0
 
@@ -32,6 +34,6 @@ for run in receive send echo echo:100 echo:10000 connect connect:100 connect:100
 $run
 END
     rounds=${ROUNDS:-1000}
-    first=$(count "$what" $((2 * rounds)) ${connections:-1})
-    echo "$run $(((first - $(count "$what" "$rounds" ${connections:-1})) / rounds))"
+    first=$(count "$what" $((2 * rounds)) "${connections:-1}")
+    echo "$run $(((first - $(count "$what" "$rounds" "${connections:-1}")) / rounds))"
 done
