@@ -260,6 +260,14 @@ static int changes_its_mind(struct segment *s) {
     return 1;
 }
 
+/* It takes a reset of any number, as RFC 5961 3 says that it must not. */
+static int believes_resets(struct segment *s) {
+    static uint32_t expected[65536];
+    if (s->way == FROM && s->control & ACK) expected[s->port] = s->ack;
+    if (s->way == TO && s->control & RST && expected[s->port]) put_32(s->tcp + 4, expected[s->port]), s->tcp[13] = RST, mend(s);
+    return 1;
+}
+
 static const struct wrong {
     const char *name;
     int (*spoil)(struct segment *);
@@ -287,6 +295,7 @@ static const struct wrong {
     {"drowned", drowned},
     {"only-ipv4", only_ipv4},
     {"impatient", impatient},
+    {"believes-resets", believes_resets},
     {"edge-goes-back", edge_goes_back},
     {"acknowledges-too-much", acknowledges_too_much},
     {"changes-its-mind", changes_its_mind},

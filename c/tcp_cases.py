@@ -11,7 +11,8 @@ import subprocess
 import threading
 import time
 
-from tcp_frames import ACK, ECHO, FIN, RST, Flood, Wire, answer_for_nobody, broken_promises, closed_windows
+from tcp_frames import (ACK, ECHO, FIN, OWN, RST, Flood, Wire, address_of, answer_for_nobody, any_segment, broken_promises,
+                        closed_windows, frame_of, hardware_of, own_hardware)
 
 HTTP, NOBODY = 80, 4444
 
@@ -427,3 +428,41 @@ def flood(host):
     wanted(flooder.sent > 0.9 * flooder.count, f"only {flooder.sent} SYNs were sent, so the case says nothing")
     return (f"{flooder.sent} SYNs in {seconds:.1f} s: {made} connections beside them, the slowest {slowest * 1000:.0f} ms; "
             f"one went on, {made * 10_000} octets")
+
+
+def memory_of(pid):
+    """What a process may write to by itself, in kB; None without a process."""
+    if pid is None:
+        return None
+    with open(f"/proc/{pid}/status", encoding="ascii") as lines:
+        return next(int(line.split()[1]) for line in lines if line.startswith("VmData"))
+
+
+def fuzz(host):
+    """Segments of any values, and the connection beside them goes on: those in it are far beyond its windows."""
+    drawn, count = random.Random(host.plan.seed), 20_000
+    source, to, hardware, own = address_of(OWN[host.family]), address_of(host.address), hardware_of(host.address), own_hardware()
+    with Wire() as wire:
+        s = host.connect()
+        exchange(s, b"before")
+        port = s.getsockname()[1]
+        time.sleep(0.2)
+        number = wire.of(port, True)[-1].seq
+    before = memory_of(host.plan.pid)
+    with socket.socket(socket.AF_PACKET, socket.SOCK_RAW) as device:
+        device.bind(("tap0", 0))
+        for i in range(count):
+            try:
+                device.send(frame_of(hardware, own, source, to, any_segment(drawn, source, to, (port, number))))
+            except OSError:
+                time.sleep(0.001)
+            if i % 1000 == 0:
+                exchange(s, drawn.randbytes(100))
+    exchange(s, b"after")
+    finish(s)
+    one_octet(host)
+    after = memory_of(host.plan.pid)
+    more = 0 if before is None else after - before
+    wanted(more <= 1000, f"the program took {more} kB more")
+    memory = "" if before is None else f"; the program took {more} kB more"
+    return f"{count} segments of any values, and a connection went on beside them{memory}"

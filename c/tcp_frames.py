@@ -9,6 +9,7 @@ import threading
 import time
 
 ECHO = 7
+OWN = {4: "192.168.69.100", 6: "fd69::100"}
 FIN, SYN, RST, ACK = 1, 2, 4, 16
 
 
@@ -144,15 +145,62 @@ def broken_promises(segments, octets):
 SHAM = bytes([2, 0, 0, 0, 15, 15])
 
 
+def address_of(text):
+    return socket.inet_pton(socket.AF_INET6 if ":" in text else socket.AF_INET, text)
+
+
+def hardware_of(address):
+    """The Ethernet address of a neighbour."""
+    told = subprocess.run(["ip", "neigh", "show", address, "dev", "tap0"], capture_output=True, text=True, check=True).stdout
+    return bytes.fromhex(told.split("lladdr ")[1].split()[0].replace(":", ""))
+
+
+def own_hardware():
+    told = subprocess.run(["ip", "-o", "link", "show", "tap0"], capture_output=True, text=True, check=True).stdout
+    return bytes.fromhex(told.split("link/ether ")[1].split()[0].replace(":", ""))
+
+
+def with_checksum(source, to, segment):
+    """A segment with its checksum, which stands in octets 16 and 17."""
+    segment = segment[:16] + b"\0\0" + segment[18:]
+    padded = segment + bytes(len(segment) % 2)
+    total = checksum(source + to + struct.pack("!II", len(segment), 6) + padded)
+    return segment[:16] + struct.pack("!H", total) + segment[18:]
+
+
+def frame_of(hardware, own, source, to, segment):
+    """A frame with a packet of protocol 6."""
+    if len(source) == 16:
+        return hardware + own + b"\x86\xdd" + struct.pack("!IHBB", 6 << 28, len(segment), 6, 64) + source + to + segment
+    header = struct.pack("!BBHHHBBH", 0x45, 0, 20 + len(segment), 0, 0x4000, 64, 6, 0) + source + to
+    return hardware + own + b"\x08\x00" + header[:10] + struct.pack("!H", checksum(header)) + header[12:] + segment
+
+
 def flood_frame(host, hardware, i):
     """A SYN to the service from an address of nobody's."""
-    source, to = flood_address(host.family, i), socket.inet_pton(socket.AF_INET6 if host.family == 6 else socket.AF_INET, host.address)
-    syn = struct.pack("!HHIIBBHHHBBH", 1024 + i // 100 % 60000, ECHO, i * 2654435761 % 2**32, 0, 0x60, SYN, 65535, 0, 0, 2, 4, 1460)
-    syn = syn[:16] + struct.pack("!H", checksum(source + to + struct.pack("!HH", 6, len(syn)) + syn)) + syn[18:]
-    if host.family == 6:
-        return hardware + SHAM + b"\x86\xdd" + struct.pack("!IHBB", 6 << 28, len(syn), 6, 64) + source + to + syn
-    header = struct.pack("!BBHHHBBH", 0x45, 0, 20 + len(syn), 0, 0x4000, 64, 6, 0) + source + to
-    return hardware + SHAM + b"\x08\x00" + header[:10] + struct.pack("!H", checksum(header)) + header[12:] + syn
+    source, to = flood_address(host.family, i), address_of(host.address)
+    port, number = 1024 + i // 100 % 60000, i * 2654435761 % 2**32
+    syn = struct.pack("!HHIIBBHHHBBH", port, ECHO, number, 0, 0x60, SYN, 65535, 0, 0, 2, 4, 1460)
+    return frame_of(hardware, SHAM, source, to, with_checksum(source, to, syn))
+
+
+def any_segment(drawn, source, to, kept):
+    """A segment of any values: to any port, or in the connection of the port `kept`, whose peer's next number is `number`, and
+    far beyond its windows."""
+    port, number = kept
+    is_kept = drawn.random() < 0.3
+    ports = (port, ECHO) if is_kept else (drawn.choice([n for n in (1, 80, 9999, drawn.randrange(65536)) if n != port]),
+                                          drawn.choice([ECHO, 80, drawn.randrange(65536)]))
+    seq = (number + drawn.randrange(2**30, 3 * 2**30)) % 2**32 if is_kept else drawn.getrandbits(32)
+    options = drawn.randbytes(4 * drawn.randrange(11))
+    offset = 5 + len(options) // 4 if drawn.random() < 0.8 else drawn.randrange(16)
+    control = drawn.choice([SYN, RST, FIN | ACK, ACK, SYN | ACK, RST | ACK, drawn.randrange(256)])
+    header = struct.pack("!HHIIBBHHH", *ports, seq, drawn.getrandbits(32), offset << 4, control, drawn.getrandbits(16),
+                         drawn.getrandbits(16), drawn.getrandbits(16))
+    segment = header + options + drawn.randbytes(drawn.choice([0, 0, 1, 7, 536, 1400]))
+    if drawn.random() < 0.05 and not is_kept:
+        return segment[:drawn.randrange(1, 20)]
+    return with_checksum(source, to, segment) if drawn.random() < 0.9 else segment
 
 
 def answer_for_nobody(is_over):
@@ -194,8 +242,7 @@ class Flood(threading.Thread):
             self.is_over.set()
 
     def send(self):
-        told = subprocess.run(["ip", "neigh", "show", self.host.address, "dev", "tap0"], capture_output=True, text=True, check=True).stdout
-        hardware = bytes.fromhex(told.split("lladdr ")[1].split()[0].replace(":", ""))
+        hardware = hardware_of(self.host.address)
         frames = [flood_frame(self.host, hardware, i) for i in range(self.count)]
         with socket.socket(socket.AF_PACKET, socket.SOCK_RAW) as device:
             device.bind(("tap0", 0))

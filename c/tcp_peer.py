@@ -93,6 +93,11 @@ class Relay:
                     raise SystemExit(f"tcp_peer.py: {address} doesn't answer a ping")
         return self
 
+    def program(self):
+        """Its process, if it has one."""
+        with open(f"/proc/{self.process.pid}/task/{self.process.pid}/children", encoding="ascii") as text:
+            return next(iter(text.read().split()), None)
+
     def __exit__(self, kind, *_):
         has_ended = self.process.poll() is not None
         self.process.terminate()
@@ -123,6 +128,7 @@ CASES = [
     Case("in-a-row", "", cases.in_a_row),
     Case("at-once", "", cases.at_once),
     Case("flood", "", cases.flood),
+    Case("fuzz", "", cases.fuzz),
 ]
 
 # What a relay does wrong on purpose, and the case that has to see it.
@@ -135,6 +141,7 @@ WRONGS = [
     ("deaf-to-resets", "killed"), ("impatient", "absent"), ("no-probe", "zero-window"), ("window-ignored", "zero-window"),
     ("edge-goes-back", "restraint"), ("acknowledges-too-much", "restraint"), ("changes-its-mind", "restraint"),
     ("few-in-all", "in-a-row"), ("few-at-once", "at-once"), ("crossed", "at-once"), ("drowned", "flood"),
+    ("believes-resets", "fuzz"),
 ]
 
 
@@ -160,11 +167,14 @@ def try_case(case, plan, wrong=None):
     if reason := missing(case, plan):
         print(f"not run  {case.name}: {reason}", flush=True)
         return True
-    with Relay(plan, case.does, wrong):
+    with Relay(plan, case.does, wrong) as relay:
+        plan.pid = relay.program()
         for family in plan.addresses:
             signal.alarm(LONGEST)
             try:
                 told, word = case.run(Host(plan, family)), "ok"
+            except (FileNotFoundError, PermissionError):
+                raise  # that isn't the program's doing
             except (Wrong, OSError, subprocess.TimeoutExpired) as error:
                 told, word, is_well = str(error), "FAILED", False
             signal.alarm(0)
