@@ -412,14 +412,17 @@ def flood(host):
     threading.Thread(target=answer_for_nobody, args=(flooder.is_over,), daemon=True).start()
     flooder.start()
     made, slowest, begin = 0, 0.0, time.time()
-    while not flooder.is_over.is_set() or made == 0:
-        since = time.time()
-        s = host.connect()
-        exchange(s, made.to_bytes(4, "big"))
-        finish(s)
-        made, slowest = made + 1, max(slowest, time.time() - since)
-        exchange(kept, random.Random(made).randbytes(10_000))
-        time.sleep(0.01)
+    try:
+        while not flooder.is_over.is_set() or made == 0:
+            since = time.time()
+            s = host.connect()
+            exchange(s, made.to_bytes(4, "big"))
+            finish(s)
+            made, slowest = made + 1, max(slowest, time.time() - since)
+            exchange(kept, random.Random(made).randbytes(10_000))
+            time.sleep(0.01)
+    finally:
+        flooder.stop()
     seconds = time.time() - begin
     exchange(kept, b"after")
     finish(kept)

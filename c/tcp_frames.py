@@ -234,6 +234,11 @@ class Flood(threading.Thread):
     def __init__(self, host, count, rate):
         super().__init__(daemon=True)
         self.host, self.count, self.rate, self.sent, self.is_over = host, count, rate, 0, threading.Event()
+        self.is_stopped = False
+
+    def stop(self):
+        self.is_stopped = True
+        self.join()
 
     def run(self):
         try:
@@ -248,6 +253,8 @@ class Flood(threading.Thread):
             device.bind(("tap0", 0))
             begin = time.time()
             for i, frame in enumerate(frames):
+                if self.is_stopped:
+                    return
                 while i % 100 == 0 and time.time() < begin + i / self.rate:
                     time.sleep(0.001)
                 try:
