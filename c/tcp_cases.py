@@ -333,9 +333,14 @@ def zero_window(host):
             f"then all {len(sent)} octets")
 
 
-def restraint(host):
-    """Some frames are lost, and the reader is slow, so that its window closes at times. On the wire the program never sends
-    other octets under a number, beyond the window, acknowledges what wasn't sent, or takes back the edge of its own window."""
+def restraint_of_lossy(host):
+    """The same where frames are lost."""
+    return restraint(host, is_lossy=True)
+
+
+def restraint(host, is_lossy=False):
+    """The reader is slow, so that its window closes at times. On the wire the program never sends other octets under a number,
+    beyond the window, acknowledges what wasn't sent, or takes back the edge of its own window."""
     octets = random.Random(11).randbytes(2_000_000)
     with Wire() as wire:
         s = host.connect(room=20_000)
@@ -351,7 +356,7 @@ def restraint(host):
         time.sleep(0.3)
         segments = [t for t in wire.segments if t.ours == port]
     wanted(got == octets, f"{len(got)} of {len(octets)} octets came back, or others")
-    broken = list(broken_promises(segments, octets))
+    broken = list(broken_promises(segments, octets, is_lossy))
     wanted(not broken, f"{len(broken)} times, first {broken[:1]}")
     closed = sum(t.is_ours and t.window == 0 for t in segments)
     theirs = sum(not t.is_ours for t in segments)

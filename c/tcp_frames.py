@@ -112,17 +112,23 @@ def flood_address(family, i):
         else socket.inet_pton(socket.AF_INET6, f"fd69::f:{i % 100:x}")
 
 
-def broken_promises(segments, octets):
-    """What the program may not do, in a connection in which it sends these octets: in words, each that it did."""
+def broken_promises(segments, octets, is_lossy):
+    """What the program may not do, in a connection in which it sends these octets: in words, each that it did.
+
+    A window is told from what is acknowledged. Where Linux sends something again, it acknowledges more under a lesser number,
+    which by RFC 9293 3.10.7.4 moves SND.UNA and not SND.WND. So on a lossy link the edge is the widest window after that."""
     syns = {t.is_ours: t for t in segments if t.control & SYN}
     scaled = all(t.scale is not None for t in syns.values())
     shift = {is_ours: syn.scale if scaled else 0 for is_ours, syn in syns.items()}
     begin, top = syns[False].seq + 1, syns[True].seq + 1
     edges = {True: None, False: None}  # the highest ones that were promised
+    widest = 0
     for t in segments:
         if t.control & SYN:
             continue
-        edge = t.ack + (t.window << shift[t.is_ours])
+        if t.is_ours:
+            widest = max(widest, t.window << shift[True])
+        edge = t.ack + (widest if t.is_ours and is_lossy else t.window << shift[t.is_ours])
         known = edges[t.is_ours]
         if t.is_ours:
             top = max((top, t.seq + t.length + (t.control & FIN)), key=lambda n: distance(n, syns[True].seq))

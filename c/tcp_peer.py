@@ -124,7 +124,8 @@ CASES = [
     Case("killed", "", cases.killed),
     Case("absent", "delay=50", cases.absent),
     Case("zero-window", "", cases.zero_window),
-    Case("restraint", "loss=1", cases.restraint),
+    Case("restraint", "", cases.restraint),
+    Case("restraint-loss-1", "loss=1", cases.restraint_of_lossy),
     Case("in-a-row", "", cases.in_a_row),
     Case("at-once", "", cases.at_once),
     # Before the flood: after that Linux's SYN cookies bring a connection back that was reset and has echoed all that came.
