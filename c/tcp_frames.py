@@ -98,20 +98,6 @@ def closed_windows(segments, begin):
     return beyond, probes[False], probes[True]
 
 
-# The flood.
-
-def checksum(octets):
-    total = sum(struct.unpack(f"!{len(octets) // 2}H", octets))
-    while total >> 16:
-        total = (total & 0xffff) + (total >> 16)
-    return ~total & 0xffff
-
-
-def flood_address(family, i):
-    return socket.inet_pton(socket.AF_INET, f"192.168.69.{128 + i % 100}") if family == 4 \
-        else socket.inet_pton(socket.AF_INET6, f"fd69::f:{i % 100:x}")
-
-
 def broken_promises(segments, octets, is_lossy):
     """What the program may not do, in a connection in which it sends these octets: in words, each that it did.
 
@@ -146,6 +132,20 @@ def broken_promises(segments, octets, is_lossy):
                 yield "it resets"
         if known is None or distance(edge, known) > 0:
             edges[t.is_ours] = edge
+
+
+# The flood, and segments of any values.
+
+def checksum(octets):
+    total = sum(struct.unpack(f"!{len(octets) // 2}H", octets))
+    while total >> 16:
+        total = (total & 0xffff) + (total >> 16)
+    return ~total & 0xffff
+
+
+def flood_address(family, i):
+    return socket.inet_pton(socket.AF_INET, f"192.168.69.{128 + i % 100}") if family == 4 \
+        else socket.inet_pton(socket.AF_INET6, f"fd69::f:{i % 100:x}")
 
 
 SHAM = bytes([2, 0, 0, 0, 15, 15])
