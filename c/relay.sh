@@ -40,7 +40,7 @@ ip link set tap0 up
 there ip tuntap add dev tap1 mode tap
 there ip addr add 192.168.69.7/24 dev tap1
 there ip link set tap1 up
-nsenter --net="/proc/$other/ns/net" iperf3 -s >/dev/null &
+nsenter --net="/proc/$other/ns/net" iperf3 -s >/dev/null 2>&1 &
 server=$!
 
 echo "== from Linux to Linux, five seconds"
