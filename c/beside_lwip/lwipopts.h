@@ -1,11 +1,14 @@
 /* lwIP for the same as examples/freestanding.c: UDP, raw and ICMP over both families, on Ethernet, with fragments,
- * groups and addresses from routers, without threads, TCP or statistics. */
+ * groups and addresses from routers, without threads, TCP or statistics. With -DLWIP_TCP=1 it is that of tcp.sh: TCP with
+ * windows that stop nothing that is measured, and memory for 10,016 connections. */
 #define NO_SYS 1
 #define LWIP_TIMERS 1
 #define SYS_LIGHTWEIGHT_PROT 0
 #define LWIP_NETCONN 0
 #define LWIP_SOCKET 0
+#ifndef LWIP_TCP
 #define LWIP_TCP 0
+#endif
 #define LWIP_UDP 1
 #define LWIP_RAW 1
 #define LWIP_ICMP 1
@@ -23,5 +26,23 @@
 #define LWIP_STATS 0
 #define LWIP_NOASSERT 1
 #define MEM_ALIGNMENT 8
+#if LWIP_TCP
+#define MEM_SIZE 16777216
+#define MEMP_NUM_TCP_PCB 10016
+#define MEMP_NUM_TCP_SEG 4096
+#define PBUF_POOL_SIZE 2048
+#define TCP_MSS 1460
+#define LWIP_WND_SCALE 1
+#define TCP_RCV_SCALE 3
+#ifndef TCP_WND
+#define TCP_WND 262144
+#endif
+#define TCP_SND_BUF 262144
+#define TCP_SND_QUEUELEN 1024
+#define TCP_SNDLOWAT 32768
+#define TCP_LISTEN_BACKLOG 1
+#define LWIP_TCP_SACK_OUT 1
+#else
 #define MEM_SIZE 65536
+#endif
 #define LWIP_CHKSUM_ALGORITHM 3

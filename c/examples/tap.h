@@ -86,9 +86,10 @@ static inline struct iface_address link_local_of(const uint8_t m[6]) {
     return a;
 }
 
-/* A TAP device, by its name: it exists, and is up. */
+/* A TAP device, by its name: it exists, and is up. @3 is descriptor 3, at which relay.c gives a program its frames. */
 static inline int open_tap(const char *name) {
     struct ifreq wanted;
+    if (name[0] == '@') return atoi(name + 1);
     memset(&wanted, 0, sizeof wanted);
     wanted.ifr_flags = IFF_TAP | IFF_NO_PI;
     strncpy(wanted.ifr_name, name, IFNAMSIZ - 1);
