@@ -1,5 +1,6 @@
 //! What is to happen, by its time.
 
+use crate::link::Passage;
 use anyhow::Result;
 use std::alloc::Global;
 use std::cmp::Reverse;
@@ -25,18 +26,22 @@ pub enum What {
         number: usize,
         /// The number of the frame in it.
         k: usize,
-        /// The number of the host to which it goes.
-        to: usize,
+        /// How it comes.
+        passage: Passage,
     },
     /// A copy of a frame from outside arrives.
     Enters {
         /// The number of the frame in the script.
         frame: usize,
-        /// The number of the host to which it goes.
-        to: usize,
+        /// How it comes.
+        passage: Passage,
     },
     /// A frame from outside is sent.
     Comes(usize),
+    /// A router advertises, and will do so again.
+    Advertises(usize),
+    /// A router advertises, as it was solicited.
+    IsSolicited(usize),
     /// A host leaves a group, by the number of the line.
     Leaves(usize),
 }

@@ -1,31 +1,82 @@
 //! Sequence charts in text: a column for each host, and a line for each copy of a frame.
 
-use crate::script::Script;
+use crate::script::{MAX_COLUMNS, Script};
 use anyhow::Result;
 use std::alloc::Global;
 use std::io::Write;
 
 /// The width of a column.
-pub const COLUMN: usize = 12;
+const COLUMN: usize = 12;
 
 /// The width of the margin at the left, from which frames from outside come.
-pub const MARGIN: usize = 3;
-
-/// The most hosts that a chart has columns for.
-pub const MOST: usize = 12;
+const MARGIN: usize = 3;
 
 /// What became of a copy.
 #[derive(Clone, Copy, PartialEq, Eq)]
 pub enum Outcome {
     /// It arrived.
     Arrived,
+    /// It arrived, and is the second one.
+    ArrivedAgain,
+    /// It arrived, with a bit changed on the way.
+    ArrivedChanged,
     /// It was lost.
     Lost,
+    /// It was lost, as its sender or its receiver was cut off.
+    CutOff,
+    /// Its frame was dropped, as too many waited to leave the host.
+    Dropped,
 }
 
-/// The place of a host's line.
-fn place_of(host: usize) -> usize {
-    host.min(MOST).saturating_mul(COLUMN).saturating_add(MARGIN)
+impl Outcome {
+    /// What stands for it before the receiver's column; the head of an arrow stands for a copy that simply arrived.
+    fn mark(self, head: u8) -> u8 {
+        match self {
+            Outcome::Arrived => head,
+            Outcome::ArrivedAgain => b'2',
+            Outcome::ArrivedChanged => b'!',
+            Outcome::Lost => b'x',
+            Outcome::CutOff => b'/',
+            Outcome::Dropped => b'q',
+        }
+    }
+}
+
+/// How many columns a chart has.
+fn columns(script: &Script) -> usize {
+    match &script.section {
+        Some(section) => section.hosts.len(),
+        None => script.hosts.len().min(MAX_COLUMNS),
+    }
+}
+
+/// The column of a host, from 0; the number of columns, if it has none of its own.
+fn column_of(script: &Script, host: usize) -> usize {
+    let Some(section) = &script.section else {
+        return host.min(MAX_COLUMNS);
+    };
+    let hosts = section.hosts.as_slice();
+    hosts
+        .iter()
+        .position(|shown| *shown == host)
+        .unwrap_or(hosts.len())
+}
+
+/// Whether a copy between two hosts, or from outside, is shown at a time.
+pub fn shows(script: &Script, time: u64, from: Option<usize>, to: usize) -> bool {
+    let Some(section) = &script.section else {
+        return true;
+    };
+    let count = section.hosts.len();
+    let has_column = |host: usize| column_of(script, host) < count;
+    section.from <= time
+        && time <= section.until
+        && (count == 0 || has_column(to) || from.is_some_and(|host| has_column(host)))
+}
+
+/// The place of a column.
+fn place_of(column: usize) -> usize {
+    column.saturating_mul(COLUMN).saturating_add(MARGIN)
 }
 
 /// Writes an octet at a place, if it is there.
@@ -35,20 +86,23 @@ fn put(row: &mut [u8], place: usize, octet: u8) {
     }
 }
 
-/// A row of a chart for this many hosts: an arrow from a host, or from outside, to a host.
+/// A row of a chart: an arrow from a host, or from outside, to a host.
 pub fn row(
     alloc: Global,
-    hosts: usize,
+    script: &Script,
     from: Option<usize>,
     to: usize,
     outcome: Outcome,
 ) -> Result<String> {
-    let mut row = vec![in alloc; b' '; place_of(hosts)]?;
-    for host in 0..hosts.min(MOST) {
-        put(&mut row, place_of(host), b'|');
+    let columns = columns(script);
+    let mut row = vec![in alloc; b' '; place_of(
+        script.hosts.len().min(columns.saturating_add(1))
+    )]?;
+    for column in 0..columns {
+        put(&mut row, place_of(column), b'|');
     }
-    let start = from.map_or(0, |host| place_of(host));
-    let end = place_of(to);
+    let start = from.map_or(0, |host| place_of(column_of(script, host)));
+    let end = place_of(column_of(script, to));
     for place in start.min(end)..start.max(end) {
         put(&mut row, place, b'-');
     }
@@ -58,10 +112,11 @@ pub fn row(
     } else {
         (b'<', end.saturating_add(1))
     };
-    put(&mut row, end, b'|');
-    match outcome {
-        Outcome::Arrived => put(&mut row, before, head),
-        Outcome::Lost => put(&mut row, before, b'x'),
+    if start != end {
+        put(&mut row, end, b'|');
+        put(&mut row, before, outcome.mark(head));
+    } else {
+        put(&mut row, start, outcome.mark(b'*'));
     }
     Ok(String::from_utf8(row)?)
 }
@@ -69,8 +124,12 @@ pub fn row(
 /// Writes the names of the hosts above their columns.
 pub fn write_names<W: Write>(alloc: Global, script: &Script, output: &mut W) -> Result<()> {
     let mut names = String::from_str(alloc, "                ")?;
-    for line in script.hosts.iter().take(MOST) {
-        let name = line.name.as_str();
+    for column in 0..columns(script) {
+        let host = match &script.section {
+            Some(section) => section.hosts.get(column).copied().unwrap_or(column),
+            None => column,
+        };
+        let name = script.name_of(host);
         names.push_str(&format!(in alloc; "{name:<12}")?)?;
     }
     writeln!(output, "{}", names.trim_end())?;

@@ -1,16 +1,24 @@
 //! What happens in a simulation at its events.
 
 use crate::agenda::{Event, What};
-use crate::capture;
-use crate::chart::{self, Outcome};
-use crate::kind::Label;
-use crate::report::{self, Time};
+use crate::chart::Outcome;
+use crate::kind::{Kind, Label};
+use crate::link::Passage;
+use crate::report;
+use crate::script::Pace;
 use crate::simulation::{Form, Simulation, instant};
-use crate::station::{COLLECT, Received, Task};
+use crate::station::{Attempt, Received, Traffic, Turn};
 use anyhow::{Result, bail};
 use host_machine::{Answer, Command, PollIngressSingleResult};
 use net_base::phy::Device;
+use std::alloc::Global;
 use std::io::Write;
+
+/// The most microseconds until a router that is solicited advertises (RFC 4861 10).
+const LONGEST_REPLY: u64 = 500_000;
+
+/// The least microseconds between a router's advertisements (RFC 4861 10).
+const LEAST_BETWEEN: u64 = 3_000_000;
 
 /// The most calls of each kind that a poll makes.
 const BUDGET: usize = 4;
@@ -38,9 +46,11 @@ impl Simulation {
             What::Begins(host) => self.settle(host, output),
             What::Wakes(host) => self.wake(host, output),
             What::Does { host, task } => self.do_task(host, task, output),
-            What::Arrives { number, k, to } => self.arrive(number, k, to, output),
+            What::Arrives { number, k, passage } => self.arrive(number, k, passage, output),
             What::Comes(frame) => self.come(frame, output),
-            What::Enters { frame, to } => self.enter(frame, to, output),
+            What::Enters { frame, passage } => self.enter(frame, passage, output),
+            What::Advertises(router) => self.advertise(router, output),
+            What::IsSolicited(router) => self.send_advertisement(router, output),
             What::Leaves(line) => self.leave(line, output),
         }
     }
@@ -56,8 +66,7 @@ impl Simulation {
     /// A host is polled until nothing is due, and it is planned when it is polled again.
     fn settle<W: Write>(&mut self, host: usize, output: &mut W) -> Result<()> {
         for _ in 0..MOST_POLLS {
-            self.network
-                .run(host, &Command::Poll(instant(self.now), BUDGET))?;
+            self.poll(host)?;
             self.check_memory(host)?;
             self.spread(output)?;
             match self.next_poll(host)? {
@@ -66,6 +75,38 @@ impl Simulation {
             }
         }
         self.plan_poll(host, Some(self.now.saturating_add(PAUSE)))
+    }
+
+    /// A host is polled: if its sockets have a schedule, by one call of each kind, between two turns of its owner.
+    fn poll(&mut self, host: usize) -> Result<()> {
+        let Some(station) = self.network.hosts().get(host) else {
+            return Ok(());
+        };
+        if !station.owner.has_schedule() {
+            return self.run_poll(host, BUDGET);
+        }
+        let is_piece_left = station.interface.has_pending_fragment();
+        self.act(host, Turn::BeforeRound(self.now, is_piece_left))?;
+        self.run_poll(host, 1)?;
+        self.act(host, Turn::AfterRound(self.now))
+    }
+
+    /// A host is polled, by so many calls of each kind at most.
+    fn run_poll(&mut self, host: usize, budget: usize) -> Result<()> {
+        let command = Command::Poll(instant(self.now), budget);
+        match self.network.run(host, &command) {
+            Ok(_) => Ok(()),
+            Err(error) => Err(error.into()),
+        }
+    }
+
+    /// A host's owner has a turn.
+    fn act(&mut self, host: usize, turn: Turn) -> Result<()> {
+        let number = turn.number();
+        match self.network.run(host, &Command::Owner(number)) {
+            Ok(_) => Ok(()),
+            Err(error) => Err(error.into()),
+        }
     }
 
     /// When a host is to be polled next, in microseconds.
@@ -105,19 +146,33 @@ impl Simulation {
 
     /// A host's owner takes what its sockets received.
     fn collect<W: Write>(&mut self, host: usize, output: &mut W) -> Result<()> {
-        self.network.run(host, &Command::Owner(COLLECT))?;
-        for i in 0..self.count_collected(host)? {
+        self.act(host, Turn::Collect)?;
+        self.check_memory(host)?;
+        for i in 0..self.count_collected(host) {
             let Some(datagram) = self.collected(host, i) else {
                 break;
             };
-            let flow = self.counts.flow_of(&self.script, &datagram);
-            self.counts.count_datagram(flow);
+            let origin = self.counts.origin_of(&self.script, host, &datagram);
+            self.counts.count_datagram(self.now, origin);
             if self.form == Form::Report || self.form == Form::Chart {
                 let name = self.script.name_of(host);
-                report::print_datagram(output, self.now, name, &datagram, flow)?;
+                report::print_datagram(output, self.now, name, &datagram, origin)?;
             }
         }
+        self.count_replies(host);
         Ok(())
+    }
+
+    /// Counts the echo replies that a host's owner took.
+    fn count_replies(&mut self, host: usize) {
+        let Some(station) = self.network.hosts().get(host) else {
+            return;
+        };
+        for reply in station.owner.replies.iter() {
+            let (ping, number) = *reply;
+            self.counts
+                .count_answer(self.now, Traffic::Ping(ping), number);
+        }
     }
 
     /// Fails if a host's owner or its device got no memory. A device without memory withholds a frame or sends none.
@@ -131,12 +186,11 @@ impl Simulation {
         Ok(())
     }
 
-    /// How many datagrams a host's owner took. Fails if there was no memory for one.
-    fn count_collected(&self, host: usize) -> Result<usize> {
-        self.check_memory(host)?;
+    /// How many datagrams a host's owner took.
+    fn count_collected(&self, host: usize) -> usize {
         match self.network.hosts().get(host) {
-            Some(station) => Ok(station.owner.received.len()),
-            None => Ok(0),
+            Some(station) => station.owner.received.len(),
+            None => 0,
         }
     }
 
@@ -146,32 +200,44 @@ impl Simulation {
         station.owner.received.get(i).copied()
     }
 
-    /// A host's owner does a task. If it is that of a flow with more to send, the next time is planned.
+    /// A host's owner does a task. If it is one of more, the next is planned.
     fn do_task<W: Write>(&mut self, host: usize, task: usize, output: &mut W) -> Result<()> {
-        let turn = task.saturating_add(1);
-        self.network.run(host, &Command::Owner(turn))?;
-        if let Some((flow, sent)) = self.progress(host, task)? {
-            self.counts.set_queued(flow, sent);
-            if let Some(line) = self.script.flows.get(flow).copied() {
-                if u64::from(sent) < line.count {
-                    let time = self.now.saturating_add(line.every);
-                    self.agenda.plan(time, What::Does { host, task })?;
-                }
-            }
+        self.act(host, Turn::Task(task))?;
+        self.check_memory(host)?;
+        if let Some(attempt) = self.attempt(host) {
+            self.counts.count_attempt(self.now, &attempt)?;
+            self.plan_next(host, task, &attempt)?;
         }
         self.settle(host, output)
     }
 
-    /// The flow of a task, and how many datagrams it has queued; `None` if the task is no flow's. Fails if there was no
-    /// memory for it.
-    fn progress(&self, host: usize, task: usize) -> Result<Option<(usize, u32)>> {
-        self.check_memory(host)?;
-        let Some(station) = self.network.hosts().get(host) else {
-            return Ok(None);
+    /// What a host's owner tried to queue in its last turn, if it did.
+    fn attempt(&self, host: usize) -> Option<Attempt> {
+        self.network.hosts().get(host)?.owner.attempt
+    }
+
+    /// Plans the next of what an owner queues by a task, if there is one.
+    fn plan_next(&mut self, host: usize, task: usize, attempt: &Attempt) -> Result<()> {
+        let Some(pace) = self.pace_of(attempt.traffic) else {
+            return Ok(());
         };
-        match station.owner.tasks.get(task) {
-            Some(Task::Datagram { flow, sent, .. }) => Ok(Some((*flow as usize, *sent))),
-            _ => Ok(None),
+        if u64::from(attempt.number).saturating_add(1) < pace.count {
+            let pause = if pace.is_random {
+                self.link.up_to(pace.every.saturating_mul(2))
+            } else {
+                pace.every
+            };
+            let time = self.now.saturating_add(pause);
+            self.agenda.plan(time, What::Does { host, task })?;
+        }
+        Ok(())
+    }
+
+    /// How many of something are sent, and when.
+    fn pace_of(&self, traffic: Traffic) -> Option<Pace> {
+        match traffic {
+            Traffic::Flow(flow) => Some(self.script.flows.get(flow as usize)?.pace),
+            Traffic::Ping(ping) => Some(self.script.pings.get(ping as usize)?.pace),
         }
     }
 
@@ -180,64 +246,116 @@ impl Simulation {
         &mut self,
         number: usize,
         k: usize,
-        to: usize,
+        passage: Passage,
         output: &mut W,
     ) -> Result<()> {
         let Some((from, label)) = self.kept(number, k) else {
             bail!("a frame was forgotten too early");
         };
-        self.counts.count_received(to, label.kind);
-        self.draw_row(Some(from), to, label, Outcome::Arrived, output)?;
-        let answer = self.network.hand_over(number, k, to, instant(self.now))?;
+        self.note_arrival(Some(from), passage, label, output)?;
+        let answer = self.deliver(number, k, passage)?;
         self.pending.arrived(number);
-        self.follow(to, answer, output)?;
+        self.follow(passage.to, answer, output)?;
         self.network.forget(self.pending.take_done());
-        Ok(())
-    }
-
-    /// The sender and the kind of a kept frame.
-    fn kept(&self, number: usize, k: usize) -> Option<(usize, Label)> {
-        let from = self.network.transmission(number)?.from;
-        Some((from, Label::of(self.network.frame(number, k)?)))
-    }
-
-    /// A frame from outside is sent: a copy goes to each host that its destination names.
-    fn come<W: Write>(&mut self, frame: usize, output: &mut W) -> Result<()> {
-        let (label, receivers) = self.send_outside(frame, output)?;
-        for to in receivers {
-            let fate = self.link.draw();
-            self.counts.count_fate(fate);
-            if fate.first.is_none() {
-                self.draw_row(None, to, label, Outcome::Lost, output)?;
-            }
-            self.plan_copy(fate.first, What::Enters { frame, to })?;
-            self.plan_copy(fate.second, What::Enters { frame, to })?;
+        if label.kind == Kind::RouterSolicitation {
+            self.solicit(passage.to)?;
         }
         Ok(())
     }
 
-    /// A frame from outside is written, if a capture is wanted. Returns its kind, and the hosts to which it goes.
-    fn send_outside<W: Write>(&self, frame: usize, output: &mut W) -> Result<(Label, Vec<usize>)> {
-        let octets = match self.script.frames.get(frame) {
-            Some(line) => line.octets.as_slice(),
-            None => &[],
+    /// A copy is delivered, with a bit changed or as it was sent.
+    fn deliver(&mut self, number: usize, k: usize, passage: Passage) -> Result<Answer> {
+        let to = passage.to;
+        let Some(bit) = passage.changed else {
+            return Ok(self.network.hand_over(number, k, to, instant(self.now))?);
         };
-        if self.form == Form::Capture {
-            capture::write_frame(output, self.now, octets)?;
-        }
-        Ok((Label::of(octets), self.receivers(octets, None)?))
+        let octets = match self.network.frame(number, k) {
+            Some(frame) => changed(self.alloc, frame, bit)?,
+            None => Vec::new(self.alloc),
+        };
+        Ok(self.network.take_in(&octets, to, instant(self.now))?)
+    }
+
+    /// Counts and shows that a copy arrives.
+    fn note_arrival<W: Write>(
+        &mut self,
+        from: Option<usize>,
+        passage: Passage,
+        label: Label,
+        output: &mut W,
+    ) -> Result<()> {
+        self.counts.count_received(passage.to, label.kind);
+        let outcome = if passage.changed.is_some() {
+            Outcome::ArrivedChanged
+        } else if passage.is_second {
+            Outcome::ArrivedAgain
+        } else {
+            Outcome::Arrived
+        };
+        self.draw_row(from, passage.to, label, outcome, output)
     }
 
     /// A copy of a frame from outside arrives.
-    fn enter<W: Write>(&mut self, frame: usize, to: usize, output: &mut W) -> Result<()> {
+    fn enter<W: Write>(&mut self, frame: usize, passage: Passage, output: &mut W) -> Result<()> {
         let Some(line) = self.script.frames.get(frame) else {
             return Ok(());
         };
-        let label = Label::of(&line.octets);
-        let answer = self.network.take_in(&line.octets, to, instant(self.now))?;
-        self.counts.count_received(to, label.kind);
-        self.draw_row(None, to, label, Outcome::Arrived, output)?;
-        self.follow(to, answer, output)
+        let (from, label) = (line.from, Label::of(&line.octets));
+        let octets = match passage.changed {
+            Some(bit) => changed(self.alloc, &line.octets, bit)?,
+            None => line.octets.clone()?,
+        };
+        let time = instant(self.now);
+        let answer = self.network.take_in(&octets, passage.to, time)?;
+        self.note_arrival(from, passage, label, output)?;
+        self.follow(passage.to, answer, output)
+    }
+
+    /// A router advertises, and it is planned when it does so again.
+    fn advertise<W: Write>(&mut self, router: usize, output: &mut W) -> Result<()> {
+        let Some(line) = self.script.routers.get(router).copied() else {
+            return Ok(());
+        };
+        self.send_advertisement(router, output)?;
+        let time = self.now.saturating_add(line.every);
+        self.agenda.plan(time, What::Advertises(router))
+    }
+
+    /// A router sends what it advertises.
+    fn send_advertisement<W: Write>(&mut self, router: usize, output: &mut W) -> Result<()> {
+        let Some(advertisement) = self.advertisements.get_mut(router) else {
+            return Ok(());
+        };
+        advertisement.at = advertisement.at.max(self.now);
+        let frame = advertisement.frame;
+        self.come(frame, output)
+    }
+
+    /// Routers were solicited: each that is this host advertises within half a second, but at least three seconds after
+    /// it did so last (RFC 4861 6.2.6).
+    fn solicit(&mut self, host: usize) -> Result<()> {
+        for i in 0..self.script.routers.len() {
+            let router = self.script.routers.get(i).copied();
+            if router.is_some_and(|router| router.host == host) {
+                self.plan_advertisement(i)?;
+            }
+        }
+        Ok(())
+    }
+
+    /// Plans that a router advertises as a reply, unless that is planned already.
+    fn plan_advertisement(&mut self, router: usize) -> Result<()> {
+        let pause = self.link.up_to(LONGEST_REPLY);
+        let Some(advertisement) = self.advertisements.get_mut(router) else {
+            return Ok(());
+        };
+        if self.now < advertisement.at {
+            return Ok(());
+        }
+        let earliest = advertisement.at.saturating_add(LEAST_BETWEEN);
+        advertisement.at = self.now.saturating_add(pause).max(earliest);
+        let time = advertisement.at;
+        self.agenda.plan(time, What::IsSolicited(router))
     }
 
     /// A host leaves a group.
@@ -249,110 +367,15 @@ impl Simulation {
             .run(leave.host, &Command::LeaveMulticastGroup(leave.group))?;
         self.settle(leave.host, output)
     }
+}
 
-    /// The transmissions that the link didn't get yet are sent.
-    fn spread<W: Write>(&mut self, output: &mut W) -> Result<()> {
-        for _ in self.next..self.network.next_number() {
-            let number = self.next;
-            self.next = number.saturating_add(1);
-            let copies = self.spread_one(number, output)?;
-            self.pending.add(copies)?;
-        }
-        self.network.forget(self.pending.take_done());
-        Ok(())
+/// The octets of a frame with a bit changed.
+fn changed(alloc: Global, frame: &[u8], bit: u64) -> Result<Vec<u8>> {
+    let mut octets = Vec::new(alloc);
+    octets.extend_from_slice(frame)?;
+    let place = usize::try_from(bit / 8).unwrap_or(usize::MAX);
+    if let Some(octet) = octets.get_mut(place) {
+        *octet ^= 1 << (bit % 8);
     }
-
-    /// A transmission is sent: a copy of each of its frames goes to each host that its destination names. Returns how
-    /// many copies arrive.
-    fn spread_one<W: Write>(&mut self, number: usize, output: &mut W) -> Result<usize> {
-        let mut copies = 0_usize;
-        for k in 0..self.count_frames(number) {
-            let Some((from, label)) = self.kept(number, k) else {
-                break;
-            };
-            self.counts.count_sent(from, label.kind);
-            let receivers = self.send_frame(number, k, from, output)?;
-            for to in receivers {
-                let fate = self.link.draw();
-                self.counts.count_fate(fate);
-                if fate.first.is_none() {
-                    self.draw_row(Some(from), to, label, Outcome::Lost, output)?;
-                }
-                copies = copies.saturating_add(fate.count());
-                self.plan_copy(fate.first, What::Arrives { number, k, to })?;
-                self.plan_copy(fate.second, What::Arrives { number, k, to })?;
-            }
-        }
-        Ok(copies)
-    }
-
-    /// How many frames a transmission has.
-    fn count_frames(&self, number: usize) -> usize {
-        match self.network.transmission(number) {
-            Some(transmission) => transmission.frames.len(),
-            None => 0,
-        }
-    }
-
-    /// A frame is written, if a capture is wanted. Returns the hosts to which it goes.
-    fn send_frame<W: Write>(
-        &self,
-        number: usize,
-        k: usize,
-        from: usize,
-        output: &mut W,
-    ) -> Result<Vec<usize>> {
-        let Some(frame) = self.network.frame(number, k) else {
-            return Ok(Vec::new(self.alloc));
-        };
-        if self.form == Form::Capture {
-            capture::write_frame(output, self.now, frame)?;
-        }
-        self.receivers(frame, Some(from))
-    }
-
-    /// Plans the arrival of a copy, if it isn't lost.
-    fn plan_copy(&mut self, delay: Option<u64>, what: What) -> Result<()> {
-        match delay {
-            Some(delay) => self.agenda.plan(self.now.saturating_add(delay), what),
-            None => Ok(()),
-        }
-    }
-
-    /// The numbers of the hosts to which a frame goes: all others if its destination is a group or broadcast, and
-    /// otherwise the one with this Ethernet address, if there is one.
-    fn receivers(&self, frame: &[u8], from: Option<usize>) -> Result<Vec<usize>> {
-        let mut receivers = Vec::new(self.alloc);
-        let Some(destination) = frame.first_chunk::<6>() else {
-            return Ok(receivers);
-        };
-        if destination[0] & 1 != 0 {
-            for host in 0..self.script.hosts.len() {
-                if Some(host) != from {
-                    receivers.push(host)?;
-                }
-            }
-        } else if let Some(host) = self.by_address.get(destination) {
-            receivers.push(*host)?;
-        }
-        Ok(receivers)
-    }
-
-    /// Writes the row of a copy, if a chart is wanted.
-    fn draw_row<W: Write>(
-        &self,
-        from: Option<usize>,
-        to: usize,
-        label: Label,
-        outcome: Outcome,
-        output: &mut W,
-    ) -> Result<()> {
-        if self.form != Form::Chart {
-            return Ok(());
-        }
-        let row = chart::row(self.alloc, self.script.hosts.len(), from, to, outcome)?;
-        let time = Time(self.now);
-        writeln!(output, "{time}  {row}  {label}")?;
-        Ok(())
-    }
+    Ok(octets)
 }

@@ -1,10 +1,13 @@
-//! Simulates hosts on one Ethernet that loses, repeats, reorders and delays frames, by a script. The program `simulate`
+//! Simulates hosts on one Ethernet that loses, repeats, reorders, delays and changes frames, by a script. The program `simulate`
 //! runs a script from standard input; `docs/SIMULATE.md` has the words of scripts and what is printed.
 #![tactic(auto)]
 
+pub mod advertisement;
 pub mod agenda;
 pub mod capture;
 pub mod chart;
+pub mod copies;
+pub mod counts;
 pub mod events;
 pub mod kind;
 pub mod line;
@@ -14,4 +17,5 @@ pub mod report;
 pub mod script;
 pub mod simulation;
 pub mod station;
+pub mod uplink;
 pub mod words;

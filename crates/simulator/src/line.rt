@@ -1,6 +1,9 @@
 //! The lines of a script.
 
-use crate::script::{Flow, HostLine, Leave, OutsideFrame, RawPacket, Script};
+use crate::script::{
+    Flow, HostLine, Leave, MAX_COLUMNS, Outage, OutsideFrame, Pace, Ping, Rate, RawPacket, Router,
+    Script, Section, Treatment,
+};
 use crate::words::Words;
 use anyhow::{Context, Result, bail};
 use arrayvec::ArrayVec;
@@ -16,6 +19,18 @@ const MAX_PAYLOAD: u64 = 4_000;
 
 /// The maximum number of hosts that a line makes.
 const MAX_HOSTS: u64 = 1_000_000;
+
+/// The highest rate, in 1,000 bits a second.
+const MAX_KILOBITS: u64 = 1_000_000_000;
+
+/// The most echo requests of a line, which are numbered by 16 bits.
+const MAX_PINGS: u64 = 65_536;
+
+/// The longest lifetime of a router, in seconds (RFC 4861 6.2.1).
+const MAX_LIFETIME: u64 = 9_000;
+
+/// The most frames that may wait to leave a host.
+const MAX_WAITING: u64 = 1_000_000;
 
 /// Reads a script. An error names the line, counted from 1.
 pub fn script_in(alloc: Global, text: &str) -> Result<Script> {
@@ -39,13 +54,20 @@ fn read_line(alloc: Global, script: &mut Script, line: &str) -> Result<()> {
     }
     let word = words.word()?;
     match word {
-        "seed" | "loss" | "repeat" | "reorder" | "delay" | "until" => {
-            read_setting(script, word, &mut words)?;
+        "seed" | "until" | "patience" => read_setting(script, word, &mut words)?,
+        "loss" | "repeat" | "reorder" | "delay" | "change" => {
+            read_treatment(script, word, &mut words)?;
         }
+        "rate" => read_rate(script, &mut words)?,
+        "down" => read_outage(script, &mut words)?,
+        "chart" => read_section(script, &mut words)?,
         "host" => read_host(alloc, script, &mut words)?,
         "hosts" => read_hosts(alloc, script, &mut words)?,
         "addr" | "gateway" | "join" | "udp" => read_part(script, word, &mut words)?,
+        "echo" => read_echo(script, &mut words)?,
+        "router" => read_router(script, &mut words)?,
         "send" => read_flow(script, &mut words)?,
+        "ping" => read_ping(script, &mut words)?,
         "raw" => read_packet(alloc, script, &mut words)?,
         "frame" => read_frame(alloc, script, &mut words)?,
         "leave" => read_leave(script, &mut words)?,
@@ -58,18 +80,96 @@ fn read_line(alloc: Global, script: &mut Script, line: &str) -> Result<()> {
 fn read_setting(script: &mut Script, word: &str, words: &mut Words<'_>) -> Result<()> {
     match word {
         "seed" => script.seed = words.number(u64::MAX)?,
-        "loss" => script.treatment.loss = words.number(1000)?,
-        "repeat" => script.treatment.repeat = words.number(1000)?,
-        "reorder" => {
-            script.treatment.reorder = words.number(1000)?;
-            script.treatment.hold = words.number(LATEST)?;
-        }
-        "delay" => {
-            script.treatment.least = words.number(LATEST)?;
-            script.treatment.most = words.number(LATEST)?;
-        }
+        "patience" => script.patience = Some(words.number(LATEST)?),
         _ => script.until = words.number(LATEST)?,
     }
+    Ok(())
+}
+
+/// Reads how copies are treated: all, or those to the host that is named.
+fn read_treatment(script: &mut Script, word: &str, words: &mut Words<'_>) -> Result<()> {
+    let first = words.number(if word == "delay" { LATEST } else { 1000 })?;
+    let second = match word {
+        "delay" | "reorder" => words.number(LATEST)?,
+        _ => 0,
+    };
+    if words.is_empty() {
+        treat(&mut script.treatment, word, first, second);
+        return Ok(());
+    }
+    let number = host_in(script, words)?;
+    let mut treatment = script.treatment_of(number);
+    treat(&mut treatment, word, first, second);
+    if let Some(host) = script.hosts.get_mut(number) {
+        host.treatment = Some(treatment);
+    }
+    Ok(())
+}
+
+/// Changes one part of a treatment.
+fn treat(treatment: &mut Treatment, word: &str, first: u64, second: u64) {
+    match word {
+        "loss" => treatment.loss = first,
+        "repeat" => treatment.repeat = first,
+        "change" => treatment.change = first,
+        "reorder" => {
+            treatment.reorder = first;
+            treatment.hold = second;
+        }
+        _ => {
+            treatment.least = first;
+            treatment.most = second;
+        }
+    }
+}
+
+/// Reads how fast frames leave all hosts, or the host that is named.
+fn read_rate(script: &mut Script, words: &mut Words<'_>) -> Result<()> {
+    let kilobits = words.number(MAX_KILOBITS)?;
+    if kilobits == 0 {
+        bail!("0 is no rate");
+    }
+    let frames = words.number(MAX_WAITING)?;
+    let rate = Some(Rate { kilobits, frames });
+    if words.is_empty() {
+        script.rate = rate;
+        return Ok(());
+    }
+    let number = host_in(script, words)?;
+    if let Some(host) = script.hosts.get_mut(number) {
+        host.rate = rate;
+    }
+    Ok(())
+}
+
+/// Reads when a host is cut off.
+fn read_outage(script: &mut Script, words: &mut Words<'_>) -> Result<()> {
+    let number = host_in(script, words)?;
+    let from = words.number(LATEST)?;
+    let until = words.number(LATEST)?;
+    let Some(host) = script.hosts.get_mut(number) else {
+        bail!("no host");
+    };
+    if host.outages.try_push(Outage { from, until }).is_err() {
+        bail!("too many of these at one host");
+    }
+    Ok(())
+}
+
+/// Reads what a chart shows.
+fn read_section(script: &mut Script, words: &mut Words<'_>) -> Result<()> {
+    let from = words.number(LATEST)?;
+    let until = words.number(LATEST)?;
+    let mut hosts = ArrayVec::new();
+    for _ in 0..=MAX_COLUMNS {
+        if words.is_empty() {
+            break;
+        }
+        if hosts.try_push(host_in(script, words)?).is_err() {
+            bail!("too many hosts");
+        }
+    }
+    script.section = Some(Section { from, until, hosts });
     Ok(())
 }
 
@@ -83,6 +183,10 @@ fn host_line(name: String, hardware_addr: EthernetAddress, slaac: bool) -> HostL
         gateways: ArrayVec::new(),
         groups: ArrayVec::new(),
         ports: ArrayVec::new(),
+        echoes: ArrayVec::new(),
+        treatment: None,
+        rate: None,
+        outages: ArrayVec::new(),
     }
 }
 
@@ -154,6 +258,39 @@ fn read_part(script: &mut Script, word: &str, words: &mut Words<'_>) -> Result<(
     Ok(())
 }
 
+/// Reads a socket that sends back what it receives.
+fn read_echo(script: &mut Script, words: &mut Words<'_>) -> Result<()> {
+    let number = host_in(script, words)?;
+    let port = port_in(words)?;
+    let Some(host) = script.hosts.get_mut(number) else {
+        bail!("no host");
+    };
+    if host.ports.try_push(port).is_err() || host.echoes.try_push(port).is_err() {
+        bail!("too many of these at one host");
+    }
+    Ok(())
+}
+
+/// Reads a router.
+fn read_router(script: &mut Script, words: &mut Words<'_>) -> Result<()> {
+    let host = host_in(script, words)?;
+    let IpCidr::Ipv6(prefix) = words.network()? else {
+        bail!("only IPv6");
+    };
+    let lifetime = u16::try_from(words.number(MAX_LIFETIME)?)?;
+    let every = words.number(LATEST)?;
+    if every == 0 {
+        bail!("0 is no time between advertisements");
+    }
+    script.routers.push(Router {
+        host,
+        prefix,
+        lifetime,
+        every,
+    })?;
+    Ok(())
+}
+
 /// A port other than 0.
 fn port_in(words: &mut Words<'_>) -> Result<u16> {
     match u16::try_from(words.number(65_535)?) {
@@ -187,11 +324,41 @@ fn read_flow(script: &mut Script, words: &mut Words<'_>) -> Result<()> {
         port,
         remote,
         size,
-        count: words.number(u64::MAX)?,
-        start: words.number(LATEST)?,
-        every: words.number(LATEST)?,
+        pace: pace_in(words, u64::MAX)?,
     };
     script.flows.push(flow)?;
+    Ok(())
+}
+
+/// Reads how many of something are sent, at most so many, and when.
+fn pace_in(words: &mut Words<'_>, most: u64) -> Result<Pace> {
+    Ok(Pace {
+        count: words.number(most)?,
+        start: words.number(LATEST)?,
+        every: words.number(LATEST)?,
+        is_random: is_random(words)?,
+    })
+}
+
+/// Whether the word `random` follows.
+fn is_random(words: &mut Words<'_>) -> Result<bool> {
+    if words.is_empty() {
+        return Ok(false);
+    }
+    if words.word()? != "random" {
+        bail!("only random may follow");
+    }
+    Ok(true)
+}
+
+/// Reads echo requests.
+fn read_ping(script: &mut Script, words: &mut Words<'_>) -> Result<()> {
+    let ping = Ping {
+        host: host_in(script, words)?,
+        remote: words.address()?,
+        pace: pace_in(words, MAX_PINGS)?,
+    };
+    script.pings.push(ping)?;
     Ok(())
 }
 
@@ -211,12 +378,13 @@ fn read_packet(alloc: Global, script: &mut Script, words: &mut Words<'_>) -> Res
 
 /// Reads a frame from outside.
 fn read_frame(alloc: Global, script: &mut Script, words: &mut Words<'_>) -> Result<()> {
-    let at = words.number(LATEST)?;
+    let at = Some(words.number(LATEST)?);
     let octets = octets_in(alloc, words)?;
     if octets.len() < 14 || octets.len() > 1514 {
         bail!("a frame has 14 to 1514 octets");
     }
-    script.frames.push(OutsideFrame { at, octets })?;
+    let from = None;
+    script.frames.push(OutsideFrame { at, from, octets })?;
     Ok(())
 }
 

@@ -1,7 +1,7 @@
-//! What is counted, and how it is printed.
+//! How what was counted is printed.
 
-use crate::kind::{KINDS, Kind};
-use crate::link::Fate;
+use crate::counts::{Counts, Origin, Tally};
+use crate::kind::Kind;
 use crate::script::Script;
 use crate::station::{Received, Station};
 use anyhow::Result;
@@ -22,130 +22,13 @@ impl Display for Time {
     }
 }
 
-/// How many frames of each kind.
-#[derive(Clone, Copy)]
-pub struct ByKind {
-    counts: [u64; KINDS],
-}
-
-impl ByKind {
-    /// None.
-    pub const NONE: ByKind = ByKind { counts: [0; KINDS] };
-
-    /// One more.
-    pub fn add(&mut self, kind: Kind) {
-        if let Some(count) = self.counts.get_mut(kind.number()) {
-            *count = count.saturating_add(1);
-        }
-    }
-
-    /// How many of a kind.
-    pub fn of(&self, kind: Kind) -> u64 {
-        self.counts.get(kind.number()).copied().unwrap_or(0)
-    }
-}
-
-/// What is counted in a simulation.
-#[derive(Drop)]
-pub struct Counts {
-    /// The frames that each host sent.
-    pub sent: Vec<ByKind>,
-    /// The copies that each host received.
-    pub received: Vec<ByKind>,
-    /// How many datagrams of each flow were queued.
-    pub queued: Vec<u32>,
-    /// How many datagrams of each flow came to a socket, those that came twice counted twice.
-    pub arrived: Vec<u64>,
-    /// How many datagrams came to a socket that no flow sent.
-    pub strange: u64,
-    /// The copies that the link took.
-    pub copies: u64,
-    /// Those of them that were lost.
-    pub lost: u64,
-    /// Those of them that arrived twice.
-    pub repeated: u64,
-    /// What happened.
-    pub events: u64,
-}
-
-impl Counts {
-    /// Nothing was counted yet.
-    pub fn new(alloc: Global, script: &Script) -> Result<Counts> {
-        let (hosts, flows) = (script.hosts.len(), script.flows.len());
-        Ok(Counts {
-            sent: vec![in alloc; ByKind::NONE; hosts]?,
-            received: vec![in alloc; ByKind::NONE; hosts]?,
-            queued: vec![in alloc; 0; flows]?,
-            arrived: vec![in alloc; 0; flows]?,
-            strange: 0,
-            copies: 0,
-            lost: 0,
-            repeated: 0,
-            events: 0,
-        })
-    }
-
-    /// A host sent a frame.
-    pub fn count_sent(&mut self, host: usize, kind: Kind) {
-        if let Some(count) = self.sent.get_mut(host) {
-            count.add(kind);
-        }
-    }
-
-    /// A host received a copy of a frame.
-    pub fn count_received(&mut self, host: usize, kind: Kind) {
-        if let Some(count) = self.received.get_mut(host) {
-            count.add(kind);
-        }
-    }
-
-    /// The link took a copy of a frame.
-    pub fn count_fate(&mut self, fate: Fate) {
-        self.copies = self.copies.saturating_add(1);
-        if fate.first.is_none() {
-            self.lost = self.lost.saturating_add(1);
-        }
-        if fate.second.is_some() {
-            self.repeated = self.repeated.saturating_add(1);
-        }
-    }
-
-    /// A flow has queued so many datagrams.
-    pub fn set_queued(&mut self, flow: usize, queued: u32) {
-        if let Some(count) = self.queued.get_mut(flow) {
-            *count = queued;
-        }
-    }
-
-    /// A datagram came to a socket, of a flow or not.
-    pub fn count_datagram(&mut self, flow: Option<usize>) {
-        match flow.and_then(|flow| self.arrived.get_mut(flow)) {
-            Some(count) => *count = count.saturating_add(1),
-            None => self.strange = self.strange.saturating_add(1),
-        }
-    }
-
-    /// The flow of a datagram that came to a socket of a host, if one sent it: to this port, from that one, and as
-    /// often as its number says.
-    pub fn flow_of(&self, script: &Script, datagram: &Received) -> Option<usize> {
-        let (flow, number) = datagram.named?;
-        let line = script.flows.get(flow as usize)?;
-        let queued = self.queued.get(flow as usize).copied()?;
-        let is_sent = number < queued
-            && line.remote.port == datagram.port
-            && line.port == datagram.remote.port
-            && line.size == datagram.size;
-        if is_sent { Some(flow as usize) } else { None }
-    }
-}
-
 /// Prints a datagram that came to a socket.
 pub fn print_datagram<W: Write>(
     output: &mut W,
     time: u64,
     name: &str,
     datagram: &Received,
-    flow: Option<usize>,
+    origin: Origin,
 ) -> Result<()> {
     let (time, port, size) = (Time(time), datagram.port, datagram.size);
     let (addr, from) = (datagram.remote.addr, datagram.remote.port);
@@ -153,9 +36,12 @@ pub fn print_datagram<W: Write>(
         output,
         "{time}  {name}:{port} gets {size} octets of {addr} port {from}: "
     )?;
-    match (flow, datagram.named) {
-        (Some(flow), Some((_, number))) => writeln!(output, "flow {flow}, number {number}")?,
-        _ => writeln!(output, "no socket of the script sent it")?,
+    match origin {
+        Origin::Flow(flow, number) => writeln!(output, "flow {flow}, number {number}")?,
+        Origin::Answer(flow, number) => {
+            writeln!(output, "back from flow {flow}, number {number}")?;
+        }
+        Origin::Strange => writeln!(output, "no socket of the script sent it")?,
     }
     Ok(())
 }
@@ -183,13 +69,70 @@ pub fn print_flows<W: Write>(output: &mut W, script: &Script, counts: &Counts) -
     for i in 0..script.flows.len() {
         let flow = script.flows[i];
         let name = script.name_of(flow.host);
-        let queued = counts.queued.get(i).copied().unwrap_or(0);
-        let arrived = counts.arrived.get(i).copied().unwrap_or(0);
         let (port, addr, to) = (flow.port, flow.remote.addr, flow.remote.port);
-        writeln!(
-            output,
-            "  {i}: {name}:{port} to {addr} port {to}: {queued} queued, {arrived} received"
-        )?;
+        write!(output, "  {i}: {name}:{port} to {addr} port {to}: ")?;
+        if let Some(tally) = counts.flows.get(i) {
+            let received = tally.received.count;
+            print_tally(output, tally)?;
+            writeln!(output, "{received} received")?;
+            if received != 0 {
+                let times = tally.received;
+                writeln!(output, "     took {times}")?;
+            }
+            print_answers(output, tally)?;
+        }
+    }
+    Ok(())
+}
+
+/// Prints the echo requests, if there are some.
+pub fn print_pings<W: Write>(output: &mut W, script: &Script, counts: &Counts) -> Result<()> {
+    if script.pings.is_empty() {
+        return Ok(());
+    }
+    writeln!(output, "pings")?;
+    for i in 0..script.pings.len() {
+        let ping = script.pings[i];
+        let (name, addr) = (script.name_of(ping.host), ping.remote);
+        write!(output, "  {i}: {name} to {addr}: ")?;
+        if let Some(tally) = counts.pings.get(i) {
+            let answered = tally.answered.count;
+            print_tally(output, tally)?;
+            writeln!(output, "{answered} answered")?;
+            print_answers(output, tally)?;
+        }
+    }
+    Ok(())
+}
+
+/// Prints how many were tried and refused.
+fn print_tally<W: Write>(output: &mut W, tally: &Tally) -> Result<()> {
+    let (tried, refused) = (tally.tried, tally.refused);
+    write!(output, "{tried} tried, {refused} refused, ")?;
+    Ok(())
+}
+
+/// Prints how many answers came, if some did, and after what time.
+fn print_answers<W: Write>(output: &mut W, tally: &Tally) -> Result<()> {
+    let answered = tally.answered.count;
+    if answered != 0 {
+        let times = tally.answered;
+        writeln!(output, "     {answered} came back after {times}")?;
+    }
+    Ok(())
+}
+
+/// Prints how many packets each host gave up, if it gave up some.
+pub fn print_given_up<W: Write>(
+    output: &mut W,
+    script: &Script,
+    hosts: &[Host<'static, Station>],
+) -> Result<()> {
+    for (line, host) in script.hosts.iter().zip(hosts.iter()) {
+        let (name, given_up) = (line.name.as_str(), host.owner.given_up());
+        if given_up != 0 {
+            writeln!(output, "given up by {name}: {given_up}")?;
+        }
     }
     Ok(())
 }
@@ -221,9 +164,10 @@ pub fn print_link<W: Write>(
     counts: &Counts,
 ) -> Result<()> {
     let (copies, lost, repeated) = (counts.copies, counts.lost, counts.repeated);
+    let (changed, dropped) = (counts.changed, counts.dropped);
     writeln!(
         output,
-        "link: {copies} copies, {lost} lost, {repeated} repeated"
+        "link: {copies} copies, {lost} lost, {repeated} repeated, {changed} changed; {dropped} frames dropped"
     )?;
     if counts.strange != 0 {
         writeln!(
@@ -245,6 +189,9 @@ pub fn print_link<W: Write>(
         )?,
         None if !script.frames.is_empty() => {
             writeln!(output, "premises: not met, frames come from outside")?;
+        }
+        None if counts.changed != 0 => {
+            writeln!(output, "premises: not met, frames are changed on the way")?;
         }
         None => writeln!(output, "premises: met")?,
     }

@@ -1,7 +1,7 @@
 //! What a script says.
 
 use arrayvec::ArrayVec;
-use ip_wire::{EthernetAddress, IpAddress, IpCidr};
+use ip_wire::{EthernetAddress, IpAddress, IpCidr, Ipv6Cidr};
 use sockets::IpEndpoint;
 use std::alloc::Global;
 
@@ -10,6 +10,12 @@ pub const MAX_PORTS: usize = 8;
 
 /// The maximum number of groups that a host joins.
 pub const MAX_GROUPS: usize = 8;
+
+/// How often a host may be cut off from the link.
+pub const MAX_OUTAGES: usize = 8;
+
+/// The most hosts that have a column of their own in a chart.
+pub const MAX_COLUMNS: usize = 12;
 
 /// How the link treats each copy of a frame. Chances are per mille, times in microseconds.
 #[derive(Clone, Copy)]
@@ -26,6 +32,39 @@ pub struct Treatment {
     pub least: u64,
     /// The longest delay of a copy that isn't held back.
     pub most: u64,
+    /// The chance that one bit of a copy is changed.
+    pub change: u64,
+}
+
+impl Treatment {
+    /// Nothing is lost, repeated, reordered, delayed or changed.
+    pub const NONE: Treatment = Treatment {
+        loss: 0,
+        repeat: 0,
+        reorder: 0,
+        hold: 0,
+        least: 0,
+        most: 0,
+        change: 0,
+    };
+}
+
+/// How fast frames leave a host.
+#[derive(Clone, Copy)]
+pub struct Rate {
+    /// In 1,000 bits a second.
+    pub kilobits: u64,
+    /// How many frames may wait behind the one that leaves.
+    pub frames: u64,
+}
+
+/// A time for which a host is cut off from the link: frames that are sent then neither leave it nor come to it.
+#[derive(Clone, Copy, Default)]
+pub struct Outage {
+    /// When it begins, in microseconds.
+    pub from: u64,
+    /// When it has ended.
+    pub until: u64,
 }
 
 /// A host.
@@ -45,6 +84,27 @@ pub struct HostLine {
     pub groups: ArrayVec<IpAddress, MAX_GROUPS>,
     /// The ports of its UDP sockets.
     pub ports: ArrayVec<u16, MAX_PORTS>,
+    /// Those of them whose sockets send back what they receive.
+    pub echoes: ArrayVec<u16, MAX_PORTS>,
+    /// How copies of frames to it are treated, if not as those to other hosts.
+    pub treatment: Option<Treatment>,
+    /// How fast frames leave it, if not as others.
+    pub rate: Option<Rate>,
+    /// When it is cut off.
+    pub outages: ArrayVec<Outage, MAX_OUTAGES>,
+}
+
+/// How many of something are sent, and when.
+#[derive(Clone, Copy)]
+pub struct Pace {
+    /// How many.
+    pub count: u64,
+    /// When the first is sent, in microseconds.
+    pub start: u64,
+    /// The time from one to the next.
+    pub every: u64,
+    /// Whether each of these times is drawn, from none to twice as long.
+    pub is_random: bool,
 }
 
 /// Datagrams from a socket to an endpoint.
@@ -58,12 +118,43 @@ pub struct Flow {
     pub remote: IpEndpoint,
     /// The length of each payload, in octets.
     pub size: usize,
-    /// How many datagrams it sends.
-    pub count: u64,
-    /// When it sends the first, in microseconds.
-    pub start: u64,
-    /// The time from one to the next.
+    /// How many datagrams it sends, and when.
+    pub pace: Pace,
+}
+
+/// Echo requests to an address.
+#[derive(Clone, Copy)]
+pub struct Ping {
+    /// The number of the host that sends.
+    pub host: usize,
+    /// Where it sends.
+    pub remote: IpAddress,
+    /// How many it sends, and when.
+    pub pace: Pace,
+}
+
+/// A host that advertises a prefix as a router (RFC 4861 6.2).
+#[derive(Clone, Copy)]
+pub struct Router {
+    /// The number of the host.
+    pub host: usize,
+    /// The prefix.
+    pub prefix: Ipv6Cidr,
+    /// The lifetime of the router and of addresses with the prefix, in seconds.
+    pub lifetime: u16,
+    /// The time from one advertisement to the next, in microseconds.
     pub every: u64,
+}
+
+/// What a chart shows.
+#[derive(Drop)]
+pub struct Section {
+    /// From when on, in microseconds.
+    pub from: u64,
+    /// Until when.
+    pub until: u64,
+    /// The numbers of the hosts with columns, in their order. A copy between others isn't shown.
+    pub hosts: ArrayVec<usize, MAX_COLUMNS>,
 }
 
 /// An IP packet that a raw socket sends.
@@ -80,8 +171,10 @@ pub struct RawPacket {
 /// A frame that no host sent.
 #[derive(Drop)]
 pub struct OutsideFrame {
-    /// When it arrives, in microseconds.
-    pub at: u64,
+    /// When it arrives, in microseconds. `None` if it is sent for a router.
+    pub at: Option<u64>,
+    /// The number of the host in whose name it is sent, if it is a router's.
+    pub from: Option<usize>,
     /// The frame.
     pub octets: Vec<u8>,
 }
@@ -104,12 +197,22 @@ pub struct Script {
     pub seed: u64,
     /// How the link treats frames.
     pub treatment: Treatment,
+    /// How fast frames leave hosts; `None`: at once.
+    pub rate: Option<Rate>,
+    /// How long a packet waits for its neighbour before its host gives it up, in microseconds; `None`: for ever.
+    pub patience: Option<u64>,
     /// When it ends, in microseconds.
     pub until: u64,
+    /// What its chart shows; `None`: all copies, with columns for the first hosts.
+    pub section: Option<Section>,
     /// The hosts, numbered from 0.
     pub hosts: Vec<HostLine>,
     /// The traffic.
     pub flows: Vec<Flow>,
+    /// The echo requests.
+    pub pings: Vec<Ping>,
+    /// The routers.
+    pub routers: Vec<Router>,
     /// The packets of raw sockets.
     pub packets: Vec<RawPacket>,
     /// The frames from outside.
@@ -123,17 +226,15 @@ impl Script {
     pub fn new(alloc: Global) -> Script {
         Script {
             seed: 0,
-            treatment: Treatment {
-                loss: 0,
-                repeat: 0,
-                reorder: 0,
-                hold: 0,
-                least: 0,
-                most: 0,
-            },
+            treatment: Treatment::NONE,
+            rate: None,
+            patience: None,
             until: 10_000_000,
+            section: None,
             hosts: Vec::new(alloc),
             flows: Vec::new(alloc),
+            pings: Vec::new(alloc),
+            routers: Vec::new(alloc),
             packets: Vec::new(alloc),
             frames: Vec::new(alloc),
             leaves: Vec::new(alloc),
@@ -153,5 +254,28 @@ impl Script {
             Some(line) => line.name.as_str(),
             None => "",
         }
+    }
+
+    /// How copies of frames to a host are treated.
+    pub fn treatment_of(&self, host: usize) -> Treatment {
+        let own = self.hosts.get(host).and_then(|line| line.treatment);
+        own.unwrap_or(self.treatment)
+    }
+
+    /// How fast frames leave a host; `None`: at once.
+    pub fn rate_of(&self, host: usize) -> Option<Rate> {
+        let own = self.hosts.get(host).and_then(|line| line.rate);
+        own.or(self.rate)
+    }
+
+    /// Whether a host is cut off from the link at a time.
+    pub fn is_cut_off(&self, host: usize, time: u64) -> bool {
+        let Some(line) = self.hosts.get(host) else {
+            return false;
+        };
+        let outages = line.outages.as_slice();
+        outages
+            .iter()
+            .any(|outage| outage.from <= time && time < outage.until)
     }
 }

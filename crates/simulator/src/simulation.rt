@@ -2,12 +2,13 @@
 ghost use Rattle.net_base.specs.Time.{IsMoment};
 
 use crate::agenda::{Agenda, What};
+use crate::counts::Counts;
 use crate::link::Link;
 use crate::pending::Pending;
-use crate::report::{self, Counts};
-use crate::script::Script;
+use crate::script::{OutsideFrame, Script};
 use crate::station::{self, Station};
-use crate::{capture, chart};
+use crate::uplink::Uplink;
+use crate::{advertisement, capture, chart, report};
 use anyhow::Result;
 use net_base::time::Instant;
 use network::Network;
@@ -28,6 +29,15 @@ pub enum Form {
     Capture,
 }
 
+/// What a router sends.
+#[derive(Clone, Copy)]
+pub(crate) struct Advertisement {
+    // The number of the frame in the script.
+    pub(crate) frame: usize,
+    // When it is sent next as a reply, or when it was sent last.
+    pub(crate) at: u64,
+}
+
 /// A simulation.
 #[derive(Drop)]
 pub struct Simulation {
@@ -42,6 +52,10 @@ pub struct Simulation {
     pub(crate) by_address: BTreeMap<[u8; 6], usize>,
     // When each host is to be polled.
     pub(crate) wakes: Vec<Option<u64>>,
+    // How frames leave each host.
+    pub(crate) uplinks: Vec<Uplink>,
+    // What each router sends, by the number of the frame in the script, and when it does so or did so last.
+    pub(crate) advertisements: Vec<Advertisement>,
     pub(crate) counts: Counts,
     // The number of the next transmission that the link gets.
     pub(crate) next: usize,
@@ -84,18 +98,24 @@ impl Simulation {
         }
         let counts = Counts::new(alloc, &script)?;
         let wakes = vec![in alloc; None; script.hosts.len()]?;
+        let mut uplinks = Vec::new(alloc);
+        for _ in 0..script.hosts.len() {
+            uplinks.push(Uplink::new(alloc))?;
+        }
         let network = Network::new(alloc, hosts);
         network.are_regular();
         Ok(Simulation {
             alloc,
             form,
-            link: Link::new(script.treatment, script.seed),
+            link: Link::new(script.seed),
             script,
             network,
             agenda: Agenda::new(alloc),
             pending: Pending::new(alloc),
             by_address,
             wakes,
+            uplinks,
+            advertisements: Vec::new(alloc),
             counts,
             next: 0,
             now: 0,
@@ -109,22 +129,51 @@ impl Simulation {
         }
         self.plan_tasks()?;
         for (i, frame) in self.script.frames.iter().enumerate() {
-            self.agenda.plan(frame.at, What::Comes(i))?;
+            if let Some(time) = frame.at {
+                self.agenda.plan(time, What::Comes(i))?;
+            }
         }
         for (i, leave) in self.script.leaves.iter().enumerate() {
             self.agenda.plan(leave.at, What::Leaves(i))?;
         }
+        self.plan_routers()
+    }
+
+    /// Makes what routers send, and plans that each advertises at once.
+    fn plan_routers(&mut self) -> Result<()> {
+        for i in 0..self.script.routers.len() {
+            let Some(router) = self.script.routers.get(i).copied() else {
+                break;
+            };
+            let frame = self.script.frames.len();
+            let octets = advertisement::frame_of(self.alloc, &self.script, &router)?;
+            let from = Some(router.host);
+            let at = None;
+            self.script.frames.push(OutsideFrame { at, from, octets })?;
+            self.advertisements.push(Advertisement { frame, at: 0 })?;
+            self.agenda.plan(0, What::Advertises(i))?;
+        }
         Ok(())
     }
 
-    /// Plans the tasks of hosts: the first datagrams of flows, and packets. Those of one host are numbered in this order.
+    /// Plans the tasks of hosts: the first datagrams of flows, the first echo requests, and packets. Those of one host are
+    /// numbered in this order.
     fn plan_tasks(&mut self) -> Result<()> {
         let mut tasks = vec![in self.alloc; 0_usize; self.script.hosts.len()]?;
         for flow in self.script.flows.iter() {
             let host = flow.host;
             let task = next_task(&mut tasks, host);
-            if flow.count != 0 {
-                self.agenda.plan(flow.start, What::Does { host, task })?;
+            if flow.pace.count != 0 {
+                self.agenda
+                    .plan(flow.pace.start, What::Does { host, task })?;
+            }
+        }
+        for ping in self.script.pings.iter() {
+            let host = ping.host;
+            let task = next_task(&mut tasks, host);
+            if ping.pace.count != 0 {
+                self.agenda
+                    .plan(ping.pace.start, What::Does { host, task })?;
             }
         }
         for packet in self.script.packets.iter() {
@@ -166,6 +215,8 @@ impl Simulation {
         let hosts = self.network.hosts();
         report::print_hosts(output, &self.script, hosts)?;
         report::print_flows(output, &self.script, &self.counts)?;
+        report::print_pings(output, &self.script, &self.counts)?;
+        report::print_given_up(output, &self.script, hosts)?;
         report::print_frames(output, &self.script, &self.counts)?;
         report::print_link(output, &self.script, hosts, &self.counts)
     }

@@ -6,7 +6,7 @@ use ip_wire::{EthernetAddress, IpAddress, IpCidr, Ipv4Address, Ipv4Cidr, Ipv6Add
 use std::net::{Ipv4Addr, Ipv6Addr};
 
 /// The maximum number of words in a line.
-const MAX_WORDS: usize = 10;
+const MAX_WORDS: usize = 16;
 
 /// The words of a line, of which some were read.
 #[derive(Drop)]
@@ -16,7 +16,7 @@ pub struct Words<'a> {
 }
 
 impl<'a> Words<'a> {
-    /// The words of a line, separated by blanks. Fails if there are more than ten.
+    /// The words of a line, separated by blanks. Fails if there are more than sixteen.
     pub fn of(line: &'a str) -> Result<Words<'a>> {
         let mut words = ArrayVec::new();
         for word in line.split_whitespace() {
