@@ -9,6 +9,8 @@
  *  - Datagrams in pieces for absent neighbours: each is given up after the patience.
  *  - Pings of 3,000 octets, three at a time, and under half a percent of loss.
  *  - Stray fragments: packets in fragments are put together again after the time that fragments wait.
+ *
+ * All these are without a guard. Then come attacks without one and with the usual one, as docs/SECURITY.md has them.
  */
 #include "iface.h"
 
@@ -48,12 +50,15 @@ static int is_lost(void) {
     return state % 10000 < loss;
 }
 
+/* Whether hosts have the usual guard. */
+static uint8_t guarded;
+
 /* A host at 192.168.69.`last`, whose frames have at most so many octets. */
 static void make(iface *host, uint8_t last, uint32_t frame_len) {
     struct iface_config config;
     struct iface_address own = v4(last);
     iface_config_init(&config);
-    config.seed = last, config.frame_len = frame_len, config.hardware_address[0] = 2, config.hardware_address[5] = last;
+    config.guard.on = guarded, config.seed = last, config.frame_len = frame_len, config.hardware_address[0] = 2, config.hardware_address[5] = last;
     must("host", iface_new(host, &config));
     must("address", iface_add_address(host, &own, 24));
 }
@@ -452,6 +457,273 @@ static void stray_fragments(void) {
     must("free", iface_free(&host)), must("free", iface_free(&peer));
 }
 
+/* ---- attacks, without a guard and with one ---- */
+
+/* An ARP packet to 192.168.69.1 which says that 192.168.69.`sender` is at a hardware address (RFC 826). */
+static void send_arp(iface *host, uint8_t sender, uint8_t hardware) {
+    static uint8_t out[IFACE_FRAME_ROOM];
+    const uint8_t frame[42] = {2, 0, 0, 0, 0, 1, 2, 0, 0, 0, 0, hardware, 8, 6, 0, 1, 8, 0, 6, 4, 0, 2, 2, 0, 0, 0, 0, hardware,
+                               192, 168, 69, sender, 2, 0, 0, 0, 0, 1, 192, 168, 69, 1};
+    size_t n;
+    must("receive", iface_receive(host, now, frame, sizeof frame, out, sizeof out, &n));
+}
+
+/* The last frame that was sent in response. */
+static uint8_t response[IFACE_FRAME_ROOM];
+
+/* An echo request of one octet from 192.168.69.`from` (RFC 792). How many octets the answer in the same call has. */
+static size_t forge_ping(iface *host, uint8_t from) {
+    static uint8_t frame[IFACE_FRAME_ROOM];
+    uint8_t message[9] = {8, 0, 0, 0, 0, 1, 0, 1, 'x'};
+    uint16_t sum = sum_of(message, sizeof message);
+    size_t n;
+    message[2] = (uint8_t)(sum >> 8), message[3] = (uint8_t)sum;
+    size_t length = packet(frame, from, 1, 1, 1, 0, message, sizeof message);
+    must("receive", iface_receive(host, now, frame, length, response, sizeof response, &n));
+    return n;
+}
+
+static struct iface_drops drops_of(iface *host) {
+    struct iface_drops drops;
+    must("drops", iface_guard_drops(host, &drops));
+    return drops;
+}
+
+/* How many entries for neighbours have an address. */
+static unsigned entries_of(iface *host, uint8_t last) {
+    struct iface_address address;
+    uint8_t hardware[6];
+    int64_t until;
+    unsigned found = 0;
+    for (uint32_t place = 0; iface_neighbor_at(host, place, &address, hardware, &until) == IFACE_OK; place++)
+        found += address.octets[3] == last;
+    return found;
+}
+
+/* Messages that claim the host's own address: whether one takes an entry, and who sent it. */
+static void own_address(void) {
+    iface host = IFACE_NONE;
+    uint8_t hardware[6] = {0};
+    int64_t at = 0;
+    now += 10 * SECOND;
+    make(&host, 1, 1514);
+    send_arp(&host, 1, 66);
+    unsigned taken = entries_of(&host, 1);
+    uint32_t told = iface_guard_conflict(&host, hardware, &at);
+    printf("own address claimed, guard %s: %u of 4 entries taken, %s\n", guarded ? "on" : "off", taken,
+           told == IFACE_OK ? "and it is told who did" : "and nothing is told");
+    wants("it is dropped and told with a guard alone",
+          guarded ? taken == 0 && told == IFACE_OK && hardware[5] == 66 && at == now && drops_of(&host).own_address == 1
+                  : taken == 1 && told == IFACE_NOT_THERE);
+    must("free", iface_free(&host));
+}
+
+/* A neighbour that pings ten times a second for a minute, and tells its hardware address when it is asked, beside a hundred
+ * forged ARP packets a second, in its name or in others': how many pings are answered to it. */
+static unsigned answered_beside(int in_its_name) {
+    iface host = IFACE_NONE;
+    unsigned answered = 0;
+    now += 10 * SECOND;
+    make(&host, 1, 1514);
+    send_arp(&host, 2, 2);
+    for (unsigned i = 0; i < 600; i++, now += SECOND / 10) {
+        for (unsigned k = 0; k < 10; k++) send_arp(&host, in_its_name ? 2 : (uint8_t)(100 + (10 * i + k) % 100), 66);
+        size_t n = forge_ping(&host, 2);
+        answered += n == 43 && response[5] == 2 && response[34] == 0;
+        if (n == 42 && response[13] == 6 && response[41] == 2) send_arp(&host, 2, 2);
+    }
+    must("free", iface_free(&host));
+    return answered;
+}
+
+static void forged_neighbors(void) {
+    unsigned many = answered_beside(0), known = answered_beside(1);
+    printf("100 forged neighbours a second, guard %s: %u of 600 pings of a neighbour are answered; in its own name: %u\n",
+           guarded ? "on" : "off", many, known);
+    wants("a neighbour that is known is served with a guard", guarded ? many >= 580 : many <= 100);
+}
+
+/* Pings from absent neighbours, a thousand a second, and a datagram to a neighbour that is there and not known: after how
+ * many milliseconds it arrives, if it does within a minute. */
+static void discovery_for_nothing(void) {
+    iface host = IFACE_NONE, peer = IFACE_NONE;
+    now += 10 * SECOND;
+    make(&host, 1, 1514), make(&peer, 2, 1514);
+    uint32_t socket = udp_at(&host, 1000, 8, 4096), at = udp_at(&peer, 2000, 8, 4096);
+    struct iface_endpoint to = {v4(2), 2000}, from;
+    int64_t begun = 0, arrived = 0;
+    uint8_t got[16], frame[IFACE_FRAME_ROOM];
+    size_t n;
+    for (unsigned i = 0; i < 65000 && arrived == 0; i++, now += SECOND / 1000) {
+        (void)forge_ping(&host, (uint8_t)(100 + i % 100));
+        if (i % 1000 == 500) { /* again each second, since it is given up after the patience */
+            if (begun == 0) begun = now;
+            (void)iface_udp_send(&host, socket, &to, (const uint8_t *)"!", 1);
+        }
+        must("next", iface_next(&host, now, frame, sizeof frame, &n));
+        if (n > 0) hear_only(&peer, &host, frame, n);
+        if (iface_udp_receive(&peer, at, &from, got, sizeof got, &n) == IFACE_OK) arrived = now;
+    }
+    printf("1,000 pings a second from absent neighbours, guard %s: a datagram to a neighbour that isn't known ", guarded ? "on" : "off");
+    if (arrived > 0) printf("arrives after %lld ms\n", (long long)(arrived - begun) / 1000);
+    else printf("doesn't arrive within a minute\n");
+    wants("it arrives within three seconds with a guard alone", guarded ? arrived > 0 && arrived - begun <= 3 * SECOND : arrived == 0);
+    must("free", iface_free(&host)), must("free", iface_free(&peer));
+}
+
+/* Pings in the name of a known neighbour, a thousand in a second: how many answers are sent. */
+static void reflection(void) {
+    iface host = IFACE_NONE;
+    unsigned answers = 0;
+    now += 10 * SECOND;
+    make(&host, 1, 1514);
+    send_arp(&host, 2, 2);
+    for (unsigned i = 0; i < 1000; i++, now += SECOND / 1000) answers += forge_ping(&host, 2) > 0;
+    printf("1,000 pings in a second in a neighbour's name, guard %s: %u are answered\n", guarded ? "on" : "off", answers);
+    wants("at most ten at once and a hundred in the second with a guard", answers == (guarded ? 109 : 1000));
+    must("free", iface_free(&host));
+}
+
+/* Two echo services, and one datagram in the name of one of them to the other: how many datagrams go to and fro. */
+static void loop(void) {
+    static uint8_t frame[IFACE_FRAME_ROOM], out[IFACE_FRAME_ROOM];
+    const uint8_t datagram[9] = {0, ECHO_PORT, 0, ECHO_PORT, 0, 9, 0, 0, 'x'};
+    iface one = IFACE_NONE, two = IFACE_NONE;
+    unsigned sent = 0;
+    size_t n, length = packet(frame, 2, 1, 17, 1, 0, datagram, sizeof datagram);
+    now += 10 * SECOND;
+    make(&one, 1, 1514), make(&two, 2, 1514);
+    uint32_t at_one = udp_at(&one, ECHO_PORT, 8, 4096), at_two = udp_at(&two, ECHO_PORT, 8, 4096);
+    must("receive", iface_receive(&one, now, frame, length, out, sizeof out, &n));
+    for (int turn = 0; turn < 100; turn++)
+        echo(&one, at_one), sent += drain(&one, &two), echo(&two, at_two), sent += drain(&two, &one);
+    printf("a datagram from one echo service to another, guard %s: %u frames in a hundred turns\n", guarded ? "on" : "off", sent);
+    wants("none with a guard", guarded ? sent == 0 && drops_of(&one).loops == 1 : sent >= 200);
+    must("free", iface_free(&one)), must("free", iface_free(&two));
+}
+
+/* Fragments of packets that never end, of one stranger and of many, and a datagram in pieces once a second: how many of
+ * sixty arrive. */
+static unsigned arrived_beside(unsigned strangers) {
+    static uint8_t frame[IFACE_FRAME_ROOM], out[IFACE_FRAME_ROOM], payload[3000], got[4096];
+    iface host = IFACE_NONE, peer = IFACE_NONE;
+    now += 10 * SECOND;
+    make(&host, 2, 1514), make(&peer, 1, 1514);
+    uint32_t socket = udp_at(&host, 1000, 8, 32768), at = udp_at(&peer, 2000, 8, 32768);
+    struct iface_endpoint to = {v4(1), 2000}, from;
+    unsigned arrived = 0;
+    size_t n;
+    for (int i = 0; i < 60; i++, now += SECOND) {
+        for (unsigned k = 0; k < 8; k++) {
+            size_t length = packet(frame, (uint8_t)(100 + k % strangers), 1, 17, (uint16_t)(8 * i + (int)k), 0x2000, payload, 8);
+            must("receive", iface_receive(&peer, now, frame, length, out, sizeof out, &n));
+        }
+        must("send", iface_udp_send(&host, socket, &to, payload, sizeof payload));
+        for (int turn = 0; turn < 3; turn++) drain(&host, &peer), drain(&peer, &host);
+        while (iface_udp_receive(&peer, at, &from, got, sizeof got, &n) == IFACE_OK) arrived++;
+    }
+    must("free", iface_free(&host)), must("free", iface_free(&peer));
+    return arrived;
+}
+
+static void fragments(void) {
+    unsigned one = arrived_beside(1), many = arrived_beside(8);
+    printf("eight stray fragments a second, guard %s: %u of 60 datagrams in pieces arrive beside one stranger, %u beside eight\n",
+           guarded ? "on" : "off", one, many);
+}
+
+/* A router advertisement of fe80::`last`, for half an hour, to ff02::1 (RFC 4861 4.2). */
+static void send_advertisement(iface *host, uint8_t last) {
+    static uint8_t out[IFACE_FRAME_ROOM];
+    uint8_t frame[70] = {0x33, 0x33, 0, 0, 0, 1, 2, 0, 0, 0, 0, last, 0x86, 0xdd, 0x60, 0, 0, 0, 0, 16, 58, 255};
+    uint8_t sum_over[56] = {0};
+    frame[22] = 0xfe, frame[23] = 0x80, frame[37] = last, frame[38] = 0xff, frame[39] = 2, frame[53] = 1;
+    frame[54] = 134, frame[58] = 64, frame[60] = 1800 >> 8, frame[61] = 1800 & 255;
+    memcpy(sum_over, frame + 22, 32), sum_over[35] = 16, sum_over[39] = 58, memcpy(sum_over + 40, frame + 54, 16);
+    uint16_t sum = sum_of(sum_over, sizeof sum_over);
+    frame[56] = (uint8_t)(sum >> 8), frame[57] = (uint8_t)sum;
+    size_t n;
+    must("receive", iface_receive(host, now, frame, sizeof frame, out, sizeof out, &n));
+}
+
+/* Advertisements of a hundred routers in ten seconds: how many are routes of a host that takes them. */
+static void router_flood(void) {
+    iface host = IFACE_NONE;
+    struct iface_config config;
+    struct iface_address own = {6, {0xfe, 0x80, [15] = 1}}, network, router;
+    uint8_t prefix_len, frame[IFACE_FRAME_ROOM];
+    unsigned routes = 0;
+    int64_t until;
+    size_t n;
+    now += 10 * SECOND;
+    iface_config_init(&config);
+    config.guard.on = guarded, config.slaac = 1, config.hardware_address[0] = 2, config.hardware_address[5] = 1;
+    must("host", iface_new(&host, &config));
+    must("address", iface_add_address(&host, &own, 64));
+    for (unsigned i = 0; i < 100; i++, now += SECOND / 10) {
+        send_advertisement(&host, (uint8_t)(100 + i));
+        must("next", iface_next(&host, now, frame, sizeof frame, &n));
+    }
+    while (iface_route_at(&host, routes, &network, &prefix_len, &router, &until) == IFACE_OK) routes++;
+    printf("advertisements of 100 routers in ten seconds, guard %s: %u are routes\n", guarded ? "on" : "off", routes);
+    wants("one is, with a guard", routes == (guarded ? 1 : 4));
+    must("free", iface_free(&host));
+}
+
+/* A query of IGMP to 224.0.0.1 about a group, 0 for all (RFC 2236 2), to be answered within so many tenths of a second. */
+static void send_query(iface *host, uint8_t group, uint8_t within) {
+    static uint8_t frame[IFACE_FRAME_ROOM], out[IFACE_FRAME_ROOM];
+    uint8_t query[8] = {0x11, within, 0, 0, group, 0, 0, group ? 1 : 0};
+    uint16_t sum = sum_of(query, sizeof query);
+    query[2] = (uint8_t)(sum >> 8), query[3] = (uint8_t)sum;
+    size_t n, length = packet(frame, 3, 1, 2, 1, 0, query, sizeof query);
+    memcpy(frame, (uint8_t[]){1, 0, 0x5e, 0, 0, 1}, 6), memcpy(frame + 30, (uint8_t[]){224, 0, 0, 1}, 4);
+    frame[24] = frame[25] = 0, sum = sum_of(frame + 14, 20), frame[24] = (uint8_t)(sum >> 8), frame[25] = (uint8_t)sum;
+    must("receive", iface_receive(host, now, frame, length, out, sizeof out, &n));
+}
+
+/* A query once a minute, to be answered within ten seconds, and a forged one for 224.0.0.1 so long after each: how many of
+ * ten are answered by a report of the host's group. */
+static unsigned reports_beside(int64_t after) {
+    iface host = IFACE_NONE;
+    uint8_t frame[IFACE_FRAME_ROOM];
+    unsigned reports = 0;
+    size_t n;
+    now += 10 * SECOND;
+    make(&host, 1, 1514);
+    must("group", iface_join_group(&host, &(struct iface_address){4, {239, 1, 1, 1}}));
+    for (int i = 0; i < 10; i++) must("next", iface_next(&host, now, frame, sizeof frame, &n));
+    for (unsigned i = 0; i < 10; i++) {
+        for (int64_t since = 0; since < 60 * SECOND; since += SECOND / 10, now += SECOND / 10) {
+            if (since == 0) send_query(&host, 0, 100);
+            if (since == after) send_query(&host, 224, 100);
+            must("next", iface_next(&host, now, frame, sizeof frame, &n));
+            reports += n > 0 && frame[23] == 2 && frame[14 + 4 * (frame[14] % 16)] == 0x16 && frame[30] == 239;
+        }
+    }
+    must("free", iface_free(&host));
+    return reports;
+}
+
+static void queries(void) {
+    unsigned none = reports_beside(-1), soon = reports_beside(SECOND / 10), later = reports_beside(SECOND * 11 / 10);
+    printf("ten queries, guard %s: %u are answered; %u with a forged one 0.1 s after each, %u after 1.1 s\n", guarded ? "on" : "off", none, soon,
+           later);
+    wants("all are answered where none is forged", none == 10);
+    wants("most are with a guard, if the forged one comes at once", guarded ? soon == 10 : soon <= 2);
+}
+
+static void attacks(void) {
+    own_address();
+    forged_neighbors();
+    discovery_for_nothing();
+    reflection();
+    loop();
+    router_flood();
+    queries();
+    fragments();
+}
+
 int main(void) {
     spoofed_datagram();
     spoofed_datagrams();
@@ -462,5 +734,8 @@ int main(void) {
     long_for_absent();
     long_pings();
     stray_fragments();
+    attacks();
+    guarded = 1;
+    attacks();
     return failures != 0;
 }

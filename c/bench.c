@@ -1,10 +1,11 @@
 /* Has a host do one thing over and over, so that its instructions can be counted:
  *
- *   bench WORK ROUNDS [SOCKETS]      WORK: arp, echo, deliver (and read), back (delivered, read and sent back), send, next
+ *   bench WORK ROUNDS [SOCKETS [GUARD]]   WORK: arp, echo, deliver (and read), back (delivered, read and sent back), send, next
  *                                    (nothing to send), waiting (the same while each socket waits for a neighbour), poll_at,
  *                                    until (poll_at while each socket waits)
  *
- * The socket of the work is the last of SOCKETS, 1 if not given.
+ * The socket of the work is the last of SOCKETS, 1 if not given. GUARD is 1 if not given, and 0 turns the guard off; echo
+ * replies have no rate here.
  * valgrind --tool=callgrind counts them; the difference of two runs, divided by the rounds between them, is a call's.
  */
 #include "iface.h"
@@ -80,12 +81,13 @@ static void wait_all(iface *host, const uint32_t *sockets, long count) {
 
 int main(int argc, char **argv) {
     static uint32_t sockets[4096];
-    if (argc != 3 && argc != 4) return 2;
-    long rounds = atol(argv[2]), count = argc == 4 ? atol(argv[3]) : 1, octets = 0;
+    if (argc < 3 || argc > 5) return 2;
+    long rounds = atol(argv[2]), count = argc > 3 ? atol(argv[3]) : 1, octets = 0;
     if (count < 1 || count > 4096) return 2;
     iface host = IFACE_NONE;
     struct iface_config config;
     iface_config_init(&config);
+    config.guard.on = argc < 5 || atol(argv[4]) != 0, config.guard.echo_replies.interval = 0;
     config.seed = 1, config.sockets = (uint32_t)count, config.hardware_address[0] = 2, config.hardware_address[5] = 1;
     struct iface_address own = {4, {192, 168, 69, 1}};
     struct iface_endpoint local = {{0, {0}}, 4000}, remote = {{4, {192, 168, 69, 100}}, 5000}, from;

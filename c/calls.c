@@ -264,6 +264,39 @@ static void knows_neighbors(void) {
     must("free", iface_free(&host));
 }
 
+/* A guard drops an ARP packet that claims the own address (RFC 5227, 2.4), and tells who sent it; a host without one learns
+ * it. The packet counts among those that were dropped alone. */
+static void guards(uint8_t on, uint8_t own_addresses) {
+    static const uint8_t arp[42] = {2, 0, 0, 0, 0, 1, 2, 0, 0, 0, 0, 9, 8, 6, 0, 1, 8, 0, 6, 4, 0, 2, 2, 0, 0, 0, 0, 9,
+                                    192, 168, 69, 1, 2, 0, 0, 0, 0, 1, 192, 168, 69, 1};
+    iface host = IFACE_NONE;
+    struct iface_config config;
+    struct iface_address own = v4(192, 168, 69, 1), is;
+    struct iface_drops drops;
+    struct iface_counts counters;
+    uint8_t hardware[6] = {0}, keeps = on != 0 && own_addresses != 0;
+    int64_t at = 77;
+    size_t n;
+    iface_config_init(&config);
+    wants("a guard", config.guard.on == 1 && config.guard.own_addresses == 1 && config.guard.loops == 1 && config.guard.fragments == 0, 1);
+    wants("its rates", config.guard.neighbors.interval == 500000 && config.guard.neighbors.at_once == 8 && config.guard.routers == 60000000, 1);
+    config.hardware_address[0] = 2, config.hardware_address[5] = 1, config.guard.on = on, config.guard.own_addresses = own_addresses;
+    must("host", iface_new(&host, &config));
+    must("address", iface_add_address(&host, &own, 24));
+    wants("no conflict", iface_guard_conflict(&host, hardware, &at), IFACE_NOT_THERE);
+    wants("nothing written", at == 77 && hardware[5] == 0, 1);
+    must("receive", iface_receive(&host, 2000, arp, sizeof arp, reply, sizeof reply, &n));
+    wants("no response", n, 0);
+    wants("learnt", iface_neighbor_at(&host, 0, &is, reply, &at), keeps ? IFACE_NOT_THERE : IFACE_OK);
+    must("drops", iface_guard_drops(&host, &drops));
+    must("counters", iface_counters(&host, &counters));
+    wants("dropped", drops.own_address == keeps && drops.own_source == 0 && drops.new_neighbor == 0 && drops.reset == 0, 1);
+    wants("taken", counters.frames_in == !keeps, 1);
+    wants("conflict", iface_guard_conflict(&host, hardware, &at), keeps ? IFACE_OK : IFACE_NOT_THERE);
+    if (keeps) wants("who, and when", memcmp(hardware, arp + 6, 6) == 0 && at == 2000, 1);
+    must("free", iface_free(&host));
+}
+
 /* A datagram whose checksums are wrong comes where they aren't verified, and one is sent with 0 where none is computed. */
 static void leaves_checksums_to_the_link(void) {
     static const uint8_t datagram[29] = {0x45, 0, 0, 29, 0, 1, 0, 0, 64, 17, 0xde, 0xad, 192, 168, 69, 2,
@@ -549,6 +582,7 @@ int main(void) {
     leaves_checksums_to_the_link();
     chooses_sources();
     knows_neighbors();
+    guards(1, 1), guards(1, 0), guards(0, 1);
     makes_link_local_addresses();
     keeps_routes_until_their_end();
     sends_to_any_address();

@@ -57,7 +57,7 @@ enum iface_code {
 /* The version of this header, an octet each: 0.14.0, and the header's number, which grows with each change of a call or
  * a structure. iface_new refuses a library of another one; a program that compares it with iface_version() before its
  * first call learns of that earlier. */
-#define IFACE_VERSION 0x000e0003u
+#define IFACE_VERSION 0x000e0004u
 
 /* The room that iface_receive and iface_next need for a frame, in octets. */
 #define IFACE_FRAME_ROOM 1514
@@ -138,6 +138,31 @@ struct iface_checksums {
     uint8_t icmpv6;
 };
 
+/* A rate: one in each interval, and so many at once. */
+struct iface_rate {
+    uint32_t interval; /* in microseconds; 0 sets no bound */
+    uint32_t at_once;
+};
+
+/* The guard in front of a host on Ethernet: what it drops before the host sees it, and which answers to strangers it holds
+ * back. Each rule has its switch; a rate is off by an interval of 0. A comment ends with what iface_config_init sets. A
+ * neighbour is expected if its hardware address is known, or if the host asked for it last, within three seconds. */
+struct iface_guard {
+    struct iface_rate neighbors;    /* ARP packets for own addresses and neighbour messages of those that aren't expected: 500,000 and 8 */
+    struct iface_rate discoveries;  /* packets to own addresses, other than of UDP and TCP, from those of own networks
+                                       that aren't known: 2,000,000 and 1 */
+    struct iface_rate queries;      /* queries of IGMP and MLD: 1,000,000 and 1 */
+    struct iface_rate echo_replies; /* echo replies of either ICMP: 10,000 and 10 */
+    struct iface_rate errors;       /* errors of either ICMP (RFC 4443, 2.4): 10,000 and 10 */
+    struct iface_rate resets;       /* resets of TCP: 10,000 and 10 */
+    uint32_t routers;               /* for so many microseconds after a router was heard as another one than before, no other
+                                       is; 0 sets no bound: 60,000,000 */
+    uint8_t on;                     /* 0: there is no guard, as without hardware addresses: 1 */
+    uint8_t own_addresses;          /* not 0: drops what claims an own address (RFC 5227, 2.4), or comes from one: 1 */
+    uint8_t loops;                  /* not 0: drops datagrams of UDP from port 7, 13, 17 or 19 to a port below 1024: 1 */
+    uint8_t fragments;              /* not 0: drops fragments: 0 */
+};
+
 /* How a host is to be made: iface_config_init fills it in. */
 struct iface_config {
     uint64_t seed;               /* of its random words, which need not be secret: another for each host and each start */
@@ -156,6 +181,7 @@ struct iface_config {
     uint8_t medium;              /* IFACE_ETHERNET or IFACE_IP */
     uint8_t slaac;               /* not 0: it takes IPv6 addresses and routes from routers (RFC 4862) */
     struct iface_checksums checksums; /* IFACE_BOTH for each: the host verifies and computes all */
+    struct iface_guard guard;    /* on Ethernet; else it isn't read */
 };
 
 enum iface_medium { IFACE_ETHERNET = 0, IFACE_IP = 1 };
@@ -175,10 +201,26 @@ struct iface_counts {
     uint64_t no_memory;  /* how often memory for a frame was refused in the middle of a round: what was to be sent waits */
 };
 
+/* How many frames a host's guard dropped, by the reason, and how many answers it held back. What is dropped isn't counted
+ * among the frames that the host took. A number stays at the greatest one. */
+struct iface_drops {
+    uint64_t own_address;  /* messages that claim an own address */
+    uint64_t own_source;   /* packets from an own address */
+    uint64_t new_neighbor; /* by the rate `neighbors` */
+    uint64_t discovery;    /* by the rate `discoveries` */
+    uint64_t query;        /* by the rate `queries` */
+    uint64_t router;       /* advertisements of other routers */
+    uint64_t fragment;
+    uint64_t loops;
+    uint64_t echo_reply;   /* held back */
+    uint64_t error;        /* held back */
+    uint64_t reset;        /* held back */
+};
+
 /* ---- hosts ---- */
 
 /* Writes what most programs want: frames of 1514 octets on Ethernet, 8 sockets, no addresses from routers, a patience of
- * 3 s (three requests, a second apart: RFC 4861, 10), and 10 s for fragments. The start is 0, the seed is 0, and the
+ * 3 s (three requests, a second apart: RFC 4861, 10), 10 s for fragments, and a guard. The start is 0, the seed is 0, and the
  * hardware address all zeros: set the last two. */
 void iface_config_init(struct iface_config *config);
 
@@ -422,7 +464,7 @@ uint32_t iface_given_up_count(iface *host, uint64_t *count);
  * back. BAD_MOMENT. `room` is at least IFACE_FRAME_ROOM. NO_ROOM. */
 
 /* Takes a frame of any octets, and writes the frame that is to be sent in response, of *length octets; none if that
- * is 0. */
+ * is 0. A frame that the guard drops changes nothing but what the guard keeps. */
 uint32_t iface_receive(iface *host, int64_t now, const uint8_t *frame, size_t frame_len, uint8_t *out, size_t room,
                        size_t *length);
 
@@ -445,6 +487,13 @@ uint32_t iface_sockets_changed(iface *host, uint8_t *changed);
 /* Writes what the host counted. */
 uint32_t iface_counters(iface *host, struct iface_counts *counters);
 
+/* Writes how many frames the host's guard dropped, by the reason, and how many answers it held back. */
+uint32_t iface_guard_drops(iface *host, struct iface_drops *drops);
+
+/* Writes the hardware address that the last frame came from which the guard dropped as claiming an own address, six octets,
+ * and the moment at which it came (RFC 5227, 2.4). NOT_THERE (no such frame came). */
+uint32_t iface_guard_conflict(iface *host, uint8_t *hardware_address, int64_t *at);
+
 /* Writes the instant at which iface_next is to be called again, if no frame comes before and no call changes the host:
  * one that has passed, if something is due at once, and IFACE_NEVER, if nothing is due. */
 uint32_t iface_poll_at(iface *host, int64_t now, int64_t *at);
@@ -466,9 +515,11 @@ const char *iface_strerror(uint32_t code);
 
 #if defined(__STDC_VERSION__) && __STDC_VERSION__ >= 201112L
 _Static_assert(sizeof(struct iface_address) == 17 && sizeof(struct iface_endpoint) == 20, "as the library lays them out");
-_Static_assert(sizeof(struct iface_config) == 64 && sizeof(iface) == 16, "as the library lays them out");
+_Static_assert(sizeof(struct iface_config) == 120 && sizeof(iface) == 16, "as the library lays them out");
 _Static_assert(sizeof(struct iface_cidr) == 18 && sizeof(struct iface_counts) == 32, "as the library lays them out");
 _Static_assert(sizeof(struct iface_queue) == 20 && sizeof(struct iface_checksums) == 5, "as the library lays them out");
+_Static_assert(sizeof(struct iface_rate) == 8 && sizeof(struct iface_guard) == 56, "as the library lays them out");
+_Static_assert(sizeof(struct iface_drops) == 88, "as the library lays them out");
 _Static_assert(sizeof(struct iface_rooms) == 16 && sizeof(struct iface_segment) == 32, "as the library lays them out");
 #endif
 

@@ -86,6 +86,7 @@ static void refuses_without_host(void) {
     struct iface_address b = v4(10, 0, 0, 9);
     struct iface_cidr own = {a, 8};
     struct iface_counts counters = {.no_memory = 77};
+    struct iface_drops drops = {.reset = 77};
     struct iface_queue received = {.first = 77}, to_send = {.first = 78};
     struct iface_segment segment = {.remote = e, .seq = 77};
     wants("address", iface_add_address(&host, &a, 8), IFACE_NO_HOST);
@@ -98,9 +99,11 @@ static void refuses_without_host(void) {
     wants("hop limit", iface_hop_limit(&host, 0, &flag), IFACE_NO_HOST);
     wants("changed", iface_sockets_changed(&host, &flag), IFACE_NO_HOST);
     wants("counters", iface_counters(&host, &counters), IFACE_NO_HOST);
+    wants("drops", iface_guard_drops(&host, &drops), IFACE_NO_HOST);
+    wants("conflict", iface_guard_conflict(&host, hardware, &at), IFACE_NO_HOST);
     wants("neighbour", iface_neighbor_at(&host, 0, &b, hardware, &at), IFACE_NO_HOST);
     wants("queues", iface_queues(&host, 0, &received, &to_send), IFACE_NO_HOST);
-    wants("nothing written", counters.no_memory == 77 && b.octets[3] == 9 && received.first == 77 && to_send.first == 78, 1);
+    wants("nothing written", counters.no_memory == 77 && drops.reset == 77 && b.octets[3] == 9 && received.first == 77 && to_send.first == 78, 1);
     wants("address at", iface_address_at(&host, 0, &a, &prefix), IFACE_NO_HOST);
     wants("route", iface_set_default_route(&host, &a), IFACE_NO_HOST);
     wants("udp", iface_udp_open(&host, &e, &small, &socket), IFACE_NO_HOST);

@@ -103,6 +103,7 @@ static const struct iface_endpoint any = {IFACE_ANY, 0};
 static struct iface_segment segment;
 static uint64_t count;
 static struct iface_counts counters;
+static struct iface_drops drops;
 static struct iface_cidr list[4];
 static struct iface_queue received, to_send;
 static int64_t now = 1000000, at;
@@ -164,6 +165,8 @@ static size_t length, given, list_length;
     each(next, iface_next(&host, now, out, sizeof out, &length)) \
     each(sockets_changed, iface_sockets_changed(&host, &flag)) \
     each(counters, iface_counters(&host, &counters)) \
+    each(guard_drops, iface_guard_drops(&host, &drops)) \
+    each(guard_conflict, iface_guard_conflict(&host, hardware, &at)) \
     each(poll_at, iface_poll_at(&host, now, &at))
 
 #define NUMBER(name, expression) CALL_##name,
@@ -380,7 +383,7 @@ static void turn(void) {
     address = ends[word() % 2], given = 64, socket_number = 2;
     memcpy(payload, address.version == 4 ? "\10\0\0\0\0\52\0\1" : "\200\0\0\0\0\52\0\1", 8), MAKE(icmp_send);
     for (int i = 0; i < 40 && MAKE(next) == IFACE_OK && length > 0; i++) {}
-    MUST(poll_at), MUST(given_up_count), MUST(sockets_changed), MUST(counters);
+    MUST(poll_at), MUST(given_up_count), MUST(sockets_changed), MUST(counters), MUST(guard_drops), MAKE(guard_conflict);
     socket_number = number = turns++ % 4, MUST(queues), MAKE(neighbor_at);
     socket_number = 0, MAKE(waiting), MAKE(given_up);
 }

@@ -17,6 +17,7 @@ TYPES = {
     "struct iface_endpoint": "iface_endpoint", "struct iface_config": "iface_config", "struct iface_cidr": "iface_cidr",
     "struct iface_counts": "iface_counts", "struct iface_queue": "iface_queue",
     "struct iface_checksums": "iface_checksums", "struct iface_rooms": "iface_rooms", "struct iface_segment": "iface_segment",
+    "struct iface_rate": "iface_rate", "struct iface_guard": "iface_guard", "struct iface_drops": "iface_drops",
 }
 # IFACE_ROOMS isn't translated: `host::Rooms::new` makes the same.
 DEFINED = {"IFACE_H", "IFACE_FRAME_ROOM", "IFACE_LAST_MOMENT", "IFACE_NEVER", "IFACE_NONE", "IFACE_VERSION", "IFACE_ANY",

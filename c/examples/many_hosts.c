@@ -16,7 +16,7 @@
 #include <string.h>
 
 enum {
-    PORT = 7,
+    PORT = 7777,
     DATAGRAMS = 10,             /* that each host sends, */
     EVERY = 50000,              /* so far apart; all times are in microseconds */
     SHORTEST = 8, LENGTHS = 256, /* a payload has 8 to 263 octets */

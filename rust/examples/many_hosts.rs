@@ -14,7 +14,7 @@ use fumitorygate::time::{Duration, Instant};
 use fumitorygate::wire::{EthernetAddress, IpAddress, IpCidr};
 use std::collections::BTreeMap;
 
-const PORT: u16 = 7;
+const PORT: u16 = 7777;
 /// How many datagrams each host sends, and how far apart.
 const DATAGRAMS: usize = 10;
 const EVERY: Duration = Duration::from_millis(50);

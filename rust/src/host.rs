@@ -11,6 +11,7 @@
 //! | each call may be in another thread | `Send`; not `Sync`, which `&mut self` makes useless |
 //! | malloc and the like of one allocator, not in a signal handler or a forked child | the program's: in Rust both are `unsafe` to get into |
 use crate::checksum::ChecksumCapabilities;
+use crate::guard::{Conflict, Drops, Guard};
 use crate::sys;
 use crate::time::{Duration, Instant};
 use crate::wire::{
@@ -245,18 +246,21 @@ pub struct Settings {
     /// How many frames the link takes one after the other: the window in a segment of TCP is at most what so many
     /// carry. `None` sets no bound, and so does 0.
     pub burst: Option<u32>,
+    /// The guard in front of it, if there is one. Without hardware addresses it does nothing.
+    pub guard: Option<Guard>,
 }
 
 /// A configuration, and room behind it for the longer one of another library: that is refused only when a host is made.
 #[repr(C)]
 struct Configured {
     config: sys::iface_config,
-    room: [u64; 57],
+    room: [u64; 50],
 }
 
 impl Settings {
     /// What `iface_config_init` writes: frames of 1514 octets, 8 sockets, no addresses from routers, a patience of
-    /// three seconds, ten seconds for fragments, the start [`Instant::ZERO`], all checksums its own, and the seed 0.
+    /// three seconds, ten seconds for fragments, the start [`Instant::ZERO`], all checksums its own, the seed 0, and a
+    /// guard.
     pub fn new(hardware_addr: HardwareAddress) -> Settings {
         let config = sys::iface_config {
             seed: 0,
@@ -270,9 +274,10 @@ impl Settings {
             medium: 0,
             slaac: 0,
             checksums: ChecksumCapabilities::default().to_c(),
+            guard: Guard::OFF,
         };
-        let mut configured = Configured { config, room: [0; 57] };
-        // SAFETY: the pointer is that of a reference to a whole configuration, and to 456 octets behind it, which may
+        let mut configured = Configured { config, room: [0; 50] };
+        // SAFETY: the pointer is that of a reference to a whole configuration, and to 400 octets behind it, which may
         // be written.
         unsafe { sys::iface_config_init((&raw mut configured).cast()) };
         let config = configured.config;
@@ -287,6 +292,7 @@ impl Settings {
             start: Instant::from_micros_const(config.start),
             checksum: ChecksumCapabilities::default(),
             burst: (config.burst != 0).then_some(config.burst),
+            guard: Guard::from_c(config.guard),
         }
     }
 
@@ -307,6 +313,7 @@ impl Settings {
             medium,
             slaac: u8::from(self.slaac),
             checksums: self.checksum.to_c(),
+            guard: self.guard.map_or(Guard::OFF, Guard::to_c),
         }
     }
 }
@@ -1283,6 +1290,35 @@ impl Host {
             given_up: counted.given_up,
             no_memory: counted.no_memory,
         }
+    }
+
+    /// How many frames its guard dropped, by the reason, and how many answers it held back.
+    #[inline]
+    pub fn guard_drops(&mut self) -> Drops {
+        let mut drops = sys::iface_drops {
+            own_address: 0,
+            own_source: 0,
+            new_neighbor: 0,
+            discovery: 0,
+            query: 0,
+            router: 0,
+            fragment: 0,
+            loops: 0,
+            echo_reply: 0,
+            error: 0,
+            reset: 0,
+        };
+        // It is refused only without a host.
+        let _ = call!(self.iface_guard_drops(&mut drops));
+        Drops::from_c(drops)
+    }
+
+    /// Who sent the last frame that its guard dropped as claiming an own address, if there was one.
+    #[inline]
+    pub fn guard_conflict(&mut self) -> Option<Conflict> {
+        let (mut octets, mut at) = ([0; 6], 0);
+        call!(self.iface_guard_conflict(octets.as_mut_ptr(), &mut at)).ok()?;
+        Some(Conflict { hardware_addr: EthernetAddress(octets), at: Instant::from_micros_const(at) })
     }
 
     /// The instant at which [`next`](Host::next) is to be called again, if no frame comes before and no call changes

@@ -8,6 +8,7 @@
 extern crate alloc;
 
 mod checksum;
+mod guard;
 #[cfg(feature = "rust-heap")]
 mod heap;
 mod host;
@@ -26,6 +27,7 @@ pub mod phy;
 pub mod socket;
 
 pub use checksum::{Checksum, ChecksumCapabilities};
+pub use guard::{Conflict, Drops, Guard, Rate};
 pub use host::{
     Counters, Error, FRAME_ROOM, Frame, Host, Neighbor, Queue, Queues, Room, Rooms, Route, Segment, Settings,
 };

@@ -2,7 +2,7 @@
 //!
 //! Calling any of it is `unsafe`: the header says what the caller keeps. [`Host`](crate::Host) keeps it.
 //!
-//! Sum of the header: 0x44c8ce04295a3d87
+//! Sum of the header: 0x7d8b6501a8ed4416
 #![allow(non_camel_case_types)]
 
 use core::ffi::{c_char, c_void};
@@ -78,7 +78,7 @@ pub const IFACE_LAST_MOMENT: i64 = 1 << 62;
 /// The instant that stands for none.
 pub const IFACE_NEVER: i64 = i64::MAX;
 /// The version of the header.
-pub const IFACE_VERSION: u32 = 0x000e0003;
+pub const IFACE_VERSION: u32 = 0x000e0004;
 /// Any address, for the end at which a socket listens.
 pub const IFACE_ANY: iface_address = iface_address { version: 0, octets: [0; 16] };
 
@@ -184,6 +184,44 @@ pub struct iface_checksums {
     pub icmpv6: u8,
 }
 
+/// A rate: one in each interval, and so many at once.
+#[repr(C)]
+#[derive(Clone, Copy, Debug)]
+pub struct iface_rate {
+    /// in microseconds; 0 sets no bound
+    pub interval: u32,
+    /// `at_once`.
+    pub at_once: u32,
+}
+
+/// The guard in front of a host on Ethernet: what it drops before the host sees it, and which answers to strangers it holds back. Each rule has its switch; a rate is off by an interval of 0. A comment ends with what `iface_config_init` sets. A neighbour is expected if its hardware address is known, or if the host asked for it last, within three seconds.
+#[repr(C)]
+#[derive(Clone, Copy, Debug)]
+pub struct iface_guard {
+    /// ARP packets for own addresses and neighbour messages of those that aren't expected: 500,000 and 8
+    pub neighbors: iface_rate,
+    /// packets to own addresses, other than of UDP and TCP, from those of own networks that aren't known: 2,000,000 and 1
+    pub discoveries: iface_rate,
+    /// queries of IGMP and MLD: 1,000,000 and 1
+    pub queries: iface_rate,
+    /// echo replies of either ICMP: 10,000 and 10
+    pub echo_replies: iface_rate,
+    /// errors of either ICMP (RFC 4443, 2.4): 10,000 and 10
+    pub errors: iface_rate,
+    /// resets of TCP: 10,000 and 10
+    pub resets: iface_rate,
+    /// for so many microseconds after a router was heard as another one than before, no other is; 0 sets no bound: 60,000,000
+    pub routers: u32,
+    /// 0: there is no guard, as without hardware addresses: 1
+    pub on: u8,
+    /// not 0: drops what claims an own address (RFC 5227, 2.4), or comes from one: 1
+    pub own_addresses: u8,
+    /// not 0: drops datagrams of UDP from port 7, 13, 17 or 19 to a port below 1024: 1
+    pub loops: u8,
+    /// not 0: drops fragments: 0
+    pub fragments: u8,
+}
+
 /// How a host is to be made: `iface_config_init` fills it in.
 #[repr(C)]
 #[derive(Clone, Copy, Debug)]
@@ -210,6 +248,8 @@ pub struct iface_config {
     pub slaac: u8,
     /// `IFACE_BOTH` for each: the host verifies and computes all
     pub checksums: iface_checksums,
+    /// on Ethernet; else it isn't read
+    pub guard: iface_guard,
 }
 
 /// What a host counted since it was made. A number stays at the greatest one.
@@ -226,6 +266,34 @@ pub struct iface_counts {
     pub no_memory: u64,
 }
 
+/// How many frames a host's guard dropped, by the reason, and how many answers it held back. What is dropped isn't counted among the frames that the host took. A number stays at the greatest one.
+#[repr(C)]
+#[derive(Clone, Copy, Debug)]
+pub struct iface_drops {
+    /// messages that claim an own address
+    pub own_address: u64,
+    /// packets from an own address
+    pub own_source: u64,
+    /// by the rate neighbors
+    pub new_neighbor: u64,
+    /// by the rate discoveries
+    pub discovery: u64,
+    /// by the rate queries
+    pub query: u64,
+    /// advertisements of other routers
+    pub router: u64,
+    /// `fragment`.
+    pub fragment: u64,
+    /// `loops`.
+    pub loops: u64,
+    /// held back
+    pub echo_reply: u64,
+    /// held back
+    pub error: u64,
+    /// held back
+    pub reset: u64,
+}
+
 impl iface {
     /// A handle that owns no host.
     pub const NONE: iface = iface {
@@ -236,17 +304,20 @@ impl iface {
 
 const _: () = assert!(size_of::<iface_address>() == 17);
 const _: () = assert!(size_of::<iface_endpoint>() == 20);
-const _: () = assert!(size_of::<iface_config>() == 64);
+const _: () = assert!(size_of::<iface_config>() == 120);
 const _: () = assert!(size_of::<iface>() == 16);
 const _: () = assert!(size_of::<iface_cidr>() == 18);
 const _: () = assert!(size_of::<iface_counts>() == 32);
 const _: () = assert!(size_of::<iface_queue>() == 20);
 const _: () = assert!(size_of::<iface_checksums>() == 5);
+const _: () = assert!(size_of::<iface_rate>() == 8);
+const _: () = assert!(size_of::<iface_guard>() == 56);
+const _: () = assert!(size_of::<iface_drops>() == 88);
 const _: () = assert!(size_of::<iface_rooms>() == 16);
 const _: () = assert!(size_of::<iface_segment>() == 32);
 
 unsafe extern "C" {
-    /// Writes what most programs want: frames of 1514 octets on Ethernet, 8 sockets, no addresses from routers, a patience of 3 s (three requests, a second apart: RFC 4861, 10), and 10 s for fragments. The start is 0, the seed is 0, and the hardware address all zeros: set the last two.
+    /// Writes what most programs want: frames of 1514 octets on Ethernet, 8 sockets, no addresses from routers, a patience of 3 s (three requests, a second apart: RFC 4861, 10), 10 s for fragments, and a guard. The start is 0, the seed is 0, and the hardware address all zeros: set the last two.
     pub fn iface_config_init(config: *mut iface_config);
     /// What `iface_new` calls, with the version of the header that the program was built with.
     pub fn iface_new_for(host: *mut iface, config: *const iface_config, version: u32) -> u32;
@@ -348,7 +419,7 @@ unsafe extern "C" {
     pub fn iface_given_up(host: *mut iface, socket: u32, remote: *mut iface_address) -> u32;
     /// Writes how many packets were given up, of all sockets.
     pub fn iface_given_up_count(host: *mut iface, count: *mut u64) -> u32;
-    /// Takes a frame of any octets, and writes the frame that is to be sent in response, of `*length` octets; none if that is 0.
+    /// Takes a frame of any octets, and writes the frame that is to be sent in response, of `*length` octets; none if that is 0. A frame that the guard drops changes nothing but what the guard keeps.
     pub fn iface_receive(host: *mut iface, now: i64, frame: *const u8, frame_len: usize, out: *mut u8, room: usize, length: *mut usize) -> u32;
     /// Writes the next frame that is to be sent, of `*length` octets; 0 says that the round sent nothing.
     ///
@@ -358,6 +429,10 @@ unsafe extern "C" {
     pub fn iface_sockets_changed(host: *mut iface, changed: *mut u8) -> u32;
     /// Writes what the host counted.
     pub fn iface_counters(host: *mut iface, counters: *mut iface_counts) -> u32;
+    /// Writes how many frames the host's guard dropped, by the reason, and how many answers it held back.
+    pub fn iface_guard_drops(host: *mut iface, drops: *mut iface_drops) -> u32;
+    /// Writes the hardware address that the last frame came from which the guard dropped as claiming an own address, six octets, and the moment at which it came (RFC 5227, 2.4). NOT_THERE (no such frame came).
+    pub fn iface_guard_conflict(host: *mut iface, hardware_address: *mut u8, at: *mut i64) -> u32;
     /// Writes the instant at which `iface_next` is to be called again, if no frame comes before and no call changes the host: one that has passed, if something is due at once, and `IFACE_NEVER`, if nothing is due.
     pub fn iface_poll_at(host: *mut iface, now: i64, at: *mut i64) -> u32;
     /// The version of the header that the library was built with.

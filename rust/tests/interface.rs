@@ -6,7 +6,8 @@ mod common;
 use common::{OWN, arp, ethernet, ipv4, millis, udp4};
 use fumitorygate::Error;
 use fumitorygate::iface::{
-    Config, Interface, MulticastError, PollIngressSingleResult, PollResult, Route, RouteTableFull, SocketSet,
+    Config, Conflict, Interface, MulticastError, PollIngressSingleResult, PollResult, Rate, Route, RouteTableFull,
+    SocketSet,
 };
 use fumitorygate::phy::{Loopback, Medium, MemoryDevice};
 use fumitorygate::socket::{Socket, icmp, raw, segment, udp};
@@ -45,6 +46,33 @@ fn patience_is_set_from_the_start() {
     assert_eq!(config.patience, Duration::from_secs(3));
     assert_eq!(config.reassembly_timeout, Duration::from_secs(10));
     assert_eq!((config.random_seed, config.sockets, config.slaac), (0, 8, false));
+}
+
+/// `docs/C.md`, A guard: what claims the own address is dropped, counted and told (RFC 5227 2.4), unless there is no guard.
+#[test]
+fn a_guard_tells_of_conflicts() {
+    let claim = arp(2, [2, 0, 0, 0, 0, 66], SELF, OWN, SELF);
+    for is_on in [true, false] {
+        let mut device = MemoryDevice::new(Medium::Ethernet, 1514);
+        let mut config = Config::new(HardwareAddress::Ethernet(EthernetAddress(OWN)));
+        let usual = config.guard.unwrap();
+        assert!(usual.own_addresses && usual.loops && !usual.fragments);
+        let rate = Rate { interval: Duration::from_millis(500), at_once: 8 };
+        assert_eq!((usual.neighbors, usual.routers), (Some(rate), Some(Duration::from_secs(60))));
+        if !is_on {
+            config.guard = None;
+        }
+        let mut iface = Interface::new(config, &mut device, Instant::ZERO).unwrap();
+        iface.update_ip_addrs(|list| list.push(IpCidr::new(SELF.into(), 24)).unwrap()).unwrap();
+        let mut sockets = SocketSet::new(&iface);
+        let now = Instant::from_secs(5);
+        device.incoming.push_back(claim.clone());
+        iface.poll(now, &mut device, &mut sockets);
+        assert_eq!(iface.guard_drops().own_address, u64::from(is_on));
+        let conflict = Conflict { hardware_addr: EthernetAddress([2, 0, 0, 0, 0, 66]), at: now };
+        assert_eq!(iface.guard_conflict(), is_on.then_some(conflict));
+        assert_eq!(iface.neighbors().iter().count(), usize::from(!is_on));
+    }
 }
 
 #[test]

@@ -1,6 +1,6 @@
 -- Few strangers pass a guard.
-use Rattle.std.proofs.Common.{◌≡◌, ◌≤◌, ◌+◌, ◌-◌, ◌*◌, ℕ, suc, Bool, true, false, refl, inl, inr, subst, arith, List, [], ◌∷◌, pos, ℤ}
-use Rattle.std.specs.Prelude.{◌⊎◌, max, is_none, not, ◌||◌, ◌&&◌, Some, None, if◌then◌else◌, Option}
+use Rattle.std.proofs.Common.{◌≡◌, ◌≤◌, ◌+◌, ◌-◌, ◌*◌, ℕ, suc, Bool, true, false, refl, subst, arith, List, [], ◌∷◌, pos, ℤ}
+use Rattle.std.specs.Prelude.{max, is_none, is_some, not, ◌||◌, ◌&&◌, ◌==◌, Some, None, if◌then◌else◌, Option}
 use Rattle.std.proofs.lemmas.Bool.Decides.{nat_tests}
 use Rattle.token_bucket.specs.declared.bucket.Bucket.{Bucket}
 use Rattle.token_bucket.specs.Bucket.{has_token, after_take}
@@ -10,9 +10,10 @@ use Rattle.ip_address.specs.declared.ip.IpAddress.{IpAddress}
 use Rattle.guard.specs.declared.guard.Reason.{Reason}
 use Rattle.guard.specs.declared.guard.Reason.TheVariants as reason
 use Rattle.guard.specs.declared.kind.Kind.{Kind}
-use Rattle.guard.specs.declared.kind.Kind.TheVariants.{Neighbor, Query, Router, Packet, Other}
+use Rattle.guard.specs.declared.kind.Kind.TheVariants.{Arp, Neighbor, Query, Router, Packet, Other}
 use Rattle.guard.specs.Kind.{kind_of}
-use Rattle.guard.specs.Guard.{reason_of, reason_unless, after_judging, is_own, is_one_own, is_near, is_expected, after_router, is_heard, is_last, micros}
+use Rattle.guard.specs.Guard.{reason_of, reason_unless, after_judging, after_passing, claims, first_of, is_stolen, refusal_of}
+use Rattle.guard.specs.Guard.{is_own, asks_for, is_expected, is_known, after_router, is_heard, is_last, micros}
 use Rattle.guard.specs.Laws.{Arrival, AreWithin, passes, after, passed, is_strange, asks, is_query, is_strange_kind, asks_kind, is_query_kind, FewNeighborsPass, FewDiscoveriesPass, FewQueriesPass}
 
 -- a bucket after a token was taken
@@ -22,14 +23,16 @@ less now b = record b { full_at = max b.full_at now + b.interval }
 -- hearing a router changes no rate
 same_rates : (now : ℤ) (a : IpAddress) (g : Guard) → (rate : Guard → Bucket) →
     ((n : Option Noted) → rate (record g { router = n }) ≡ rate g) → rate (after_router now a g) ≡ rate g
-same_rates now a g rate same = by (is_last a g.router || not (is_heard now a g.router)) where
+same_rates now a g rate same = by (is_last a g.router || not (is_heard now a g.router_time g.router)) where
   by : (t : Bool) → rate (if t then g else record g { router = Some (record { address = a; at = micros now }) }) ≡ rate g
   by true = refl
   by false = same (Some (record { address = a; at = micros now }))
 
--- what passes takes a token, and what doesn't changes nothing
-abbrev TakesToken : (now : ℕ) → (passes : Bool) → (old new : Bucket) → Type 0
-TakesToken now p old new = ((p ≡ true) × (has_token now old ≡ true) × (new ≡ less now old)) ⊎ ((p ≡ false) × (new ≡ old))
+-- what passes takes a token, and what doesn't changes nothing, unless the rate bounds nothing
+pub data TakesToken (now : ℕ) (passes : Bool) (old new : Bucket) : Type 0 where
+  Unbounded : old.interval ≡ 0 → new ≡ old → TakesToken now passes old new
+  Passed : passes ≡ true → has_token now old ≡ true → new ≡ less now old → TakesToken now passes old new
+  Stayed : passes ≡ false → new ≡ old → TakesToken now passes old new
 
 one_more : (k i f f' now first last room : ℕ) → f' ≡ max f now + i → f - now + i ≤ room → first ≤ now → now ≤ last →
     k * i + max f' first ≤ max (last + room) (max f' first) → suc k * i + max f first ≤ max (last + room) (max f first)
@@ -48,7 +51,8 @@ module _ (sort : Arrival → Guard → Bool) (bucket : Guard → Bucket)
   bounded g first last (a ∷ later) l (low, high, rest) = by (takes a g) (bounded (after a g) first last later l rest) where
     by : TakesToken a.at (sort a g && passes a g) (bucket g) (bucket (after a g)) → IsBounded (after a g) first last later →
         IsBounded g first last (a ∷ later)
-    by (inl (p, h, e)) kept =
+    by (Unbounded z e) kept = rw z (omega arith)
+    by (Passed p h e) kept =
         let room : (bucket g).full_at - a.at + (bucket g).interval ≤ (bucket g).depth * (bucket g).interval = grind (arith, nat_tests) in
         let kept' : passed sort (after a g) later * (bucket g).interval + max (less a.at (bucket g)).full_at first
         ≤ max (last + (bucket g).depth * (bucket g).interval) (max (less a.at (bucket g)).full_at first) =
@@ -56,7 +60,7 @@ module _ (sort : Arrival → Guard → Bool) (bucket : Guard → Bucket)
         ≤ max (last + b.depth * b.interval) (max b.full_at first)) e kept in
         rw p (one_more (passed sort (after a g) later) (bucket g).interval (bucket g).full_at (less a.at (bucket g)).full_at a.at first last
         ((bucket g).depth * (bucket g).interval) refl room low high kept')
-    by (inr (p, e)) kept =
+    by (Stayed p e) kept =
         rw p (subst (λ (b : Bucket). passed sort (after a g) later * b.interval + max b.full_at first
         ≤ max (last + b.depth * b.interval) (max b.full_at first)) e kept)
 
@@ -64,105 +68,113 @@ module _ (sort : Arrival → Guard → Bool) (bucket : Guard → Bucket)
       passed sort g arrivals * (bucket g).interval ≤ (last - first) + (bucket g).depth * (bucket g).interval
   few g first last arrivals l within = let all = bounded g first last arrivals l within in omega (arith, all)
 
--- a neighbour's message, by what is asked of it in order
-neighbor_takes : (own expected token : Bool) (now : ℕ) (g : Guard) → has_token now g.neighbors ≡ token → (why other : Reason) →
-    TakesToken now (not expected && is_none (if own then Some why else if expected then None else reason_unless token other)) g.neighbors
-    (if own || expected then g else record g { neighbors = if token then less now g.neighbors else g.neighbors }).neighbors
-neighbor_takes true true token now g h why other = inr (refl, refl)
-neighbor_takes true false token now g h why other = inr (refl, refl)
-neighbor_takes false true token now g h why other = inr (refl, refl)
-neighbor_takes false false true now g h why other = inl (refl, h, refl)
-neighbor_takes false false false now g h why other = inr (refl, refl)
+-- a rate whose interval is 0, and one that takes a token where it has one
+abbrev passing : (off token : Bool) → ℕ → Bucket → Bucket
+passing off token now b = if off then b else if token then less now b else b
 
--- another one leaves the rate of neighbours as it is
-same_neighbors : (test token : Bool) (now : ℕ) (g : Guard) →
-    (if test then g else record g { discoveries = if token then less now g.discoveries else g.discoveries }).neighbors ≡ g.neighbors
-same_neighbors true token now g = refl
-same_neighbors false token now g = refl
+rate_takes : (off token : Bool) (now : ℕ) (b : Bucket) → (b.interval == 0) ≡ off → has_token now b ≡ token → (other : Reason) →
+    TakesToken now (is_none (reason_unless (off || token) other)) b (passing off token now b)
+rate_takes true token now b z h other = Unbounded (grind (arith, nat_tests)) refl
+rate_takes false true now b z h other = Passed refl h refl
+rate_takes false false now b z h other = Stayed refl refl
+
+-- a neighbour's message, by what is asked of it in order
+neighbor_takes : (own expected off token : Bool) (now : ℕ) (g : Guard) → (g.neighbors.interval == 0) ≡ off →
+    has_token now g.neighbors ≡ token → (why other : Reason) → TakesToken now
+    (not expected && is_none (if own then Some why else if expected then None else reason_unless (off || token) other)) g.neighbors
+    (if own || expected then g else record g { neighbors = passing off token now g.neighbors }).neighbors
+neighbor_takes true true off token now g z h why other = Stayed refl refl
+neighbor_takes true false off token now g z h why other = Stayed refl refl
+neighbor_takes false true off token now g z h why other = Stayed refl refl
+neighbor_takes false false off token now g z h why other = rate_takes off token now g.neighbors z h other
+
+-- an ARP packet
+arp_takes : (own mine expected off token : Bool) (now : ℕ) (g : Guard) → (g.neighbors.interval == 0) ≡ off →
+    has_token now g.neighbors ≡ token → (why other : Reason) → TakesToken now
+    ((mine && not expected) && is_none (if own then Some why else if not mine || expected then None else reason_unless (off || token) other))
+    g.neighbors (if own || (not mine || expected) then g else record g { neighbors = passing off token now g.neighbors }).neighbors
+arp_takes true false expected off token now g z h why other = Stayed refl refl
+arp_takes false false expected off token now g z h why other = Stayed refl refl
+arp_takes true true true off token now g z h why other = Stayed refl refl
+arp_takes false true true off token now g z h why other = Stayed refl refl
+arp_takes true true false off token now g z h why other = Stayed refl refl
+arp_takes false true false off token now g z h why other = rate_takes off token now g.neighbors z h other
+
+-- another rate is left as it is
+same : (test : Bool) (g h : Guard) → (rate : Guard → Bucket) → rate h ≡ rate g → rate (if test then g else h) ≡ rate g
+same true g h rate e = refl
+same false g h rate e = e
 
 neighbor_by : (k : Kind) (a : Arrival) (g : Guard) →
     TakesToken a.at (is_strange_kind k a g && is_none (reason_of (pos a.at) k a.own a.known g)) g.neighbors
     (after_judging (pos a.at) k a.own a.known g).neighbors
+neighbor_by (Arp sender target) a g =
+    arp_takes (is_stolen sender a.own g) (is_own a.own target) (is_expected (pos a.at) sender a.known g) (g.neighbors.interval == 0)
+    (has_token a.at g.neighbors) a.at g refl refl reason.OwnAddress reason.NewNeighbor
 neighbor_by (Neighbor sender target) a g =
-    neighbor_takes (is_own a.own sender || is_one_own a.own target) (is_expected (pos a.at) sender a.known g) (has_token a.at g.neighbors)
-    a.at g refl reason.OwnAddress reason.NewNeighbor
-neighbor_by Query a g = inr (refl, refl)
-neighbor_by (Router sender) a g = inr (refl, same_rates (pos a.at) sender g (λ h. h.neighbors) (λ n. refl))
-neighbor_by (Packet sender) a g =
-    inr (
-      refl,
-      same_neighbors (is_own a.own sender || (not (is_near a.own sender) || is_expected (pos a.at) sender a.known g))
-          (has_token a.at g.discoveries) a.at g,
-    )
-neighbor_by Other a g = inr (refl, refl)
+    neighbor_takes (claims sender target a.own g) (is_expected (pos a.at) sender a.known g) (g.neighbors.interval == 0)
+    (has_token a.at g.neighbors) a.at g refl refl reason.OwnAddress reason.NewNeighbor
+neighbor_by Query a g = Stayed refl refl
+neighbor_by (Router sender) a g = Stayed refl (same_rates (pos a.at) sender g (λ h. h.neighbors) (λ n. refl))
+neighbor_by (Packet sender target sort) a g =
+    Stayed refl (same ((is_stolen sender a.own g || is_some (refusal_of sort g)) || (not (asks_for sender target sort a.own) || is_known a.known sender (pos a.at)))
+    g (record g { discoveries = after_passing a.at g.discoveries }) (λ h. h.neighbors) refl)
+neighbor_by Other a g = Stayed refl refl
 
 -- a packet
-packet_takes : (own near expected token : Bool) (now : ℕ) (g : Guard) → has_token now g.discoveries ≡ token → (why other : Reason) →
-    TakesToken now
-    ((near && not expected) && is_none (if own then Some why else if not near || expected then None else reason_unless token other))
-    g.discoveries
-    (if own || (not near || expected) then g else record g { discoveries = if token then less now g.discoveries else g.discoveries }).discoveries
-packet_takes true true true token now g h why other = inr (refl, refl)
-packet_takes true true false token now g h why other = inr (refl, refl)
-packet_takes true false expected token now g h why other = inr (refl, refl)
-packet_takes false false expected token now g h why other = inr (refl, refl)
-packet_takes false true true token now g h why other = inr (refl, refl)
-packet_takes false true false true now g h why other = inl (refl, h, refl)
-packet_takes false true false false now g h why other = inr (refl, refl)
-
-same_discoveries : (test token : Bool) (now : ℕ) (g : Guard) →
-    (if test then g else record g { neighbors = if token then less now g.neighbors else g.neighbors }).discoveries ≡ g.discoveries
-same_discoveries true token now g = refl
-same_discoveries false token now g = refl
+packet_takes : (own : Bool) (refused : Option Reason) (near expected off token : Bool) (now : ℕ) (g : Guard) →
+    (g.discoveries.interval == 0) ≡ off → has_token now g.discoveries ≡ token → (why other : Reason) → TakesToken now
+    ((near && not expected) && is_none (if own then Some why
+    else first_of refused (if not near || expected then None else reason_unless (off || token) other))) g.discoveries
+    (if (own || is_some refused) || (not near || expected) then g
+    else record g { discoveries = passing off token now g.discoveries }).discoveries
+packet_takes own refused false expected off token now g z h why other = Stayed refl (by own refused) where
+  by : (o : Bool) (r : Option Reason) →
+      (if (o || is_some r) || true then g else record g { discoveries = passing off token now g.discoveries }).discoveries ≡ g.discoveries
+  by true r = refl
+  by false (Some w) = refl
+  by false None = refl
+packet_takes own refused true true off token now g z h why other = Stayed refl (by own refused) where
+  by : (o : Bool) (r : Option Reason) →
+      (if (o || is_some r) || true then g else record g { discoveries = passing off token now g.discoveries }).discoveries ≡ g.discoveries
+  by true r = refl
+  by false (Some w) = refl
+  by false None = refl
+packet_takes true refused true false off token now g z h why other = Stayed refl refl
+packet_takes false (Some w) true false off token now g z h why other = Stayed refl refl
+packet_takes false None true false off token now g z h why other = rate_takes off token now g.discoveries z h other
 
 packet_by : (k : Kind) (a : Arrival) (g : Guard) →
     TakesToken a.at (asks_kind k a g && is_none (reason_of (pos a.at) k a.own a.known g)) g.discoveries
     (after_judging (pos a.at) k a.own a.known g).discoveries
+packet_by (Arp sender target) a g =
+    Stayed refl (same (is_stolen sender a.own g || (not (is_own a.own target) || is_expected (pos a.at) sender a.known g))
+    g (record g { neighbors = after_passing a.at g.neighbors }) (λ h. h.discoveries) refl)
 packet_by (Neighbor sender target) a g =
-    inr (
-      refl,
-      same_discoveries ((is_own a.own sender || is_one_own a.own target) || is_expected (pos a.at) sender a.known g)
-          (has_token a.at g.neighbors) a.at g,
-    )
-packet_by Query a g = inr (refl, refl)
-packet_by (Router sender) a g = inr (refl, same_rates (pos a.at) sender g (λ h. h.discoveries) (λ n. refl))
-packet_by (Packet sender) a g =
-    packet_takes (is_own a.own sender) (is_near a.own sender) (is_expected (pos a.at) sender a.known g) (has_token a.at g.discoveries)
-    a.at g refl reason.OwnSource reason.Discovery
-packet_by Other a g = inr (refl, refl)
-
--- a query
-query_takes : (token : Bool) (now : ℕ) (b : Bucket) → has_token now b ≡ token → (other : Reason) →
-    TakesToken now (true && is_none (reason_unless token other)) b (if token then less now b else b)
-query_takes true now b h other = inl (refl, h, refl)
-query_takes false now b h other = inr (refl, refl)
-
-same_queries : (test : Bool) (b : Bucket) (g : Guard) → (if test then g else record g { neighbors = b }).queries ≡ g.queries
-same_queries true b g = refl
-same_queries false b g = refl
-
-same_queries' : (test : Bool) (b : Bucket) (g : Guard) → (if test then g else record g { discoveries = b }).queries ≡ g.queries
-same_queries' true b g = refl
-same_queries' false b g = refl
+    Stayed refl (same (claims sender target a.own g || is_expected (pos a.at) sender a.known g)
+    g (record g { neighbors = after_passing a.at g.neighbors }) (λ h. h.discoveries) refl)
+packet_by Query a g = Stayed refl refl
+packet_by (Router sender) a g = Stayed refl (same_rates (pos a.at) sender g (λ h. h.discoveries) (λ n. refl))
+packet_by (Packet sender target sort) a g =
+    packet_takes (is_stolen sender a.own g) (refusal_of sort g) (asks_for sender target sort a.own) (is_known a.known sender (pos a.at))
+    (g.discoveries.interval == 0) (has_token a.at g.discoveries) a.at g refl refl reason.OwnSource reason.Discovery
+packet_by Other a g = Stayed refl refl
 
 query_by : (k : Kind) (a : Arrival) (g : Guard) →
     TakesToken a.at (is_query_kind k && is_none (reason_of (pos a.at) k a.own a.known g)) g.queries
     (after_judging (pos a.at) k a.own a.known g).queries
+query_by (Arp sender target) a g =
+    Stayed refl (same (is_stolen sender a.own g || (not (is_own a.own target) || is_expected (pos a.at) sender a.known g))
+    g (record g { neighbors = after_passing a.at g.neighbors }) (λ h. h.queries) refl)
 query_by (Neighbor sender target) a g =
-    inr (
-      refl,
-      same_queries ((is_own a.own sender || is_one_own a.own target) || is_expected (pos a.at) sender a.known g)
-          (after_take a.at g.neighbors) g,
-    )
-query_by Query a g = query_takes (has_token a.at g.queries) a.at g.queries refl reason.Query
-query_by (Router sender) a g = inr (refl, same_rates (pos a.at) sender g (λ h. h.queries) (λ n. refl))
-query_by (Packet sender) a g =
-    inr (
-      refl,
-      same_queries' (is_own a.own sender || (not (is_near a.own sender) || is_expected (pos a.at) sender a.known g))
-          (after_take a.at g.discoveries) g,
-    )
-query_by Other a g = inr (refl, refl)
+    Stayed refl (same (claims sender target a.own g || is_expected (pos a.at) sender a.known g)
+    g (record g { neighbors = after_passing a.at g.neighbors }) (λ h. h.queries) refl)
+query_by Query a g = rate_takes (g.queries.interval == 0) (has_token a.at g.queries) a.at g.queries refl refl reason.Query
+query_by (Router sender) a g = Stayed refl (same_rates (pos a.at) sender g (λ h. h.queries) (λ n. refl))
+query_by (Packet sender target sort) a g =
+    Stayed refl (same ((is_stolen sender a.own g || is_some (refusal_of sort g)) || (not (asks_for sender target sort a.own) || is_known a.known sender (pos a.at)))
+    g (record g { discoveries = after_passing a.at g.discoveries }) (λ h. h.queries) refl)
+query_by Other a g = Stayed refl refl
 
 pub few_neighbors : FewNeighborsPass
 few_neighbors = few is_strange (λ g. g.neighbors) (λ a g. neighbor_by (kind_of a.frame) a g)

@@ -1,12 +1,11 @@
 -- Which answers to strangers' frames a host may send.
 use Rattle.std.specs.Prelude.{ℕ, ◌+◌, ◌*◌, ◌/◌, ◌%◌, nat_lt, ◌==◌, ◌||◌, List, length, Option, Some, None, if◌then◌else◌}
 use Rattle.wire_base.specs.Octets.{u16_at}
-use Rattle.token_bucket.specs.Bucket.{has_token, after_take}
 use Rattle.guard.specs.declared.answers.Answer.{Answer}
 use Rattle.guard.specs.declared.answers.Answer.TheVariants.{EchoReply, Error, Reset}
 use Rattle.guard.specs.declared.answers.Answers.{Answers}
 use Rattle.guard.specs.Kind.{octet_at, message_of}
-use Rattle.guard.specs.Guard.{reason_unless}
+use Rattle.guard.specs.Guard.{reason_unless, has_room, after_passing}
 
 -- a hundred in a second, and ten at once
 abbrev pub new_answers : Answers
@@ -57,12 +56,12 @@ answer_of frame =
 -- what may not be sent; none: it may
 abbrev pub refused : ℕ → Option Answer → Answers → Option Answer
 refused now None g = None
-refused now (Some EchoReply) g = reason_unless (has_token now g.echo_replies) EchoReply
-refused now (Some Error) g = reason_unless (has_token now g.errors) Error
-refused now (Some Reset) g = reason_unless (has_token now g.resets) Reset
+refused now (Some EchoReply) g = reason_unless (has_room now g.echo_replies) EchoReply
+refused now (Some Error) g = reason_unless (has_room now g.errors) Error
+refused now (Some Reset) g = reason_unless (has_room now g.resets) Reset
 
 abbrev pub after_answer : ℕ → Option Answer → Answers → Answers
 after_answer now None g = g
-after_answer now (Some EchoReply) g = record g { echo_replies = after_take now g.echo_replies }
-after_answer now (Some Error) g = record g { errors = after_take now g.errors }
-after_answer now (Some Reset) g = record g { resets = after_take now g.resets }
+after_answer now (Some EchoReply) g = record g { echo_replies = after_passing now g.echo_replies }
+after_answer now (Some Error) g = record g { errors = after_passing now g.errors }
+after_answer now (Some Reset) g = record g { resets = after_passing now g.resets }

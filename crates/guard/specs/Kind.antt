@@ -1,11 +1,13 @@
 -- What a frame is to a guard, by its octets: 14 of Ethernet, then ARP (RFC 826), IPv4 (RFC 791 3.1) or IPv6 (RFC 8200 3).
-use Rattle.std.specs.Prelude.{ℕ, ◌+◌, ◌*◌, ◌%◌, nat_lt, ◌==◌, ◌&&◌, Bool, List, length, get_or, Option, Some, None, if◌then◌else◌}
+use Rattle.std.specs.Prelude.{ℕ, ◌+◌, ◌*◌, ◌%◌, nat_lt, ◌==◌, ◌&&◌, ◌||◌, not, Bool, List, length, get_or, Option, Some, None, if◌then◌else◌}
 use Rattle.wire_base.specs.Octets.{u16_at, u32_at}
 use Rattle.ip_address.specs.declared.ip.IpAddress.{IpAddress}
 use Rattle.ip_address.specs.declared.ip.IpAddress.TheVariants.{Ipv4, Ipv6}
 use Rattle.ipv6_wire.specs.Ipv6Packet.{address_at}
 use Rattle.guard.specs.declared.kind.Kind.{Kind}
-use Rattle.guard.specs.declared.kind.Kind.TheVariants.{Neighbor, Query, Router, Packet, Other}
+use Rattle.guard.specs.declared.kind.Kind.TheVariants.{Arp, Neighbor, Query, Router, Packet, Other}
+use Rattle.guard.specs.declared.kind.Sort.{Sort}
+use Rattle.guard.specs.declared.kind.Sort.TheVariants.{Fragment, Loop, Transport, Plain}
 
 -- the octet at an offset; 0 behind the last one
 abbrev pub octet_at : List ℕ → ℕ → ℕ
@@ -18,8 +20,36 @@ ipv4_at frame at = Ipv4 (record { bits = u32_at frame at })
 abbrev pub is_igmp_query : List ℕ → Bool
 is_igmp_query frame = (octet_at frame 23 == 2) && (octet_at frame (14 + octet_at frame 14 % 16 * 4) == 0x11)
 
+-- echo, daytime, quote and chargen (RFC 862, 867, 865, 864)
+abbrev pub is_small_service : ℕ → Bool
+is_small_service port = (port == 7) || (port == 13) || (port == 17) || (port == 19)
+
+-- a datagram of UDP from such a service to a port below 1,024 (RFC 768)
+abbrev pub is_loop : List ℕ → ℕ → Bool
+is_loop frame at = (octet_at frame at == 0) && is_small_service (octet_at frame (at + 1)) && nat_lt (octet_at frame (at + 2)) 4
+
+-- UDP (RFC 768) and TCP (RFC 9293)
+abbrev pub is_transport : ℕ → Bool
+is_transport protocol = (protocol == 6) || (protocol == 17)
+
+-- a fragment has the flag MF or an offset (RFC 791 3.1)
+abbrev pub sort_of_ipv4 : List ℕ → Sort
+sort_of_ipv4 frame =
+    if not (u16_at frame 20 % 0x4000 == 0) then Fragment
+    else if (octet_at frame 23 == 17) && is_loop frame (14 + octet_at frame 14 % 16 * 4) then Loop
+    else if is_transport (octet_at frame 23) then Transport
+    else Plain
+
+-- the header of a fragment is 44 (RFC 8200 4.5)
+abbrev pub sort_of_ipv6 : List ℕ → Sort
+sort_of_ipv6 frame =
+    if octet_at frame 20 == 44 then Fragment
+    else if (octet_at frame 20 == 17) && is_loop frame 54 then Loop
+    else if is_transport (octet_at frame 20) then Transport
+    else Plain
+
 abbrev pub kind_of_ipv4 : List ℕ → Kind
-kind_of_ipv4 frame = if is_igmp_query frame then Query else Packet (ipv4_at frame 26)
+kind_of_ipv4 frame = if is_igmp_query frame then Query else Packet (ipv4_at frame 26) (ipv4_at frame 30) (sort_of_ipv4 frame)
 
 -- where a message of ICMPv6 is: next header 58, or that behind a header of hop-by-hop options (RFC 8200 4.3)
 abbrev pub message_of : List ℕ → Option ℕ
@@ -31,6 +61,14 @@ message_of frame =
 abbrev pub target_at : List ℕ → ℕ → Option IpAddress
 target_at frame at = if nat_lt (length frame) (at + 16) then None else Some (Ipv6 (address_at frame at))
 
+-- one that is cut off before its destination is nothing to a guard
+abbrev pub packet_to : Option IpAddress → (sender : IpAddress) → Sort → Kind
+packet_to None sender sort = Other
+packet_to (Some target) sender sort = Packet sender target sort
+
+abbrev pub packet_of_ipv6 : (sender : IpAddress) → List ℕ → Sort → Kind
+packet_of_ipv6 sender frame sort = packet_to (target_at frame 38) sender sort
+
 -- by its type (RFC 3810 5.1; RFC 4861 4.2, 4.3, 4.4)
 abbrev pub kind_of_message : (type at : ℕ) → (sender : IpAddress) → List ℕ → Kind
 kind_of_message type at sender frame =
@@ -38,10 +76,10 @@ kind_of_message type at sender frame =
     else if type == 134 then Router sender
     else if type == 135 then Neighbor sender None
     else if type == 136 then Neighbor sender (target_at frame (at + 8))
-    else Packet sender
+    else packet_of_ipv6 sender frame Plain
 
 abbrev pub kind_at : Option ℕ → (sender : IpAddress) → List ℕ → Kind
-kind_at None sender frame = Packet sender
+kind_at None sender frame = packet_of_ipv6 sender frame (sort_of_ipv6 frame)
 kind_at (Some at) sender frame = kind_of_message (octet_at frame at) at sender frame
 
 abbrev pub kind_of_ipv6 : List ℕ → Kind
@@ -51,7 +89,7 @@ kind_of_ipv6 frame = kind_at (message_of frame) (Ipv6 (address_at frame 22)) fra
 abbrev pub kind_of : List ℕ → Kind
 kind_of frame =
     if nat_lt (length frame) 42 then Other
-    else if u16_at frame 12 == 0x0806 then Neighbor (ipv4_at frame 28) None
+    else if u16_at frame 12 == 0x0806 then Arp (ipv4_at frame 28) (ipv4_at frame 38)
     else if u16_at frame 12 == 0x0800 then kind_of_ipv4 frame
     else if u16_at frame 12 == 0x86dd then kind_of_ipv6 frame
     else Other

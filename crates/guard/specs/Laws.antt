@@ -1,16 +1,17 @@
 -- What a guard promises, whatever frames come.
-use Rattle.std.specs.Prelude.{◌≡◌, ℕ, suc, ◌+◌, ◌-◌, ◌*◌, ◌≤◌, ◌&&◌, not, Bool, true, false, pos, List, [], ◌∷◌, is_none, if◌then◌else◌, ◌≢◌, ◌<◌, ◌⊎◌, length, Some}
+use Rattle.std.specs.Prelude.{◌≡◌, ℕ, suc, ◌+◌, ◌-◌, ◌*◌, ◌≤◌, ◌&&◌, not, Bool, true, false, pos, List, [], ◌∷◌, is_none, if◌then◌else◌, ◌≢◌, ◌<◌, ◌⊎◌, length, Some, None, ◌==◌}
 use Rattle.ip_address.specs.declared.cidr.IpCidr.{IpCidr}
 use Rattle.iface_tables.specs.Neighbor.{Neighbors}
 use Rattle.guard.specs.declared.guard.Guard.{Guard}
 use Rattle.guard.specs.declared.kind.Kind.{Kind}
-use Rattle.guard.specs.declared.kind.Kind.TheVariants.{Neighbor, Query, Router, Packet, Other}
+use Rattle.guard.specs.declared.kind.Kind.TheVariants.{Arp, Neighbor, Query, Router, Packet, Other}
+use Rattle.guard.specs.declared.kind.Sort.TheVariants.{Loop}
 use Rattle.wire_base.specs.Octets.{u16_at}
 use Rattle.ip_address.specs.declared.ip.IpAddress.{IpAddress}
 use Rattle.socket_base.specs.Source.{is_same}
 use Rattle.guard.specs.declared.guard.Reason.TheVariants as reason
-use Rattle.guard.specs.Kind.{kind_of, octet_at, ipv4_at}
-use Rattle.guard.specs.Guard.{reason_of, after_judging, is_expected, is_near, is_own, is_known, is_last, is_heard, reason_of_router, after_router}
+use Rattle.guard.specs.Kind.{kind_of, octet_at, ipv4_at, sort_of_ipv4}
+use Rattle.guard.specs.Guard.{reason_of, after_judging, asks_for, is_plain, refusal_of, is_expected, is_near, is_own, is_known, is_last, is_heard, reason_of_router, after_router}
 
 -- a frame that comes to a host: when, with what octets, and what addresses and neighbours the host has then
 pub record Arrival : Type 0 where
@@ -25,33 +26,36 @@ passes a g = is_none (reason_of (pos a.at) (kind_of a.frame) a.own a.known g)
 abbrev pub after : Arrival → Guard → Guard
 after a g = after_judging (pos a.at) (kind_of a.frame) a.own a.known g
 
--- it is an ARP packet or a neighbour message of somebody that the host doesn't expect
+-- it is an ARP packet for an own address or a neighbour message, of somebody that the host doesn't expect
 abbrev pub is_strange_kind : Kind → Arrival → Guard → Bool
+is_strange_kind (Arp sender target) a g = is_own a.own target && not (is_expected (pos a.at) sender a.known g)
 is_strange_kind (Neighbor sender target) a g = not (is_expected (pos a.at) sender a.known g)
 is_strange_kind Query a g = false
 is_strange_kind (Router sender) a g = false
-is_strange_kind (Packet sender) a g = false
+is_strange_kind (Packet sender target sort) a g = false
 is_strange_kind Other a g = false
 
 abbrev pub is_strange : Arrival → Guard → Bool
 is_strange a g = is_strange_kind (kind_of a.frame) a g
 
--- it is an IP packet of somebody near that the host doesn't expect
+-- it is an IP packet to an own address of somebody near that isn't known
 abbrev pub asks_kind : Kind → Arrival → Guard → Bool
+asks_kind (Arp sender target) a g = false
 asks_kind (Neighbor sender target) a g = false
 asks_kind Query a g = false
 asks_kind (Router sender) a g = false
-asks_kind (Packet sender) a g = is_near a.own sender && not (is_expected (pos a.at) sender a.known g)
+asks_kind (Packet sender target sort) a g = asks_for sender target sort a.own && not (is_known a.known sender (pos a.at))
 asks_kind Other a g = false
 
 abbrev pub asks : Arrival → Guard → Bool
 asks a g = asks_kind (kind_of a.frame) a g
 
 abbrev pub is_query_kind : Kind → Bool
+is_query_kind (Arp sender target) = false
 is_query_kind (Neighbor sender target) = false
 is_query_kind Query = true
 is_query_kind (Router sender) = false
-is_query_kind (Packet sender) = false
+is_query_kind (Packet sender target sort) = false
 is_query_kind Other = false
 
 abbrev pub is_query : Arrival → Guard → Bool
@@ -92,30 +96,37 @@ OthersPass =
     (a : Arrival) (g : Guard) → u16_at a.frame 12 ≢ 0x0806 → u16_at a.frame 12 ≢ 0x0800 → u16_at a.frame 12 ≢ 0x86dd →
     (passes a g ≡ true) × (after a g ≡ g)
 
--- A packet of IPv4 but for IGMP passes, and changes nothing, if its source isn't an own address and is known, or isn't in an own
--- network
+-- A packet of IPv4 but for IGMP that is of no sort which the guard drops passes, and changes nothing, if its source isn't an own
+-- address and is known, or isn't in an own network; or if it goes to no own address, as one to a group; or if it is of UDP or TCP
 abbrev pub KnownPass : Type 0
 KnownPass =
     (a : Arrival) (g : Guard) → 42 ≤ length a.frame → u16_at a.frame 12 ≡ 0x0800 → octet_at a.frame 23 ≢ 2 →
-    is_own a.own (ipv4_at a.frame 26) ≡ false →
-    (is_known a.known (ipv4_at a.frame 26) (pos a.at) ≡ true) ⊎ (is_near a.own (ipv4_at a.frame 26) ≡ false) →
+    refusal_of (sort_of_ipv4 a.frame) g ≡ None → is_own a.own (ipv4_at a.frame 26) ≡ false →
+    (is_known a.known (ipv4_at a.frame 26) (pos a.at) ≡ true) ⊎ (is_near a.own (ipv4_at a.frame 26) ≡ false)
+    ⊎ (is_own a.own (ipv4_at a.frame 30) ≡ false) ⊎ (is_plain (sort_of_ipv4 a.frame) ≡ false) →
     (passes a g ≡ true) × (after a g ≡ g)
 
--- An ARP packet of a known neighbour passes, and changes nothing, if it doesn't claim an own address
+-- An ARP packet of a known neighbour, or for another address, passes, and changes nothing, if it doesn't claim an own address
 abbrev pub KnownArpPass : Type 0
 KnownArpPass =
     (a : Arrival) (g : Guard) → 42 ≤ length a.frame → u16_at a.frame 12 ≡ 0x0806 → is_own a.own (ipv4_at a.frame 28) ≡ false →
-    is_known a.known (ipv4_at a.frame 28) (pos a.at) ≡ true → (passes a g ≡ true) × (after a g ≡ g)
+    (is_known a.known (ipv4_at a.frame 28) (pos a.at) ≡ true) ⊎ (is_own a.own (ipv4_at a.frame 38) ≡ false) → (passes a g ≡ true) × (after a g ≡ g)
 
--- An ARP packet that claims an own address doesn't pass
+-- An ARP packet that claims an own address doesn't pass a guard that keeps these
 abbrev pub OwnAddressesStay : Type 0
 OwnAddressesStay =
-    (a : Arrival) (g : Guard) → 42 ≤ length a.frame → u16_at a.frame 12 ≡ 0x0806 → is_own a.own (ipv4_at a.frame 28) ≡ true →
+    (a : Arrival) (g : Guard) → g.keeps_own_addresses ≡ true → 42 ≤ length a.frame → u16_at a.frame 12 ≡ 0x0806 → is_own a.own (ipv4_at a.frame 28) ≡ true →
     (passes a g ≡ false) × (after a g ≡ g)
 
--- After a router's advertisement passed, that of another one doesn't for a minute
+-- A datagram of IPv4 that could go to and fro for ever doesn't pass a guard that drops these
+abbrev pub LoopsEnd : Type 0
+LoopsEnd =
+    (a : Arrival) (g : Guard) → g.drops_loops ≡ true → 42 ≤ length a.frame → u16_at a.frame 12 ≡ 0x0800 → octet_at a.frame 23 ≢ 2 →
+    sort_of_ipv4 a.frame ≡ Loop → (passes a g ≡ false) × (after a g ≡ g)
+
+-- After a router's advertisement passed, that of another one doesn't for the time between two
 abbrev pub RoutersStay : Type 0
 RoutersStay =
-    (first second : ℕ) (a b : IpAddress) (g : Guard) → is_last a g.router ≡ false → is_heard (pos first) a g.router ≡ true →
-    is_same a b ≡ false → second < first + 60000000 →
-    reason_of_router (pos second) b (after_router (pos first) a g).router ≡ Some reason.Router
+    (first second : ℕ) (a b : IpAddress) (g : Guard) → (g.router_time == 0) ≡ false → is_last a g.router ≡ false →
+    is_heard (pos first) a g.router_time g.router ≡ true → is_same a b ≡ false → second < first + g.router_time →
+    reason_of_router (pos second) b (after_router (pos first) a g) ≡ Some reason.Router

@@ -3,9 +3,8 @@ ghost use Rattle.std.specs.Prelude.{◌≡◌, None};
 ghost use Rattle.net_base.specs.Time.{IsMoment};
 ghost use Rattle.guard.specs.Guard as spec;
 ghost use Rattle.guard.specs.Kind as kind;
-ghost use Rattle.token_bucket.specs.Bucket.{has_token, after_take};
 
-use crate::kind::{Kind, asked_in, kind_of};
+use crate::kind::{Kind, Sort, asked_in, kind_of};
 use iface_tables::neighbor::Cache;
 use ip_address::{IpAddress, IpCidr};
 use net_base::time::Instant;
@@ -14,9 +13,6 @@ use token_bucket::bucket::Bucket;
 /// How long an answer to a request for a hardware address is expected, in microseconds.
 const ANSWER_TIME: u64 = 3_000_000;
 
-/// How long another router isn't heard after one was let through, in microseconds.
-const ROUTER_TIME: u64 = 60_000_000;
-
 /// Why a frame is dropped.
 #[derive(Clone, Copy, Debug, PartialEq, Eq)]
 pub enum Reason {
@@ -24,15 +20,19 @@ pub enum Reason {
     OwnAddress,
     /// An IP packet has an address of the host as its source.
     OwnSource,
-    /// An ARP packet or a neighbour message of somebody that isn't known, beyond the rate of these.
+    /// An ARP packet for an own address or a neighbour message, of somebody that isn't known, beyond the rate of these.
     NewNeighbor,
-    /// An IP packet from somebody of an own network that isn't known, for whose answer the host would have to ask, beyond the
-    /// rate of these.
+    /// An IP packet to an own address, other than of UDP and TCP, from somebody of an own network that isn't known, for whose answer
+    /// the host would have to ask, beyond the rate of these.
     Discovery,
     /// A query of IGMP or MLD, beyond the rate of these.
     Query,
     /// A router advertisement of another router than the one that was heard last, too early after it.
     Router,
+    /// A fragment of an IP packet.
+    Fragment,
+    /// A datagram of UDP from port 7, 13, 17 or 19 to a port below 1,024.
+    Loop,
 }
 
 /// For whom the host asked, or which router it heard.
@@ -44,15 +44,24 @@ pub struct Noted {
     pub at: u64,
 }
 
-/// What a guard keeps: three rates, for whom the host asked last, and which router it heard last.
+/// A guard: its rules, and what it keeps: for whom the host asked last, and which router it heard last. A rate whose interval is 0
+/// bounds nothing.
 #[derive(Clone, Copy, Debug, PartialEq, Eq)]
 pub struct Guard {
+    /// Whether what claims an own address is dropped, or is sent from one.
+    pub keeps_own_addresses: bool,
+    /// Whether fragments are dropped.
+    pub drops_fragments: bool,
+    /// Whether datagrams are dropped that could go to and fro for ever.
+    pub drops_loops: bool,
     /// How many neighbours that aren't known may make themselves known.
     pub neighbors: Bucket,
     /// For how many packets of neighbours that aren't known the host may ask.
     pub discoveries: Bucket,
     /// How many queries are answered.
     pub queries: Bucket,
+    /// How long another router isn't heard after one was let through, in microseconds; 0 bounds nothing.
+    pub router_time: u64,
     /// For whom the host asked last.
     pub asked: Option<Noted>,
     /// Which router was let through last, and when it was let through as another one for the first time.
@@ -60,15 +69,19 @@ pub struct Guard {
 }
 
 impl Guard {
-    /// A guard that lets through, of those that aren't known, two neighbours a second, two of them at once, and a packet in two
-    /// seconds; a query in a second; and another router in a minute.
+    /// A guard that lets through, of those that aren't known, two neighbours a second, eight of them at once, and a packet in two
+    /// seconds; a query in a second; and another router in a minute. It keeps own addresses, and drops loops, not fragments.
     pub const fn new() -> Guard
         ensures { result ≡ spec.new_guard }
     {
         Guard {
-            neighbors: Bucket::new(500_000, 2),
+            keeps_own_addresses: true,
+            drops_fragments: false,
+            drops_loops: true,
+            neighbors: Bucket::new(500_000, 8),
             discoveries: Bucket::new(2_000_000, 1),
             queries: Bucket::new(1_000_000, 1),
+            router_time: 60_000_000,
             asked: None,
             router: None,
         }
@@ -87,8 +100,17 @@ impl Guard {
         ensures guard { self.new ≡ spec.after_judging now (kind.kind_of frame.now) own.now neighbors.now self.old }
     {
         match kind_of(frame) {
+            Kind::Arp { sender, target } => {
+                if self.keeps_own_addresses && is_own(own, &sender) {
+                    return Some(Reason::OwnAddress);
+                }
+                if !is_own(own, &target) || self.expects(now, &sender, neighbors) {
+                    return None;
+                }
+                take(&mut self.neighbors, now, Reason::NewNeighbor)
+            }
             Kind::Neighbor { sender, target } => {
-                if is_own(own, &sender) || is_one_own(own, target) {
+                if self.keeps_own_addresses && (is_own(own, &sender) || is_one_own(own, target)) {
                     return Some(Reason::OwnAddress);
                 }
                 if self.expects(now, &sender, neighbors) {
@@ -98,14 +120,25 @@ impl Guard {
             }
             Kind::Query => take(&mut self.queries, now, Reason::Query),
             Kind::Router { sender } => self.judge_router(now, sender),
-            Kind::Packet { sender } => {
-                if is_own(own, &sender) {
+            Kind::Packet {
+                sender,
+                target,
+                sort,
+            } => {
+                if self.keeps_own_addresses && is_own(own, &sender) {
                     return Some(Reason::OwnSource);
                 }
-                if !is_near(own, &sender) || self.expects(now, &sender, neighbors) {
-                    return None;
+                if let Some(reason) = self.refusal_of(sort) {
+                    return Some(reason);
                 }
-                take(&mut self.discoveries, now, Reason::Discovery)
+                if is_plain(sort)
+                    && is_near(own, &sender)
+                    && is_own(own, &target)
+                    && !is_known(neighbors, &sender, now)
+                {
+                    return take(&mut self.discoveries, now, Reason::Discovery);
+                }
+                None
             }
             Kind::Other => None,
         }
@@ -124,16 +157,31 @@ impl Guard {
         }
     }
 
-    /// Judges a router advertisement: that of the router which was heard last passes, and that of another one a minute after that
+    /// Why a packet is dropped by what it is, from whomever it comes.
+    fn refusal_of(&self, sort: Sort) -> Option<Reason>
+        ensures { result ≡ spec.refusal_of sort self.now }
+    {
+        match sort {
+            Sort::Fragment if self.drops_fragments => Some(Reason::Fragment),
+            Sort::Loop if self.drops_loops => Some(Reason::Loop),
+            _ => None,
+        }
+    }
+
+    /// Judges a router advertisement: that of the router which was heard last passes, and that of another one so long after that
     /// one was let through.
     fn judge_router(&mut self, now: Instant, sender: IpAddress) -> Option<Reason>
-        ensures reason { result ≡ spec.reason_of_router now sender self.old.router }
+        ensures reason { result ≡ spec.reason_of_router now sender self.old }
         ensures guard { self.new ≡ spec.after_router now sender self.old }
     {
         let last = self.router;
         match last {
             Some(last) if last.address == sender => None,
-            Some(last) if micros(now) < last.at.saturating_add(ROUTER_TIME) => Some(Reason::Router),
+            Some(last)
+                if self.router_time != 0
+                    && micros(now) < last.at.saturating_add(self.router_time) => {
+                Some(Reason::Router)
+            }
             _ => {
                 self.router = Some(Noted {
                     address: sender,
@@ -172,15 +220,25 @@ fn micros(now: Instant) -> u64
     if micros < 0 { 0 } else { micros as u64 }
 }
 
-/// Takes a token, if there is one; otherwise returns the reason.
+/// Takes a token, if there is one; otherwise returns the reason. An interval of 0 bounds nothing.
 pub(crate) fn take<R: Copy + Drop>(bucket: &mut Bucket, now: Instant, reason: R) -> Option<R>
-    ensures reason { result ≡ spec.reason_unless (has_token (spec.micros now) bucket.old) reason }
-    ensures bucket { bucket.new ≡ after_take (spec.micros now) bucket.old }
+    ensures reason { result ≡ spec.reason_unless (spec.has_room (spec.micros now) bucket.old) reason }
+    ensures bucket { bucket.new ≡ spec.after_passing (spec.micros now) bucket.old }
 {
-    if bucket.take(micros(now)) {
+    if bucket.interval == 0 || bucket.take(micros(now)) {
         None
     } else {
         Some(reason)
+    }
+}
+
+/// Whether a packet is neither a fragment, nor of UDP or TCP.
+fn is_plain(sort: Sort) -> bool
+    ensures { result ≡ spec.is_plain sort }
+{
+    match sort {
+        Sort::Plain => true,
+        Sort::Fragment | Sort::Loop | Sort::Transport => false,
     }
 }
 

@@ -9,7 +9,14 @@ use wire_base::octets::{u16_at, u32_at};
 /// What a frame is.
 #[derive(Clone, Copy, Debug, PartialEq, Eq)]
 pub enum Kind {
-    /// An ARP packet (RFC 826), or a neighbour solicitation or advertisement (RFC 4861 4.3, 4.4).
+    /// An ARP packet (RFC 826).
+    Arp {
+        /// Who sends it.
+        sender: IpAddress,
+        /// For whom it is.
+        target: IpAddress,
+    },
+    /// A neighbour solicitation or advertisement (RFC 4861 4.3, 4.4).
     Neighbor {
         /// Who sends it.
         sender: IpAddress,
@@ -27,9 +34,27 @@ pub enum Kind {
     Packet {
         /// Its source.
         sender: IpAddress,
+        /// Its destination.
+        target: IpAddress,
+        /// What is special of it.
+        sort: Sort,
     },
     /// Anything else.
     Other,
+}
+
+/// What is special of an IP packet.
+#[derive(Clone, Copy, Debug, PartialEq, Eq)]
+pub enum Sort {
+    /// It is a fragment (RFC 791 3.1, RFC 8200 4.5).
+    Fragment,
+    /// It is a datagram of UDP from port 7, 13, 17 or 19 to a port below 1,024: two such services would answer each other for
+    /// ever (RFC 862, 867, 865, 864).
+    Loop,
+    /// Another datagram of UDP, or a segment of TCP.
+    Transport,
+    /// None of these.
+    Plain,
 }
 
 /// The kind of an Ethernet frame.
@@ -40,9 +65,9 @@ pub fn kind_of(frame: &[u8]) -> Kind
         return Kind::Other;
     }
     match u16_at(frame, 12) {
-        0x0806 => Kind::Neighbor {
+        0x0806 => Kind::Arp {
             sender: ipv4_at(frame, 28),
-            target: None,
+            target: ipv4_at(frame, 38),
         },
         0x0800 => kind_of_ipv4(frame),
         0x86dd => kind_of_ipv6(frame),
@@ -61,7 +86,47 @@ fn kind_of_ipv4(frame: &[u8]) -> Kind
     }
     Kind::Packet {
         sender: ipv4_at(frame, 26),
+        target: ipv4_at(frame, 30),
+        sort: sort_of_ipv4(frame),
     }
+}
+
+/// What is special of an IPv4 packet.
+fn sort_of_ipv4(frame: &[u8]) -> Sort
+    requires { 42 ≤ length frame.now }
+    ensures { result ≡ spec.sort_of_ipv4 frame.now }
+{
+    if u16_at(frame, 20) % 0x4000 != 0 {
+        return Sort::Fragment;
+    }
+    match frame[23] {
+        17 if is_loop(frame, 14 + usize::from(frame[14] % 16) * 4) => Sort::Loop,
+        6 | 17 => Sort::Transport,
+        _ => Sort::Plain,
+    }
+}
+
+/// What is special of an IPv6 packet.
+fn sort_of_ipv6(frame: &[u8]) -> Sort
+    requires { 42 ≤ length frame.now }
+    ensures { result ≡ spec.sort_of_ipv6 frame.now }
+{
+    match frame[20] {
+        44 => Sort::Fragment,
+        17 if is_loop(frame, 54) => Sort::Loop,
+        6 | 17 => Sort::Transport,
+        _ => Sort::Plain,
+    }
+}
+
+/// Whether a datagram of UDP at an offset is from port 7, 13, 17 or 19, and to a port below 1,024.
+fn is_loop(frame: &[u8], at: usize) -> bool
+    requires { at ≤ 4096 }
+    ensures { result ≡ spec.is_loop frame.now at }
+{
+    octet_at(frame, at) == 0
+        && matches!(octet_at(frame, at + 1), 7 | 13 | 17 | 19)
+        && octet_at(frame, at + 2) < 4
 }
 
 /// The kind of a frame with an IPv6 packet.
@@ -71,7 +136,7 @@ fn kind_of_ipv6(frame: &[u8]) -> Kind
 {
     let sender = IpAddress::Ipv6(address_at(frame, 22));
     let Some(message) = message_of(frame) else {
-        return Kind::Packet { sender };
+        return packet_of_ipv6(sender, frame, sort_of_ipv6(frame));
     };
     match octet_at(frame, message) {
         130 => Kind::Query,
@@ -84,7 +149,21 @@ fn kind_of_ipv6(frame: &[u8]) -> Kind
             sender,
             target: target_at(frame, message + 8),
         },
-        _ => Kind::Packet { sender },
+        _ => packet_of_ipv6(sender, frame, Sort::Plain),
+    }
+}
+
+/// An IPv6 packet with nothing of those; one that is cut off before its destination is nothing to a guard.
+fn packet_of_ipv6(sender: IpAddress, frame: &[u8], sort: Sort) -> Kind
+    ensures { result ≡ spec.packet_of_ipv6 sender frame.now sort }
+{
+    match target_at(frame, 38) {
+        None => Kind::Other,
+        Some(target) => Kind::Packet {
+            sender,
+            target,
+            sort,
+        },
     }
 }
 

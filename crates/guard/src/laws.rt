@@ -1,7 +1,7 @@
 //! What a guard promises, whatever frames come, each law as the contract of an empty function.
-ghost use Rattle.guard.specs.Laws.{FewNeighborsPass, FewDiscoveriesPass, FewQueriesPass, KnownArpPass, KnownPass, OthersPass, OwnAddressesStay, RoutersStay};
+ghost use Rattle.guard.specs.Laws.{FewNeighborsPass, FewDiscoveriesPass, FewQueriesPass, KnownArpPass, KnownPass, LoopsEnd, OthersPass, OwnAddressesStay, RoutersStay};
 
-/// Of ARP packets and neighbour messages of somebody that isn't known and wasn't asked for, so many pass from one instant to another:
+/// Of ARP packets for own addresses, and neighbour messages, of somebody that isn't known and wasn't asked for, so many pass from one instant to another:
 /// as many as the rate's depth, and one for each of its intervals.
 pub fn few_neighbors_pass()
     ensures { FewNeighborsPass }
@@ -22,14 +22,20 @@ pub fn others_pass()
     ensures { OthersPass }
 {}
 
-/// A packet of IPv4 other than IGMP passes, if its source isn't an own address, and is known or in no own network.
+/// A packet of IPv4 other than IGMP that is of no sort which the guard drops passes, if its source isn't an own address, and is known
+/// or in no own network; or if it goes to no own address; or if it is of UDP or TCP.
 pub fn known_pass()
     ensures { KnownPass }
 {}
 
-/// An ARP packet of a known neighbour passes, if it doesn't claim an own address.
+/// An ARP packet of a known neighbour, or for another address, passes, if it doesn't claim an own address.
 pub fn known_arp_pass()
     ensures { KnownArpPass }
+{}
+
+/// A datagram of IPv4 that could go to and fro for ever doesn't pass.
+pub fn loops_end()
+    ensures { LoopsEnd }
 {}
 
 /// An ARP packet that claims an own address doesn't pass.
@@ -37,7 +43,7 @@ pub fn own_addresses_stay()
     ensures { OwnAddressesStay }
 {}
 
-/// After a router's advertisement passed as that of another one, the next other one waits for a minute.
+/// After a router's advertisement passed as that of another one, the next other one waits for the time between two.
 pub fn routers_stay()
     ensures { RoutersStay }
 {}

@@ -9,6 +9,8 @@ pub mod answers;
 pub mod guard;
 pub mod kind;
 pub mod laws;
+pub mod watch;
 
 pub use answers::{Answer, Answers};
 pub use guard::{Guard, Reason};
+pub use watch::{Conflict, Counts, Watch};

@@ -67,6 +67,14 @@ pub fn ipv4_of(protocol: u8, third: u8, last: u8, first: u8) -> [u8; 54] {
     frame
 }
 
+/// A datagram of UDP from 192.168.9.9 to 192.168.1.1 with these ports (RFC 768).
+pub fn ports(from: u16, to: u16) -> [u8; 54] {
+    let mut frame = ipv4_of(17, 9, 9, 0);
+    [frame[34], frame[35]] = from.to_be_bytes();
+    [frame[36], frame[37]] = to.to_be_bytes();
+    frame
+}
+
 /// A message of ICMPv6 of this type from fe80::`last`, about fe80::`about` where it has a target (RFC 8200 3, RFC 4861 4).
 pub fn icmpv6_of(message: u8, last: u8, about: u8) -> [u8; 86] {
     let mut frame = [0; 86];

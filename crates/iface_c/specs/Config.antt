@@ -7,6 +7,7 @@ use Rattle.net_base.specs.declared.phy.Checksum.{Checksum}
 use Rattle.net_base.specs.declared.phy.Checksum.TheVariants as checksum
 use Rattle.net_base.specs.declared.phy.ChecksumCapabilities.{ChecksumCapabilities}
 use Rattle.iface_host.specs.declared.host.Settings.{Settings}
+use Rattle.iface_c.specs.Guarding.{usual_guard, watch_in}
 use Rattle.iface_c.specs.declared.hosts.IfaceChecksums.{IfaceChecksums}
 use Rattle.iface_c.specs.declared.hosts.IfaceConfig.{IfaceConfig}
 
@@ -42,10 +43,11 @@ settings_with c hardware checksums = record {
   reassembly_timeout = c.reassembly_timeout;
   start = c.start;
   checksum = checksums;
+  watch = watch_in c.guard;
 }
 
 -- what most programs want: eight sockets on Ethernet, three seconds of patience, as three solicitations take (RFC 4861
--- 10), ten for fragments, and moment 0 to begin at
+-- 10), ten for fragments, moment 0 to begin at, and a guard by the usual rules
 abbrev pub usual : IfaceConfig
 usual = record {
   seed = 0;
@@ -59,6 +61,7 @@ usual = record {
   medium = 0;
   slaac = 0;
   checksums = record { ipv4 = 0; udp = 0; tcp = 0; icmpv4 = 0; icmpv6 = 0 };
+  guard = usual_guard;
 }
 
 -- its address on its link, if its medium is 0 or 1

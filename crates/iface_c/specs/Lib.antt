@@ -1,5 +1,6 @@
 pub mod Addresses
 pub mod Calls
+pub mod Guarding
 pub mod Config
 pub mod Counters
 pub mod Handle

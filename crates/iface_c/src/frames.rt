@@ -4,7 +4,7 @@ ghost use Rattle.std.specs.Prelude.{length as len};
 ghost use Rattle.iface_c.specs.Calls.{Did};
 ghost use Rattle.iface_c.specs.Handle.{host_in};
 ghost use Rattle.iface_c.specs.Status.{IsDueOrMemory, code_by};
-ghost use Rattle.iface_host.specs.Frames.{NextIs, Receives};
+ghost use Rattle.iface_host.specs.Guarded.{NextIs, Receives};
 ghost use Rattle.iface_host.specs.Refusals.{frame_refusal, moment_refusal};
 ghost use Rattle.iface_c.specs.Packets.{IsDueAt, read_as};
 

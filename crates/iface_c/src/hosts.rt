@@ -13,6 +13,7 @@ ghost use Rattle.iface_host.specs.Stands.{Follows};
 ghost use Rattle.iface_host.specs.TableRefusals as refusals;
 
 use crate::addresses::IfaceAddress;
+use crate::guarding::IfaceGuard;
 use crate::handle::Iface;
 use crate::status::{
     BAD_ARGUMENT, BAD_VERSION, HAS_HOST, NO_HOST, NO_MEMORY, NOT_THERE, OK, VERSION, code,
@@ -49,6 +50,8 @@ pub struct IfaceConfig {
     pub slaac: u8,
     /// Which checksums it verifies and computes.
     pub checksums: IfaceChecksums,
+    /// The guard in front of it.
+    pub guard: IfaceGuard,
 }
 
 /// In which directions a host computes checksums, by protocol: 0 verified and computed, 1 verified alone, 2 computed
@@ -136,6 +139,7 @@ impl IfaceConfig {
             reassembly_timeout: Duration::from_micros(self.reassembly_timeout),
             start: self.start,
             checksum,
+            watch: self.guard.watch(),
         })
     }
 }
@@ -163,6 +167,7 @@ pub extern "C" fn iface_config_init(config: &mut IfaceConfig)
             icmpv4: 0,
             icmpv6: 0,
         },
+        guard: IfaceGuard::usual(),
     };
 }
 

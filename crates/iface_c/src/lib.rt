@@ -7,6 +7,7 @@
 pub mod addresses;
 pub mod counters;
 pub mod frames;
+pub mod guarding;
 pub mod handle;
 pub mod hosts;
 pub mod lists;
@@ -24,6 +25,7 @@ pub mod waiting;
 
 pub use addresses::{IfaceAddress, IfaceEndpoint};
 pub use counters::IfaceCounters;
+pub use guarding::{IfaceDrops, IfaceGuard, IfaceRate};
 pub use handle::Iface;
 pub use hosts::{IfaceChecksums, IfaceConfig};
 pub use lists::IfaceCidr;

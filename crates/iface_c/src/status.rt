@@ -35,7 +35,7 @@ pub const NO_SOCKET: u32 = 11;
 pub const BAD_VERSION: u32 = 18;
 
 /// The version of the header, `IFACE_VERSION`.
-pub const VERSION: u32 = 0x000e_0003;
+pub const VERSION: u32 = 0x000e_0004;
 
 /// The code of a refusal.
 pub fn code(refusal: Refusal) -> u32

@@ -1,9 +1,9 @@
 -- Frames that are taken and handed over, over plain variables.
 use Rattle.egress_schedule.specs.Plan.{Planned}
 use Rattle.egress_schedule.specs.Rounds.{after_round, before_round}
-use Rattle.std.proofs.Common.{◌≡◌, ℕ, Bool, true, List, [], ◌∷◌, ◌++◌, Option, Some, None, Ok, refl, sym, ap, ◌∙◌, subst}
-use Rattle.std.proofs.Common.{length, take, arith}
-use Rattle.std.proofs.lemmas.List.{length-take-le}
+use Rattle.std.proofs.Common.{◌≡◌, ℕ, Bool, true, false, List, [], ◌∷◌, ◌++◌, Option, Some, None, Ok, refl, sym, ap, ◌∙◌, subst}
+use Rattle.std.proofs.Common.{length, take, arith, ◌≤◌}
+use Rattle.std.proofs.lemmas.List.{length-take-le, take_all}
 use Rattle.std.proofs.Math.Dec.{eqb-suc-zero}
 use Rattle.std.specs.Prelude.{ℤ, pos, ◌||◌, ◌==◌, not, Err, IfOk, Result}
 use Rattle.std.specs.Borrow.{Bor}
@@ -21,7 +21,12 @@ use Rattle.interface.specs.Refines.{HostRefinesTelling}
 use Rattle.interface.specs.Receives.{HostRefinesReceiving, frames_shown}
 use Rattle.interface.specs.Stands as interfaces
 use Rattle.interface.specs.declared.interface.Interface.{Interface}
-use Rattle.iface_host.specs.Frames.{IsDue, IsWritten, Made, NextIs, PollsInto, Receives, Round, is_piece_left, planned}
+use Rattle.guard.specs.Watch as guard
+use Rattle.iface_tables.specs.Neighbor.{Neighbors}
+use Rattle.ip_address.specs.declared.cidr.IpCidr.{IpCidr}
+use Rattle.guard.specs.declared.watch.Watch.{Watch}
+use Rattle.iface_host.specs.Frames.{Gives, IsDue, IsWritten, Made, PollsInto, Round, Takes, after_response, is_piece_left, let_go, planned}
+use Rattle.iface_host.specs.Guarded.{Admitted, Dropped, NextIs, Receives, after_arrival, after_sending, is_admitted}
 use Rattle.iface_host.specs.Counters.{after_handing, after_taking}
 use Rattle.iface_host.specs.Outbox.{Tells, Waiting, empty, with_room}
 use Rattle.iface_host.specs.RoundDevice as device
@@ -60,27 +65,82 @@ pub changing : (frame : List ℕ) → not (length frame == 0) ≡ may_change (an
 changing [] = refl
 changing (octet ∷ octets) = ap not (eqb-suc-zero (length octets))
 
--- a frame was taken at the moment that was tested
-pub received : (t t' : ℤ) → t' ≡ t → (frame : List ℕ) (n : ℕ) (before after : List ℕ) (old : Host) (i : Interface) (s : Sockets (Bor (Unit {0})))
-    (shown result : Option (List ℕ)) → result ≡ shown →
-    IsWritten shown n before after → HostRefinesReceiving t' frame result (interfaces.StandsFor old.interface.value old.sockets) (interfaces.StandsFor i s) →
+-- what a guard holds back isn't written, and what it lets go is
+pub held : (t : ℤ) (frame : List ℕ) (w : Watch) → guard.lets_go t frame w ≡ false → (out : List ℕ) →
+    IsWritten (let_go t (Some frame) w) 0 out out
+held t frame w e out = rw e (refl, refl)
+
+pub went : (t : ℤ) (frame : List ℕ) (w : Watch) → guard.lets_go t frame w ≡ true → (n : ℕ) (before after : List ℕ) →
+    IsWritten (Some frame) n before after → IsWritten (let_go t (Some frame) w) n before after
+went t frame w e n before after is = rw e is
+
+-- the front of a buffer that is no longer
+pub all_of : (n : ℕ) (octets : List ℕ) → length octets ≤ n → octets ≡ take n octets
+all_of n octets short = sym (take_all n octets short)
+
+-- a guard judges by the host's own addresses and neighbours
+pub admits_as : (t : ℤ) (frame : List ℕ) (own own' : List IpCidr) → own ≡ own' → (known known' : Neighbors) → known ≡ known' → (w : Watch) →
+    guard.admits t frame own known w ≡ guard.admits t frame own' known' w
+admits_as t frame own own' same known known' same' w =
+    ap (λ (o : List IpCidr). guard.admits t frame o known w) same ∙ ap (λ (k : Neighbors). guard.admits t frame own' k w) same'
+
+pub arrives_as : (t : ℤ) (frame : List ℕ) (own own' : List IpCidr) → own ≡ own' → (known known' : Neighbors) → known ≡ known' → (host : Host) →
+    (w : Watch) → w ≡ guard.after_arrival t frame own known host.watch →
+    record host { watch = w } ≡ record host { watch = guard.after_arrival t frame own' known' host.watch }
+arrives_as t frame own own' same known known' same' host w is =
+    ap (λ (v : Watch). record host { watch = v }) (is
+    ∙ ap (λ (o : List IpCidr). guard.after_arrival t frame o known host.watch) same
+    ∙ ap (λ (k : Neighbors). guard.after_arrival t frame own' k host.watch) same')
+
+-- a frame was taken
+pub received : (t : ℤ) (frame : List ℕ) (n : ℕ) (before after : List ℕ) (old : Host) (i : Interface) (s : Sockets (Bor (Unit {0})))
+    (shown result : Option (List ℕ)) → result ≡ shown → IsWritten (let_go t shown old.watch) n before after →
+    HostRefinesReceiving t frame result (interfaces.StandsFor old.interface.value old.sockets) (interfaces.StandsFor i s) →
     (changed : Bool) → changed ≡ (old.changed || not (length frame == 0)) → (counts : FrameCounts) →
-    counts ≡ after_handing n (after_taking old.frames) →
-    Receives t frame n before after old (record old { interface = with_value old.interface i; sockets = s; changed = changed; frames = counts })
-received t t' same frame n before after old i s shown result is w r changed changed_is counts counts_is = record {
+    counts ≡ after_handing n (after_taking old.frames) → (w : Watch) → w ≡ after_response t shown old.watch →
+    Takes t frame n before after old
+    (record old { interface = with_value old.interface i; sockets = s; changed = changed; frames = counts; watch = w })
+received t frame n before after old i s shown result is written r changed changed_is counts counts_is w w_is = record {
   shown = shown;
-  written = w;
+  written = written;
   received =
-      let at_t =
-      subst (λ (m : ℤ). HostRefinesReceiving m frame result (interfaces.StandsFor old.interface.value old.sockets) (interfaces.StandsFor i s)) same r in
       subst
-      (λ (x : Option (List ℕ)). HostRefinesReceiving t frame x (interfaces.StandsFor old.interface.value old.sockets) (interfaces.StandsFor i s)) is at_t;
+      (λ (x : Option (List ℕ)). HostRefinesReceiving t frame x (interfaces.StandsFor old.interface.value old.sockets) (interfaces.StandsFor i s)) is r;
   rest =
-      ap (λ (b : Bool). record old { interface = with_value old.interface i; sockets = s; changed = b; frames = counts })
+      ap (λ (b : Bool). record old { interface = with_value old.interface i; sockets = s; changed = b; frames = counts; watch = w })
       (changed_is ∙ ap (λ (b : Bool). old.changed || b) (changing frame))
-      ∙ ap (λ (f : FrameCounts).
-      record old { interface = with_value old.interface i; sockets = s; changed = old.changed || may_change (answer_to (Frame frame)); frames = f }) counts_is;
+      ∙ ap (λ (f : FrameCounts). record old {
+        interface = with_value old.interface i;
+        sockets = s;
+        changed = old.changed || may_change (answer_to (Frame frame));
+        frames = f;
+        watch = w;
+      }) counts_is
+      ∙ ap (λ (v : Watch). record old {
+        interface = with_value old.interface i;
+        sockets = s;
+        changed = old.changed || may_change (answer_to (Frame frame));
+        frames = after_handing n (after_taking old.frames);
+        watch = v;
+      }) w_is;
 }
+
+-- at the moment that was tested
+pub admitted : (t t' : ℤ) → t' ≡ t → (frame : List ℕ) (n : ℕ) (before after : List ℕ) (old mid new : Host) →
+    is_admitted t' frame old ≡ true → mid ≡ after_arrival t' frame old → Takes t' frame n before after mid new →
+    Receives t frame n before after old new
+admitted t t' same frame n before after old mid new is mid_is takes =
+    subst (λ (m : ℤ). Receives m frame n before after old new) same
+    (Admitted is (subst (λ (h : Host). Takes t' frame n before after h new) mid_is takes))
+
+pub dropped : (t t' : ℤ) → t' ≡ t → (frame out : List ℕ) (old mid : Host) → is_admitted t' frame old ≡ false →
+    mid ≡ after_arrival t' frame old → Receives t frame 0 out out old mid
+dropped t t' same frame out old mid is mid_is = subst (λ (m : ℤ). Receives m frame 0 out out old mid) same (Dropped is refl refl mid_is)
+
+pub noted : (t t' : ℤ) → t' ≡ t → (n : ℕ) (before after : List ℕ) (old given new : Host) → Gives t' n before after old given →
+    new ≡ after_sending t' (take n after) given → NextIs t n before after old new
+noted t t' same n before after old given new gives is =
+    subst (λ (m : ℤ). NextIs m n before after old new) same (record { given = given; gives = gives; noted = is })
 
 -- the frame in the front of a buffer, if there is one, and how many octets it has
 abbrev pub frame_in : Option ℕ → List ℕ → Option (List ℕ)
@@ -208,10 +268,8 @@ due_at_once t t' same old i waits moved = record {
   rest = refl;
 }
 
--- a round at the moment that was tested, where it wasn't refused
-pub of_round : (t t' : ℤ) → t' ≡ t → (before after : List ℕ) (old new : Host) → old.outbox.frames ≡ [] →
-    (answer : Result ℕ Refusal) → IfOk answer (λ n. Round t' n before after old new) →
-    IfOk answer (λ n. NextIs t n before after old new)
-of_round t t' same before after old new none (Ok n) went =
-    Made none (subst (λ (m : ℤ). Round m n before after old new) same went)
-of_round t t' same before after old new none (Err why) went = tt
+-- a round, where it wasn't refused
+pub of_round : (t : ℤ) (before after : List ℕ) (old new : Host) → old.outbox.frames ≡ [] → (answer : Result ℕ Refusal) →
+    IfOk answer (λ n. Round t n before after old new) → IfOk answer (λ n. Gives t n before after old new)
+of_round t before after old new none (Ok n) went = Made none went
+of_round t before after old new none (Err why) went = tt

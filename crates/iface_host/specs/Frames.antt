@@ -1,7 +1,9 @@
 -- Frames that are taken and handed over, and the instant of the next poll.
-use Rattle.std.specs.Prelude.{ℕ, ℤ, ◌≡◌, ◌≢◌, ◌||◌, pos, Bool, true, not, List, [], length, take, drop, Option, Some, None}
+use Rattle.std.specs.Prelude.{ℕ, ℤ, ◌≡◌, ◌≢◌, ◌||◌, pos, Bool, true, not, List, [], length, take, drop, Option, Some, None, if◌then◌else◌}
 use Rattle.std.specs.Borrow.{Bor}
 use Rattle.fragmentation.specs.Pending.{is_nil}
+use Rattle.guard.specs.Watch as guard
+use Rattle.guard.specs.declared.watch.Watch.{Watch}
 use Rattle.egress_schedule.specs.Plan.{Planned}
 use Rattle.egress_schedule.specs.Rounds.{after_round, before_round}
 use Rattle.socket_set.specs.SocketSet.{Sockets}
@@ -26,17 +28,27 @@ abbrev pub IsWritten : Option (List ℕ) → ℕ → List ℕ → List ℕ → T
 IsWritten None n before after = (n ≡ 0) × (after ≡ before)
 IsWritten (Some frame) n before after = (n ≡ length frame) × (take n after ≡ frame) × (drop n after ≡ drop n before)
 
--- the machine takes a frame, and the frame that it sends, if there is one, is written; both are counted, and sockets
--- may have changed where the machine's answer says so
-pub record Receives (t : ℤ) (frame : List ℕ) (n : ℕ) (before after : List ℕ) (old new : Host) : Type 0 where
+-- what a guard lets go of a frame in response, if there is one; and what it keeps afterwards
+abbrev pub let_go : ℤ → Option (List ℕ) → Watch → Option (List ℕ)
+let_go t None w = None
+let_go t (Some frame) w = if guard.lets_go t frame w then Some frame else None
+
+abbrev pub after_response : ℤ → Option (List ℕ) → Watch → Watch
+after_response t None w = w
+after_response t (Some frame) w = guard.after_response t frame w
+
+-- the machine takes a frame, and the frame that it sends, if there is one and the guard lets it go, is written; both are
+-- counted, and sockets may have changed where the machine's answer says so
+pub record Takes (t : ℤ) (frame : List ℕ) (n : ℕ) (before after : List ℕ) (old new : Host) : Type 0 where
   pub shown : Option (List ℕ)
-  pub written : IsWritten shown n before after
+  pub written : IsWritten (let_go t shown old.watch) n before after
   pub received : HostRefinesReceiving t frame shown (StandsFor old) (StandsFor new)
   pub rest : new ≡ record old {
     interface = new.interface;
     sockets = new.sockets;
     changed = old.changed || may_change (answer_to (Frame frame));
     frames = after_handing n (after_taking old.frames);
+    watch = after_response t shown old.watch;
   }
 
 -- what is kept of the sockets, and these
@@ -81,9 +93,9 @@ pub record HandsOver (n : ℕ) (before after : List ℕ) (old new : Host) : Type
   pub rest : new ≡ record old { outbox = new.outbox; frames = after_handing n old.frames }
 
 -- the first frame that waits is handed over; where none waits, that of a round
-pub data NextIs (t : ℤ) (n : ℕ) (before after : List ℕ) (old new : Host) : Type 0 where
-  Waited : old.outbox.frames ≢ [] → HandsOver n before after old new → NextIs t n before after old new
-  Made : old.outbox.frames ≡ [] → Round t n before after old new → NextIs t n before after old new
+pub data Gives (t : ℤ) (n : ℕ) (before after : List ℕ) (old new : Host) : Type 0 where
+  Waited : old.outbox.frames ≢ [] → HandsOver n before after old new → Gives t n before after old new
+  Made : old.outbox.frames ≡ [] → Round t n before after old new → Gives t n before after old new
 
 -- the least instant at which something of the machine is due, at the moment that is set; 0 where a frame waits
 pub record IsDue (t : ℤ) (due : Option ℤ) (old new : Host) : Type 0 where

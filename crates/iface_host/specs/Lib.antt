@@ -14,4 +14,5 @@ pub mod TableRefusals
 pub mod Segments
 pub mod Counters
 pub mod Frames
+pub mod Guarded
 pub mod Waits

@@ -9,6 +9,9 @@ use Rattle.iface_host.specs.Outbox.{empty}
 use Rattle.host_machine.specs.State.Config.{first_host}
 use Rattle.host_machine.specs.State.Host.{Host as Machine, SocketSet}
 use Rattle.ip_address.specs.Hardware.{medium_of}
+use Rattle.ip_address.specs.declared.hardware.HardwareAddress.{HardwareAddress}
+use Rattle.ip_address.specs.declared.hardware.HardwareAddress.TheVariants.{Ethernet, Ip}
+use Rattle.guard.specs.declared.watch.Watch.{Watch}
 use Rattle.net_base.specs.declared.phy.DeviceCapabilities.{DeviceCapabilities}
 use Rattle.interface.specs.Stands as interface
 use Rattle.interface.specs.Stands.{Refinement}
@@ -39,8 +42,16 @@ first_machine s sockets =
       reassembly_timeout = s.reassembly_timeout;
     }
 
+-- its guard, which is off on a medium without hardware addresses
+abbrev pub watch_on : HardwareAddress → Watch → Watch
+watch_on (Ethernet address) w = w
+watch_on Ip w = record w { is_on = false }
+
+abbrev pub watch_for : Settings → Watch
+watch_for s = watch_on s.hardware_addr s.watch
+
 -- it was just made: it stands for the machine's first host; its places are free, its numbers name none, no frame waits,
--- and no socket does; nothing changed, and nothing was counted
+-- and no socket does; nothing changed, nothing was counted, and its guard is that of the settings
 pub record IsFirst (s : Settings) (host : Host) : Type 0 where
   pub stands : StandsFor host (first_machine s host.sockets)
   pub some_time : 0 < s.reassembly_timeout
@@ -52,6 +63,7 @@ pub record IsFirst (s : Settings) (host : Host) : Type 0 where
   pub schedule : host.schedule ≡ first_plan s.patience s.sockets host.schedule.room
   pub changed : host.changed ≡ false
   pub frames : host.frames ≡ no_frames
+  pub watch : host.watch ≡ watch_for s
 
 -- nothing but the interface changed, and by a rule: from each host that it stood for, the rule leads to
 -- one that it stands for

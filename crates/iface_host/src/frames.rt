@@ -3,7 +3,8 @@ ghost use Rattle.std.specs.Prelude.{◌≡◌, ◌≤◌, IfOk, IfErr, OnOk, OnE
 ghost use Rattle.net_base.specs.Time.{IsMoment};
 ghost use Rattle.std.specs.Result.{IsErrOf, result_err};
 ghost use Rattle.host_machine.specs.Polling.Polling as polling;
-ghost use Rattle.iface_host.specs.Frames.{HandsOver, IsDue, NextIs, PollsInto, Receives, Round};
+ghost use Rattle.iface_host.specs.Frames.{Gives, HandsOver, IsDue, PollsInto, Round, Takes};
+ghost use Rattle.iface_host.specs.Guarded.{NextIs, Receives};
 ghost use Rattle.iface_host.specs.Refusals.{frame_refusal, moment_refusal};
 ghost use Rattle.iface_host.specs.RoundDevice.{len_or_zero};
 
@@ -21,8 +22,9 @@ const LAST_MOMENT: i64 = 1 << 62;
 
 impl Host {
     /// Takes a frame at a moment, and writes the frame that is to be sent in response, if there is one, to the front of
-    /// a buffer. Answers how many octets that has, 0 where there is none. `BadMoment` if the moment is out of range,
-    /// `NoRoom` if the buffer has less than 1,514 octets.
+    /// a buffer. Answers how many octets that has, 0 where there is none. A frame that the host's guard drops changes
+    /// nothing but what the guard keeps; of a response that it holds back nothing is written. `BadMoment` if the moment
+    /// is out of range, `NoRoom` if the buffer has less than 1,514 octets.
     pub fn receive(&mut self, now: i64, frame: &[u8], out: &mut [u8]) -> Result<usize, Refusal>
         ensures why { result_err result ≡ frame_refusal now (length out.old) }
         ensures received { IfOk result (λ n. Receives now frame.now n out.old out.new self.old self.new) }
@@ -33,15 +35,30 @@ impl Host {
         if out.len() < FRAME_LEN {
             return Err(Refusal::NoRoom);
         }
+        if !self.admits(now, frame) {
+            return Ok(0);
+        }
+        Ok(self.take_frame(now, frame, out))
+    }
+
+    /// Takes a frame that the guard admits.
+    fn take_frame(&mut self, now: Instant, frame: &[u8], out: &mut [u8]) -> usize
+        requires moment { IsMoment now }
+        requires room { 1514 ≤ length out.old }
+        ensures { Takes now frame.now result out.old out.new self.old self.new }
+    {
         self.changed |= !frame.is_empty();
         self.frames.take();
         match self.interface.receive_frame(now, frame, &mut self.sockets) {
             Some(reply) => {
+                if !self.watch.lets_go(now, reply) {
+                    return 0;
+                }
                 let len = write_front(out, reply);
                 self.frames.hand_over(len);
-                Ok(len)
+                len
             }
-            None => Ok(0),
+            None => 0,
         }
     }
 
@@ -64,6 +81,20 @@ impl Host {
         if out.len() < FRAME_LEN {
             return Err(Refusal::NoRoom);
         }
+        let len = self.give(now, out)?;
+        self.note_sent(now, out, len);
+        Ok(len)
+    }
+
+    /// Hands over the first frame that waits, or makes a round. `NoMemory` if memory for a frame is refused before the
+    /// round.
+    fn give(&mut self, now: Instant, out: &mut [u8]) -> Result<usize, Refusal>
+        requires moment { IsMoment now }
+        requires room { 1514 ≤ length out.old }
+        ensures memory { IfErr result (λ e. (e ≡ Refusal.NoMemory) × (self.old.outbox.frames ≡ [])) }
+        ensures given { IfOk result (λ n. Gives now n out.old out.new self.old self.new) }
+        ensures refused { OnErr result ((self.new ≡ self.old) × (out.new ≡ out.old)) }
+    {
         if self.outbox.len() > 0 {
             return Ok(self.hand_over(out));
         }

@@ -11,11 +11,13 @@ ghost use Rattle.iface_host.specs.TableRefusals.{settings_refusal, timeout_refus
 
 use crate::counters::FrameCounts;
 use crate::frames::moment;
+use crate::guarded::watch_for;
 use crate::names::Names;
 use crate::outbox::Outbox;
 use crate::refusal::Refusal;
 use crate::round_device::RoundDevice;
 use egress_schedule::Schedule;
+use guard::Watch;
 use interface::{Config, Interface, NewError};
 use ip_wire::HardwareAddress;
 use net_base::phy::{ChecksumCapabilities, DeviceCapabilities, Medium};
@@ -51,11 +53,13 @@ pub struct Settings {
     pub start: i64,
     /// Which checksums it verifies and computes; its link does the others.
     pub checksum: ChecksumCapabilities,
+    /// What is in front of it on Ethernet. On a link without hardware addresses it is off.
+    pub watch: Watch,
 }
 
 /// A host: an interface, its sockets, the numbers that name these, and the frames that wait to be handed over. Besides,
-/// whether its sockets may have changed since that was asked, and how many frames it took and handed over. The interface
-/// has a box of its own, since it is large.
+/// whether its sockets may have changed since that was asked, how many frames it took and handed over, and its guard. The
+/// interface has a box of its own, since it is large.
 #[derive(Drop)]
 pub struct Host {
     pub(crate) alloc: Global,
@@ -67,6 +71,7 @@ pub struct Host {
     pub(crate) schedule: Schedule,
     pub(crate) changed: bool,
     pub(crate) frames: FrameCounts,
+    pub(crate) watch: Watch,
 }
 
 impl Host {
@@ -111,6 +116,7 @@ impl Host {
             schedule,
             changed: false,
             frames: FrameCounts::NONE,
+            watch: watch_for(settings),
         })
     }
 }

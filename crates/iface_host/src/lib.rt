@@ -8,6 +8,7 @@
 pub mod addresses;
 pub mod counters;
 pub mod frames;
+pub mod guarded;
 pub mod hop_limits;
 pub mod host;
 pub mod names;

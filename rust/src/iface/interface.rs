@@ -1,5 +1,6 @@
 //! Interfaces.
 use super::{Addresses, Neighbors, RouteList, Routes, SocketSet};
+use crate::guard::{Conflict, Drops, Guard};
 use crate::host::{Counters, Error, FRAME_ROOM, Frame, Host, Settings};
 use crate::phy::{Device, DeviceCapabilities, Medium, RxToken, TxToken};
 use crate::shared::Shared;
@@ -26,11 +27,13 @@ pub struct Config {
     /// How long fragments of a packet wait for the others: not zero, at most a day. smoltcp has
     /// [`set_reassembly_timeout`](Interface::set_reassembly_timeout) alone.
     pub reassembly_timeout: Duration,
+    /// The guard in front of it, if there is one. Without hardware addresses it does nothing. smoltcp has none such.
+    pub guard: Option<Guard>,
 }
 
 impl Config {
     /// What most programs want, but for the seed, which is 0: 8 sockets, no addresses from routers, a patience of three
-    /// seconds, and ten seconds for fragments. It is what `iface_config_init` writes.
+    /// seconds, ten seconds for fragments, and a guard. It is what `iface_config_init` writes.
     pub fn new(hardware_addr: HardwareAddress) -> Config {
         let settings = Settings::new(hardware_addr);
         Config {
@@ -40,6 +43,7 @@ impl Config {
             sockets: settings.sockets,
             patience: settings.patience,
             reassembly_timeout: settings.reassembly_timeout,
+            guard: settings.guard,
         }
     }
 
@@ -52,6 +56,7 @@ impl Config {
         settings.sockets = self.sockets;
         settings.patience = self.patience;
         settings.reassembly_timeout = self.reassembly_timeout;
+        settings.guard = self.guard;
         settings.start = start;
         settings.checksum = capabilities.checksum;
         settings.burst = capabilities.max_burst_size.map(|frames| u32::try_from(frames).unwrap_or(u32::MAX));
@@ -452,6 +457,16 @@ impl Interface {
     /// such.
     pub fn counters(&self) -> Counters {
         self.host.with(Host::counters)
+    }
+
+    /// How many frames its guard dropped, by the reason, and how many answers it held back.
+    pub fn guard_drops(&self) -> Drops {
+        self.host.with(Host::guard_drops)
+    }
+
+    /// Who sent the last frame that its guard dropped as claiming an own address, if there was one.
+    pub fn guard_conflict(&self) -> Option<Conflict> {
+        self.host.with(Host::guard_conflict)
     }
 
     /// Its neighbours, by rising instants, those whose instant has passed too: a copy. None are there on a medium

@@ -8,6 +8,7 @@ mod list;
 mod route;
 mod socket_set;
 
+pub use crate::guard::{Conflict, Drops, Guard, Rate};
 pub use crate::host::{Counters, Neighbor, Route};
 pub use interface::{Config, Interface, MulticastError, PollIngressSingleResult, PollResult};
 pub use list::{

@@ -25,4 +25,5 @@ returns-clause-made c = record {
   schedule = c.in_ok-schedule.ensures;
   changed = refl;
   frames = refl;
+  watch = c.watch_for.ensures;
 }

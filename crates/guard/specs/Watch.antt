@@ -1,0 +1,116 @@
+-- A guard on its post: what it drops is counted by the reason, and who claims an own address is told.
+use Rattle.std.specs.Prelude.{ℕ, ◌+◌, ◌-◌, ◌^◌, ◌==◌, ℤ, is_none, Bool, true, List, [], ◌∷◌, Option, Some, None, if◌then◌else◌}
+use Rattle.ip_address.specs.declared.ethernet_address.EthernetAddress.{EthernetAddress}
+use Rattle.ip_address.specs.declared.cidr.IpCidr.{IpCidr}
+use Rattle.iface_tables.specs.Neighbor.{Neighbors}
+use Rattle.guard.specs.declared.answers.Answer.{Answer}
+use Rattle.guard.specs.declared.answers.Answer.TheVariants.{EchoReply, Error, Reset}
+use Rattle.guard.specs.declared.guard.Reason.{Reason}
+use Rattle.guard.specs.declared.guard.Reason.TheVariants as reason
+use Rattle.guard.specs.declared.watch.Conflict.{Conflict}
+use Rattle.guard.specs.declared.watch.Counts.{Counts}
+use Rattle.guard.specs.declared.watch.Watch.{Watch}
+use Rattle.guard.specs.Answers.{after_answer, answer_of, new_answers, refused}
+use Rattle.guard.specs.Guard.{after_asking, after_judging, micros, new_guard, reason_of}
+use Rattle.guard.specs.Kind.{asked_in, kind_of, octet_at}
+
+-- one more, up to the greatest number of 64 bits
+abbrev pub one_more : ℕ → ℕ
+one_more n = if n == 2 ^ 64 - 1 then n else n + 1
+
+abbrev pub no_drops : Counts
+no_drops = record {
+  own_address = 0;
+  own_source = 0;
+  new_neighbor = 0;
+  discovery = 0;
+  query = 0;
+  router = 0;
+  fragment = 0;
+  loops = 0;
+  echo_reply = 0;
+  error = 0;
+  reset = 0;
+}
+
+abbrev pub new_watch : Watch
+new_watch = record { is_on = true; guard = new_guard; answers = new_answers; counts = no_drops; conflict = None }
+
+-- a frame was dropped
+abbrev pub after_drop : Reason → Counts → Counts
+after_drop reason.OwnAddress c = record c { own_address = one_more c.own_address }
+after_drop reason.OwnSource c = record c { own_source = one_more c.own_source }
+after_drop reason.NewNeighbor c = record c { new_neighbor = one_more c.new_neighbor }
+after_drop reason.Discovery c = record c { discovery = one_more c.discovery }
+after_drop reason.Query c = record c { query = one_more c.query }
+after_drop reason.Router c = record c { router = one_more c.router }
+after_drop reason.Fragment c = record c { fragment = one_more c.fragment }
+after_drop reason.Loop c = record c { loops = one_more c.loops }
+
+-- an answer was held back
+abbrev pub after_holding : Answer → Counts → Counts
+after_holding EchoReply c = record c { echo_reply = one_more c.echo_reply }
+after_holding Error c = record c { error = one_more c.error }
+after_holding Reset c = record c { reset = one_more c.reset }
+
+-- the hardware address that a frame came from
+abbrev pub source_of : List ℕ → EthernetAddress
+source_of frame = record {
+  0 = octet_at frame 6 ∷ octet_at frame 7 ∷ octet_at frame 8 ∷ octet_at frame 9 ∷ octet_at frame 10 ∷ octet_at frame 11 ∷ [];
+}
+
+-- who claimed an own address last (RFC 5227 2.4)
+abbrev pub conflict_after : ℤ → List ℕ → Reason → Option Conflict → Option Conflict
+conflict_after now frame reason.OwnAddress c = Some (record { hardware = source_of frame; at = now })
+conflict_after now frame reason.OwnSource c = c
+conflict_after now frame reason.NewNeighbor c = c
+conflict_after now frame reason.Discovery c = c
+conflict_after now frame reason.Query c = c
+conflict_after now frame reason.Router c = c
+conflict_after now frame reason.Fragment c = c
+conflict_after now frame reason.Loop c = c
+
+-- a frame was dropped for a reason
+abbrev pub after_report : ℤ → List ℕ → Reason → Watch → Watch
+after_report now frame why w =
+    record w { counts = after_drop why w.counts; conflict = conflict_after now frame why w.conflict }
+
+abbrev pub after_reason : ℤ → List ℕ → Option Reason → Watch → Watch
+after_reason now frame None w = w
+after_reason now frame (Some why) w = after_report now frame why w
+
+-- why the host doesn't get to see a frame
+abbrev pub reason_for : ℤ → List ℕ → List IpCidr → Neighbors → Watch → Option Reason
+reason_for now frame own known w = if w.is_on then reason_of now (kind_of frame) own known w.guard else None
+
+abbrev pub admits : ℤ → List ℕ → List IpCidr → Neighbors → Watch → Bool
+admits now frame own known w = is_none (reason_for now frame own known w)
+
+abbrev pub with_judging : ℤ → List ℕ → List IpCidr → Neighbors → Watch → Watch
+with_judging now frame own known w = record w { guard = after_judging now (kind_of frame) own known w.guard }
+
+abbrev pub after_arrival : ℤ → List ℕ → List IpCidr → Neighbors → Watch → Watch
+after_arrival now frame own known w =
+    if w.is_on then after_reason now frame (reason_of now (kind_of frame) own known w.guard) (with_judging now frame own known w) else w
+
+-- why an answer is held back
+abbrev pub lets_go : ℤ → List ℕ → Watch → Bool
+lets_go now frame w = if w.is_on then is_none (refused (micros now) (answer_of frame) w.answers) else true
+
+abbrev pub after_refusal : Option Answer → Counts → Counts
+after_refusal None c = c
+after_refusal (Some answer) c = after_holding answer c
+
+-- a frame in response was sent, or held back
+abbrev pub after_response : ℤ → List ℕ → Watch → Watch
+after_response now frame w =
+    if w.is_on then record w {
+      guard = after_asking now (asked_in frame) w.guard;
+      answers = after_answer (micros now) (answer_of frame) w.answers;
+      counts = after_refusal (refused (micros now) (answer_of frame) w.answers) w.counts;
+    }
+    else w
+
+-- another frame was sent
+abbrev pub after_sending : ℤ → List ℕ → Watch → Watch
+after_sending now frame w = if w.is_on then record w { guard = after_asking now (asked_in frame) w.guard } else w

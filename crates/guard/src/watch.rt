@@ -1,0 +1,195 @@
+//! A guard on its post: what it drops is counted by the reason, and who claims an own address is told.
+ghost use Rattle.std.specs.Prelude.{◌≡◌, false};
+ghost use Rattle.guard.specs.Watch as spec;
+
+use crate::answers::{Answer, Answers};
+use crate::guard::{Guard, Reason};
+use crate::kind::octet_at;
+use iface_tables::neighbor::Cache;
+use ip_address::{EthernetAddress, IpCidr};
+use net_base::time::Instant;
+
+/// How many frames were dropped, by their reasons, and how many answers were held back. A number stays at the greatest one.
+#[derive(Clone, Copy, Debug, PartialEq, Eq)]
+pub struct Counts {
+    /// Messages that claim an own address.
+    pub own_address: u64,
+    /// Packets from an own address.
+    pub own_source: u64,
+    /// Messages of neighbours that aren't known.
+    pub new_neighbor: u64,
+    /// Packets for whose answer the host would have to ask.
+    pub discovery: u64,
+    /// Queries of IGMP and MLD.
+    pub query: u64,
+    /// Router advertisements.
+    pub router: u64,
+    /// Fragments.
+    pub fragment: u64,
+    /// Datagrams that could go to and fro for ever.
+    pub loops: u64,
+    /// Echo replies that were held back.
+    pub echo_reply: u64,
+    /// Errors of ICMP that were held back.
+    pub error: u64,
+    /// Resets that were held back.
+    pub reset: u64,
+}
+
+impl Counts {
+    /// Nothing was dropped.
+    pub const NONE: Counts = Counts {
+        own_address: 0,
+        own_source: 0,
+        new_neighbor: 0,
+        discovery: 0,
+        query: 0,
+        router: 0,
+        fragment: 0,
+        loops: 0,
+        echo_reply: 0,
+        error: 0,
+        reset: 0,
+    };
+
+    /// Counts a frame that is dropped.
+    fn drop_for(&mut self, reason: Reason)
+        ensures { self.new ≡ spec.after_drop reason self.old }
+    {
+        match reason {
+            Reason::OwnAddress => self.own_address = self.own_address.saturating_add(1),
+            Reason::OwnSource => self.own_source = self.own_source.saturating_add(1),
+            Reason::NewNeighbor => self.new_neighbor = self.new_neighbor.saturating_add(1),
+            Reason::Discovery => self.discovery = self.discovery.saturating_add(1),
+            Reason::Query => self.query = self.query.saturating_add(1),
+            Reason::Router => self.router = self.router.saturating_add(1),
+            Reason::Fragment => self.fragment = self.fragment.saturating_add(1),
+            Reason::Loop => self.loops = self.loops.saturating_add(1),
+        }
+    }
+
+    /// Counts an answer that is held back.
+    fn hold_back(&mut self, answer: Answer)
+        ensures { self.new ≡ spec.after_holding answer self.old }
+    {
+        match answer {
+            Answer::EchoReply => self.echo_reply = self.echo_reply.saturating_add(1),
+            Answer::Error => self.error = self.error.saturating_add(1),
+            Answer::Reset => self.reset = self.reset.saturating_add(1),
+        }
+    }
+}
+
+/// Who claimed an own address (RFC 5227 2.4).
+#[derive(Clone, Copy, Debug, PartialEq, Eq)]
+pub struct Conflict {
+    /// From which hardware address the frame came.
+    pub hardware: EthernetAddress,
+    /// When it came.
+    pub at: Instant,
+}
+
+/// A guard in front of a host and behind it, and what it counts. One that is off does nothing.
+#[derive(Clone, Copy, Debug, PartialEq, Eq)]
+pub struct Watch {
+    /// Whether it does anything.
+    pub is_on: bool,
+    /// Which frames the host gets to see.
+    pub guard: Guard,
+    /// Which answers it sends.
+    pub answers: Answers,
+    /// What was dropped, and held back.
+    pub counts: Counts,
+    /// Who claimed an own address last.
+    pub conflict: Option<Conflict>,
+}
+
+impl Watch {
+    /// A guard by the usual rules and rates ([`Guard::new`], [`Answers::new`]), that has counted nothing.
+    pub const fn new() -> Watch
+        ensures { result ≡ spec.new_watch }
+    {
+        Watch {
+            is_on: true,
+            guard: Guard::new(),
+            answers: Answers::new(),
+            counts: Counts::NONE,
+            conflict: None,
+        }
+    }
+
+    /// Whether the host, which has these addresses and neighbours, may see a frame that came at an instant. What it may not see is
+    /// counted by the reason; if the frame claims an own address, who sent it is noted.
+    pub fn admits(&mut self, now: Instant, frame: &[u8], own: &[IpCidr], neighbors: &Cache) -> bool
+        ensures admitted { result ≡ spec.admits now frame.now own.now neighbors.now self.old }
+        ensures watch { self.new ≡ spec.after_arrival now frame.now own.now neighbors.now self.old }
+    {
+        if !self.is_on {
+            return true;
+        }
+        match self.guard.judge(now, frame, own, neighbors) {
+            None => true,
+            Some(reason) => {
+                self.report(now, frame, reason);
+                false
+            }
+        }
+    }
+
+    /// Whether the host may send a frame in response, at an instant. What it may not send is counted. A request for a hardware
+    /// address is noted as by [`Watch::note_sent`].
+    pub fn lets_go(&mut self, now: Instant, frame: &[u8]) -> bool
+        ensures goes { result ≡ spec.lets_go now frame.now self.old }
+        ensures watch { self.new ≡ spec.after_response now frame.now self.old }
+    {
+        if !self.is_on {
+            return true;
+        }
+        self.guard.note_sent(now, frame);
+        match self.answers.judge(now, frame) {
+            None => true,
+            Some(answer) => {
+                self.counts.hold_back(answer);
+                false
+            }
+        }
+    }
+
+    /// Notes a frame that the host sends at an instant: if it asks for a hardware address, the answer is expected
+    /// ([`Guard::note_sent`]).
+    pub fn note_sent(&mut self, now: Instant, frame: &[u8])
+        ensures { self.new ≡ spec.after_sending now frame.now self.old }
+    {
+        if self.is_on {
+            self.guard.note_sent(now, frame);
+        }
+    }
+
+    /// Counts a frame that is dropped, and notes who sent it, if it claims an own address.
+    #[inline(never)]
+    fn report(&mut self, now: Instant, frame: &[u8], reason: Reason)
+        ensures { self.new ≡ spec.after_report now frame.now reason self.old }
+    {
+        self.counts.drop_for(reason);
+        if let Reason::OwnAddress = reason {
+            self.conflict = Some(Conflict {
+                hardware: source_of(frame),
+                at: now,
+            });
+        }
+    }
+}
+
+/// The hardware address that a frame came from.
+fn source_of(frame: &[u8]) -> EthernetAddress
+    ensures { result ≡ spec.source_of frame.now }
+{
+    EthernetAddress([
+        octet_at(frame, 6),
+        octet_at(frame, 7),
+        octet_at(frame, 8),
+        octet_at(frame, 9),
+        octet_at(frame, 10),
+        octet_at(frame, 11),
+    ])
+}

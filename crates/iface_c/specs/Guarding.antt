@@ -1,0 +1,83 @@
+-- The guard in front of a host, as C sets it and what C reads of it.
+use Rattle.std.specs.Prelude.{ℕ, ℤ, ◌≡◌, List, Option, None, Some}
+use Rattle.token_bucket.specs.declared.bucket.Bucket.{Bucket}
+use Rattle.guard.specs.declared.watch.Conflict.{Conflict}
+use Rattle.guard.specs.declared.watch.Watch.{Watch}
+use Rattle.guard.specs.Watch.{no_drops}
+use Rattle.iface_host.specs.declared.host.Host.{Host}
+use Rattle.iface_c.specs.Properties.{holds_in}
+use Rattle.iface_c.specs.declared.guarding.IfaceDrops.{IfaceDrops}
+use Rattle.iface_c.specs.declared.guarding.IfaceGuard.{IfaceGuard}
+use Rattle.iface_c.specs.declared.guarding.IfaceRate.{IfaceRate}
+
+-- a full bucket by a rate
+abbrev pub bucket_in : IfaceRate → Bucket
+bucket_in r = record { interval = r.interval; depth = r.at_once; full_at = 0 }
+
+-- a guard by these rules, that has noted nothing
+abbrev pub watch_in : IfaceGuard → Watch
+watch_in c = record {
+  is_on = holds_in c.on;
+  guard = record {
+    keeps_own_addresses = holds_in c.own_addresses;
+    drops_fragments = holds_in c.fragments;
+    drops_loops = holds_in c.loops;
+    neighbors = bucket_in c.neighbors;
+    discoveries = bucket_in c.discoveries;
+    queries = bucket_in c.queries;
+    router_time = c.routers;
+    asked = None;
+    router = None;
+  };
+  answers = record {
+    echo_replies = bucket_in c.echo_replies;
+    errors = bucket_in c.errors;
+    resets = bucket_in c.resets;
+  };
+  counts = no_drops;
+  conflict = None;
+}
+
+-- what most programs want: the usual rules and rates
+abbrev pub usual_guard : IfaceGuard
+usual_guard = record {
+  neighbors = record { interval = 500000; at_once = 8 };
+  discoveries = record { interval = 2000000; at_once = 1 };
+  queries = record { interval = 1000000; at_once = 1 };
+  echo_replies = record { interval = 10000; at_once = 10 };
+  errors = record { interval = 10000; at_once = 10 };
+  resets = record { interval = 10000; at_once = 10 };
+  routers = 60000000;
+  on = 1;
+  own_addresses = 1;
+  loops = 1;
+  fragments = 0;
+}
+
+-- what was dropped and held back, as C reads it
+abbrev pub drops_shown : Host → IfaceDrops
+drops_shown host = record {
+  own_address = host.watch.counts.own_address;
+  own_source = host.watch.counts.own_source;
+  new_neighbor = host.watch.counts.new_neighbor;
+  discovery = host.watch.counts.discovery;
+  query = host.watch.counts.query;
+  router = host.watch.counts.router;
+  fragment = host.watch.counts.fragment;
+  loops = host.watch.counts.loops;
+  echo_reply = host.watch.counts.echo_reply;
+  error = host.watch.counts.error;
+  reset = host.watch.counts.reset;
+}
+
+-- who claimed an own address last, if somebody did
+abbrev pub conflict_of : Host → Option Conflict
+conflict_of host = host.watch.conflict
+
+-- that was written, and nothing changed
+pub record ShowsConflict (hardware : List ℕ) (at : ℤ) (old new : Host) : Type 0 where
+  pub conflict : Conflict
+  pub is_there : conflict_of old ≡ Some conflict
+  pub hardware_is : hardware ≡ conflict.hardware.0
+  pub at_is : at ≡ conflict.at
+  pub same : new ≡ old

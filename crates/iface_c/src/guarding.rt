@@ -1,0 +1,215 @@
+//! The guard in front of a host: how it is set, and what it tells.
+ghost use Rattle.std.specs.Prelude.{◌≡◌, ◌≢◌, None};
+ghost use Rattle.iface_c.specs.Calls.{Did};
+ghost use Rattle.iface_c.specs.Guarding.{ShowsConflict, bucket_in, conflict_of, drops_shown, usual_guard, watch_in};
+ghost use Rattle.iface_c.specs.Handle.{host_in};
+ghost use Rattle.iface_c.specs.Properties.{Shows, lack};
+ghost use Rattle.iface_c.specs.Status.{code_by};
+
+use crate::handle::Iface;
+use crate::status::{NO_HOST, NOT_THERE, OK};
+use guard::{Answers, Counts, Guard, Watch};
+use std::alloc::Global;
+use token_bucket::bucket::Bucket;
+
+/// A rate: one in each interval, and so many at once.
+#[repr(C)]
+#[derive(Drop)]
+pub struct IfaceRate {
+    /// The interval in microseconds; 0 sets no bound.
+    pub interval: u32,
+    /// How many at once.
+    pub at_once: u32,
+}
+
+impl IfaceRate {
+    /// A bucket by this rate, that is full.
+    fn bucket(&self) -> Bucket
+        ensures { result ≡ bucket_in self.now }
+    {
+        Bucket::new(self.interval, self.at_once)
+    }
+}
+
+/// The rules of a guard, each with its switch and its number.
+#[repr(C)]
+#[derive(Drop)]
+pub struct IfaceGuard {
+    /// Messages of neighbours that aren't known.
+    pub neighbors: IfaceRate,
+    /// Packets of neighbours that aren't known, for whose answer the host would have to ask.
+    pub discoveries: IfaceRate,
+    /// Queries of IGMP and MLD.
+    pub queries: IfaceRate,
+    /// Echo replies.
+    pub echo_replies: IfaceRate,
+    /// Errors of either ICMP.
+    pub errors: IfaceRate,
+    /// Resets.
+    pub resets: IfaceRate,
+    /// The time after which another router is heard, in microseconds; 0 sets no bound.
+    pub routers: u32,
+    /// Whether there is a guard at all: 0, or not.
+    pub on: u8,
+    /// Whether what claims an own address is dropped, or comes from one.
+    pub own_addresses: u8,
+    /// Whether datagrams are dropped that could go to and fro for ever.
+    pub loops: u8,
+    /// Whether fragments are dropped.
+    pub fragments: u8,
+}
+
+impl IfaceGuard {
+    /// What most programs want: the rules and rates of [`Watch::new`].
+    pub(crate) fn usual() -> IfaceGuard
+        ensures { result ≡ usual_guard }
+    {
+        IfaceGuard {
+            neighbors: IfaceRate {
+                interval: 500_000,
+                at_once: 8,
+            },
+            discoveries: IfaceRate {
+                interval: 2_000_000,
+                at_once: 1,
+            },
+            queries: IfaceRate {
+                interval: 1_000_000,
+                at_once: 1,
+            },
+            echo_replies: IfaceRate {
+                interval: 10_000,
+                at_once: 10,
+            },
+            errors: IfaceRate {
+                interval: 10_000,
+                at_once: 10,
+            },
+            resets: IfaceRate {
+                interval: 10_000,
+                at_once: 10,
+            },
+            routers: 60_000_000,
+            on: 1,
+            own_addresses: 1,
+            loops: 1,
+            fragments: 0,
+        }
+    }
+
+    /// A guard by these rules, that has noted nothing.
+    pub(crate) fn watch(&self) -> Watch
+        ensures { result ≡ watch_in self.now }
+    {
+        Watch {
+            is_on: self.on != 0,
+            guard: Guard {
+                keeps_own_addresses: self.own_addresses != 0,
+                drops_fragments: self.fragments != 0,
+                drops_loops: self.loops != 0,
+                neighbors: self.neighbors.bucket(),
+                discoveries: self.discoveries.bucket(),
+                queries: self.queries.bucket(),
+                router_time: u64::from(self.routers),
+                asked: None,
+                router: None,
+            },
+            answers: Answers {
+                echo_replies: self.echo_replies.bucket(),
+                errors: self.errors.bucket(),
+                resets: self.resets.bucket(),
+            },
+            counts: Counts::NONE,
+            conflict: None,
+        }
+    }
+}
+
+/// How many frames a guard dropped, by the reason, and how many answers it held back.
+#[repr(C)]
+#[derive(Drop)]
+pub struct IfaceDrops {
+    /// Messages that claim an own address.
+    pub own_address: u64,
+    /// Packets from an own address.
+    pub own_source: u64,
+    /// Messages of neighbours that aren't known.
+    pub new_neighbor: u64,
+    /// Packets for whose answer the host would have to ask.
+    pub discovery: u64,
+    /// Queries of IGMP and MLD.
+    pub query: u64,
+    /// Router advertisements.
+    pub router: u64,
+    /// Fragments.
+    pub fragment: u64,
+    /// Datagrams that could go to and fro for ever.
+    pub loops: u64,
+    /// Echo replies that were held back.
+    pub echo_reply: u64,
+    /// Errors of either ICMP that were held back.
+    pub error: u64,
+    /// Resets that were held back.
+    pub reset: u64,
+}
+
+/// Writes how many frames the guard dropped, by the reason, and how many answers it held back.
+#[unsafe(no_mangle)]
+pub extern "C" fn iface_guard_drops(
+    handle: &mut Iface,
+    alloc: Global,
+    drops: &mut IfaceDrops,
+) -> u32
+    ensures done { Did result (λ old new. Shows drops_shown drops.new old new) handle.old handle.new }
+    ensures code { result ≡ code_by (λ _. None) (host_in handle.old) }
+    ensures kept { result ≢ 0 → drops.new ≡ drops.old }
+{
+    let Some(host) = handle.take(alloc) else {
+        return NO_HOST;
+    };
+    let counts = host.drops();
+    handle.put(host);
+    *drops = IfaceDrops {
+        own_address: counts.own_address,
+        own_source: counts.own_source,
+        new_neighbor: counts.new_neighbor,
+        discovery: counts.discovery,
+        query: counts.query,
+        router: counts.router,
+        fragment: counts.fragment,
+        loops: counts.loops,
+        echo_reply: counts.echo_reply,
+        error: counts.error,
+        reset: counts.reset,
+    };
+    OK
+}
+
+/// Writes who claimed an own address last, and when.
+#[unsafe(no_mangle)]
+pub extern "C" fn iface_guard_conflict(
+    handle: &mut Iface,
+    alloc: Global,
+    hardware_address: &mut [u8; 6],
+    at: &mut i64,
+) -> u32
+    ensures done { Did result
+        (λ old new. ShowsConflict hardware_address.new at.new old new) handle.old handle.new }
+    ensures code { result ≡ code_by (lack conflict_of) (host_in handle.old) }
+    ensures kept { result ≢ 0 → (hardware_address.new ≡ hardware_address.old) × (at.new ≡ at.old) }
+{
+    let Some(host) = handle.take(alloc) else {
+        return NO_HOST;
+    };
+    let last = host.conflict();
+    handle.put(host);
+    match last {
+        Some(conflict) => {
+            let octets = conflict.hardware.0;
+            *hardware_address = octets;
+            *at = conflict.at.total_micros();
+            OK
+        }
+        None => NOT_THERE,
+    }
+}

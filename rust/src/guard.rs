@@ -1,0 +1,165 @@
+//! The guard in front of a host: what it drops before the host sees it.
+use crate::sys;
+use crate::time::{Duration, Instant};
+use crate::wire::EthernetAddress;
+
+/// A rate: one in each interval, and so many at once.
+#[derive(Clone, Copy, Debug, PartialEq, Eq)]
+pub struct Rate {
+    /// The interval: whole microseconds, at most 4,294 seconds. Zero sets no bound.
+    pub interval: Duration,
+    /// How many at once.
+    pub at_once: u32,
+}
+
+impl Rate {
+    fn to_c(rate: Option<Rate>) -> sys::iface_rate {
+        match rate {
+            Some(rate) => sys::iface_rate { interval: micros(rate.interval), at_once: rate.at_once },
+            None => sys::iface_rate { interval: 0, at_once: 0 },
+        }
+    }
+
+    fn from_c(rate: sys::iface_rate) -> Option<Rate> {
+        (rate.interval != 0)
+            .then(|| Rate { interval: Duration::from_micros(u64::from(rate.interval)), at_once: rate.at_once })
+    }
+}
+
+/// A time in microseconds, and the longest one that has 32 bits where it is longer.
+fn micros(time: Duration) -> u32 {
+    u32::try_from(time.total_micros()).unwrap_or(u32::MAX)
+}
+
+/// The guard in front of a host on Ethernet: what it drops before the host sees it, and which answers to strangers it holds
+/// back. [`Settings::new`](crate::Settings::new) has the usual one. Each rule can be off. smoltcp has none such.
+///
+/// A neighbour is expected if its hardware address is known, or if the host asked for it last, within three seconds.
+#[derive(Clone, Copy, Debug, PartialEq, Eq)]
+#[non_exhaustive]
+pub struct Guard {
+    /// Whether what claims an own address is dropped (RFC 5227 2.4), or comes from one.
+    pub own_addresses: bool,
+    /// Whether datagrams of UDP are dropped that come from port 7, 13, 17 or 19, and go to a port below 1024.
+    pub loops: bool,
+    /// Whether fragments are dropped: not by the usual guard.
+    pub fragments: bool,
+    /// ARP packets and neighbour messages of those that aren't expected.
+    pub neighbors: Option<Rate>,
+    /// Packets to own addresses, other than of UDP and TCP, from those of own networks that aren't known.
+    pub discoveries: Option<Rate>,
+    /// Queries of IGMP and MLD.
+    pub queries: Option<Rate>,
+    /// For so long after a router was heard as another one than before, no other is.
+    pub routers: Option<Duration>,
+    /// Echo replies of either ICMP.
+    pub echo_replies: Option<Rate>,
+    /// Errors of either ICMP (RFC 4443 2.4).
+    pub errors: Option<Rate>,
+    /// Resets of TCP.
+    pub resets: Option<Rate>,
+}
+
+impl Guard {
+    /// What a configuration has in the place of a guard, where there is none.
+    pub(crate) const OFF: sys::iface_guard = sys::iface_guard {
+        neighbors: sys::iface_rate { interval: 0, at_once: 0 },
+        discoveries: sys::iface_rate { interval: 0, at_once: 0 },
+        queries: sys::iface_rate { interval: 0, at_once: 0 },
+        echo_replies: sys::iface_rate { interval: 0, at_once: 0 },
+        errors: sys::iface_rate { interval: 0, at_once: 0 },
+        resets: sys::iface_rate { interval: 0, at_once: 0 },
+        routers: 0,
+        on: 0,
+        own_addresses: 0,
+        loops: 0,
+        fragments: 0,
+    };
+
+    pub(crate) fn to_c(self) -> sys::iface_guard {
+        sys::iface_guard {
+            neighbors: Rate::to_c(self.neighbors),
+            discoveries: Rate::to_c(self.discoveries),
+            queries: Rate::to_c(self.queries),
+            echo_replies: Rate::to_c(self.echo_replies),
+            errors: Rate::to_c(self.errors),
+            resets: Rate::to_c(self.resets),
+            routers: self.routers.map_or(0, micros),
+            on: 1,
+            own_addresses: u8::from(self.own_addresses),
+            loops: u8::from(self.loops),
+            fragments: u8::from(self.fragments),
+        }
+    }
+
+    pub(crate) fn from_c(guard: sys::iface_guard) -> Option<Guard> {
+        (guard.on != 0).then(|| Guard {
+            own_addresses: guard.own_addresses != 0,
+            loops: guard.loops != 0,
+            fragments: guard.fragments != 0,
+            neighbors: Rate::from_c(guard.neighbors),
+            discoveries: Rate::from_c(guard.discoveries),
+            queries: Rate::from_c(guard.queries),
+            routers: (guard.routers != 0).then(|| Duration::from_micros(u64::from(guard.routers))),
+            echo_replies: Rate::from_c(guard.echo_replies),
+            errors: Rate::from_c(guard.errors),
+            resets: Rate::from_c(guard.resets),
+        })
+    }
+}
+
+/// How many frames a guard dropped, by the reason, and how many answers it held back. What is dropped isn't counted among
+/// the frames that the host took. A number stays at the greatest one.
+#[derive(Clone, Copy, Debug, Default, PartialEq, Eq)]
+#[non_exhaustive]
+pub struct Drops {
+    /// Messages that claim an own address.
+    pub own_address: u64,
+    /// Packets from an own address.
+    pub own_source: u64,
+    /// Messages of neighbours that aren't expected.
+    pub new_neighbor: u64,
+    /// Packets for whose answer the host would have to ask.
+    pub discovery: u64,
+    /// Queries of IGMP and MLD.
+    pub query: u64,
+    /// Advertisements of other routers.
+    pub router: u64,
+    /// Fragments.
+    pub fragment: u64,
+    /// Datagrams that could go to and fro for ever.
+    pub loops: u64,
+    /// Echo replies that were held back.
+    pub echo_reply: u64,
+    /// Errors of either ICMP that were held back.
+    pub error: u64,
+    /// Resets that were held back.
+    pub reset: u64,
+}
+
+impl Drops {
+    pub(crate) fn from_c(drops: sys::iface_drops) -> Drops {
+        Drops {
+            own_address: drops.own_address,
+            own_source: drops.own_source,
+            new_neighbor: drops.new_neighbor,
+            discovery: drops.discovery,
+            query: drops.query,
+            router: drops.router,
+            fragment: drops.fragment,
+            loops: drops.loops,
+            echo_reply: drops.echo_reply,
+            error: drops.error,
+            reset: drops.reset,
+        }
+    }
+}
+
+/// Who claimed an own address (RFC 5227 2.4).
+#[derive(Clone, Copy, Debug, PartialEq, Eq)]
+pub struct Conflict {
+    /// The hardware address that the frame came from.
+    pub hardware_addr: EthernetAddress,
+    /// The instant at which it came.
+    pub at: Instant,
+}
