@@ -15,7 +15,7 @@
  *    overlaps what another pointer of the same call points to, the handle included.
  *  - malloc, realloc and free are of one allocator, whose blocks are aligned as the C standard says, and no call is
  *    made where these may not be called, as in a signal handler or in the forked child of a process with threads.
- *  - There is room on the stack. On x86-64 iface_new takes at most 12,000 octets of it, iface_next 6,200 and any other
+ *  - There is room on the stack. On x86-64 iface_new takes at most 12,700 octets of it, iface_next 6,200 and any other
  *    call 5,400; beside that comes what malloc and memcpy take. docs/PERFORMANCE.md lists them.
  */
 #ifndef IFACE_H
