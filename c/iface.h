@@ -152,7 +152,7 @@ struct iface_guard {
     struct iface_rate discoveries;  /* packets to own addresses, other than of UDP and TCP, from those of own networks
                                        that aren't known: 2,000,000 and 1 */
     struct iface_rate queries;      /* queries of IGMP and MLD: 1,000,000 and 1 */
-    struct iface_rate echo_replies; /* echo replies of either ICMP: 10,000 and 10 */
+    struct iface_rate echo_replies; /* echo replies of either ICMP: 0 and 0 */
     struct iface_rate errors;       /* errors of either ICMP (RFC 4443, 2.4): 10,000 and 10 */
     struct iface_rate resets;       /* resets of TCP: 10,000 and 10 */
     uint32_t routers;               /* for so many microseconds after a router was heard as another one than before, no other
