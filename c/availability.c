@@ -10,7 +10,7 @@
  *  - Pings of 3,000 octets, three at a time, and under half a percent of loss.
  *  - Stray fragments: packets in fragments are put together again after the time that fragments wait.
  *
- * All these are without a guard. Then come attacks without one and with the usual one, as docs/SECURITY.md has them.
+ * All these are without a guard. Then come attacks without one and with one, as docs/SECURITY.md has them.
  */
 #include "iface.h"
 
@@ -50,7 +50,7 @@ static int is_lost(void) {
     return state % 10000 < loss;
 }
 
-/* Whether hosts have the usual guard. */
+/* Whether hosts have a guard: the usual one, with a rate of echo replies beside it. */
 static uint8_t guarded;
 
 /* A host at 192.168.69.`last`, whose frames have at most so many octets. */
@@ -58,7 +58,7 @@ static void make(iface *host, uint8_t last, uint32_t frame_len) {
     struct iface_config config;
     struct iface_address own = v4(last);
     iface_config_init(&config);
-    config.guard.on = guarded, config.seed = last, config.frame_len = frame_len, config.hardware_address[0] = 2, config.hardware_address[5] = last;
+    config.guard.on = guarded, config.guard.echo_replies = (struct iface_rate){10000, 10}, config.seed = last, config.frame_len = frame_len, config.hardware_address[0] = 2, config.hardware_address[5] = last;
     must("host", iface_new(host, &config));
     must("address", iface_add_address(host, &own, 24));
 }

@@ -15,7 +15,7 @@
  *    overlaps what another pointer of the same call points to, the handle included.
  *  - malloc, realloc and free are of one allocator, whose blocks are aligned as the C standard says, and no call is
  *    made where these may not be called, as in a signal handler or in the forked child of a process with threads.
- *  - There is room on the stack. On x86-64 iface_new takes at most 12,000 octets of it, iface_next 6,200 and any other
+ *  - There is room on the stack. On x86-64 iface_new takes at most 12,700 octets of it, iface_next 6,200 and any other
  *    call 5,400; beside that comes what malloc and memcpy take. docs/PERFORMANCE.md lists them.
  */
 #ifndef IFACE_H
@@ -152,7 +152,7 @@ struct iface_guard {
     struct iface_rate discoveries;  /* packets to own addresses, other than of UDP and TCP, from those of own networks
                                        that aren't known: 2,000,000 and 1 */
     struct iface_rate queries;      /* queries of IGMP and MLD: 1,000,000 and 1 */
-    struct iface_rate echo_replies; /* echo replies of either ICMP: 10,000 and 10 */
+    struct iface_rate echo_replies; /* echo replies of either ICMP: 0 and 0 */
     struct iface_rate errors;       /* errors of either ICMP (RFC 4443, 2.4): 10,000 and 10 */
     struct iface_rate resets;       /* resets of TCP: 10,000 and 10 */
     uint32_t routers;               /* for so many microseconds after a router was heard as another one than before, no other

@@ -52,7 +52,7 @@ pub struct Guard {
     pub queries: Option<Rate>,
     /// For so long after a router was heard as another one than before, no other is.
     pub routers: Option<Duration>,
-    /// Echo replies of either ICMP.
+    /// Echo replies of either ICMP: without a rate by the usual guard.
     pub echo_replies: Option<Rate>,
     /// Errors of either ICMP (RFC 4443 2.4).
     pub errors: Option<Rate>,

@@ -204,7 +204,7 @@ pub struct iface_guard {
     pub discoveries: iface_rate,
     /// queries of IGMP and MLD: 1,000,000 and 1
     pub queries: iface_rate,
-    /// echo replies of either ICMP: 10,000 and 10
+    /// echo replies of either ICMP: 0 and 0
     pub echo_replies: iface_rate,
     /// errors of either ICMP (RFC 4443, 2.4): 10,000 and 10
     pub errors: iface_rate,

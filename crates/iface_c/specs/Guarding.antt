@@ -38,13 +38,13 @@ watch_in c = record {
   conflict = None;
 }
 
--- what most programs want: the usual rules and rates
+-- what most programs want: the usual rules and rates, but none of echo replies
 abbrev pub usual_guard : IfaceGuard
 usual_guard = record {
   neighbors = record { interval = 500000; at_once = 8 };
   discoveries = record { interval = 2000000; at_once = 1 };
   queries = record { interval = 1000000; at_once = 1 };
-  echo_replies = record { interval = 10000; at_once = 10 };
+  echo_replies = record { interval = 0; at_once = 0 };
   errors = record { interval = 10000; at_once = 10 };
   resets = record { interval = 10000; at_once = 10 };
   routers = 60000000;

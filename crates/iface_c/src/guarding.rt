@@ -60,7 +60,7 @@ pub struct IfaceGuard {
 }
 
 impl IfaceGuard {
-    /// What most programs want: the rules and rates of [`Watch::new`].
+    /// What most programs want: the rules and rates of [`Watch::new`], but no rate of echo replies.
     pub(crate) fn usual() -> IfaceGuard
         ensures { result ≡ usual_guard }
     {
@@ -78,8 +78,8 @@ impl IfaceGuard {
                 at_once: 1,
             },
             echo_replies: IfaceRate {
-                interval: 10_000,
-                at_once: 10,
+                interval: 0,
+                at_once: 0,
             },
             errors: IfaceRate {
                 interval: 10_000,
