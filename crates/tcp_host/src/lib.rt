@@ -5,3 +5,5 @@ pub mod alarms;
 pub mod backlog;
 pub mod challenges;
 pub mod iss;
+pub mod sip_hash;
+pub mod table;
