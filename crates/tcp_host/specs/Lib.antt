@@ -6,3 +6,4 @@ pub mod SipHash
 pub mod Homes
 pub mod Table
 pub mod Cells
+pub mod Listener

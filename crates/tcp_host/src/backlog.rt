@@ -64,7 +64,7 @@ impl Backlog {
 }
 
 // The first index at which a place stands.
-fn index_of(places: &[usize], place: usize) -> Option<usize>
+pub(crate) fn index_of(places: &[usize], place: usize) -> Option<usize>
     ensures some { IfSome result (λ i. spec.IsFirst place i places.now) }
     ensures none { result ≡ None → spec.IsNowhere place places.now }
 {
