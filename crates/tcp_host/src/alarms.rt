@@ -45,6 +45,19 @@ impl Alarms {
         })
     }
 
+    /// The same instant at so many places, at least one and at most 2^32. It fails exactly if the memory is refused.
+    #[tactic(auto, using(crate::proofs::AlarmLemmas::all_same))]
+    pub fn filled(alloc: Global, places: usize, instant: u64) -> Result<Alarms, AllocError>
+        requires some { 1 ≤ places }
+        requires few { places ≤ 2 ^ 32 }
+        ensures { IfOk result (λ a. a ≡ replicate places instant) }
+    {
+        Ok(Alarms {
+            nodes: vec![in alloc; instant; 2 * places]?,
+            places,
+        })
+    }
+
     /// The least instant.
     #[tactic(auto, using(crate::proofs::AlarmLemmas::least_is))]
     pub fn least(&self) -> u64

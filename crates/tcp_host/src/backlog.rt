@@ -52,6 +52,25 @@ impl Backlog {
         oldest
     }
 
+    /// The place of the oldest one.
+    pub fn oldest(&self) -> Option<usize>
+        ensures { result ≡ spec.first_of self.now.places }
+    {
+        self.places.first().copied()
+    }
+
+    /// The oldest one is half-open no more, and its place is returned.
+    pub fn evict(&mut self) -> Option<usize>
+        ensures first { result ≡ spec.first_of self.old.places }
+        ensures evicted { self.new ≡ spec.after_evicting self.old }
+    {
+        if self.places.is_empty() {
+            return None;
+        }
+        let oldest = self.places.remove(0);
+        Some(oldest)
+    }
+
     /// A place is half-open no more. Nothing changes if it isn't half-open.
     #[tactic(auto, using(crate::proofs::BacklogLemmas::removed, crate::proofs::BacklogLemmas::nowhere))]
     pub fn remove(&mut self, place: usize)

@@ -28,7 +28,7 @@ impl Model for Listener {
 
     ghost view = { λ l. record { port = l.port; address = l.address; half_open = l.half_open; ready = l.ready.items } };
 
-    ghost invariant = { λ l. (l.half_open.most ≡ l.most) × (length l.ready.items ≤ l.most) × (l.most ≤ vec_capacity l.ready) };
+    ghost invariant = { λ l. (l.half_open.most ≡ l.most) × (length l.ready.items ≤ l.most) × (l.most ≤ vec_capacity l.ready) × (1 ≤ l.most) };
 }
 
 impl Listener {
@@ -40,6 +40,7 @@ impl Listener {
         address: Option<IpAddress>,
         most: usize,
     ) -> Result<Listener, AllocError>
+        requires { 1 ≤ most }
         ensures { IfOk result (λ l. l ≡ record { port = port; address = address; half_open = record { places = []; most = most }; ready = [] }) }
     {
         Ok(Listener {
@@ -79,11 +80,25 @@ impl Listener {
     /// A SYN begins a connection at a place. If as many are half-open as may be, the oldest one's place is returned, which is
     /// half-open no more.
     pub fn begin(&mut self, place: usize) -> Option<usize>
-        requires { 1 ≤ self.old.half_open.most }
         ensures evicted { result ≡ backlog.evicted self.old.half_open }
         ensures begun { self.new ≡ spec.after_syn place self.old }
     {
         self.half_open.add(place)
+    }
+
+    /// The place of the connection that has been half-open for longest.
+    pub fn oldest(&self) -> Option<usize>
+        ensures { result ≡ backlog.first_of self.now.half_open.places }
+    {
+        self.half_open.oldest()
+    }
+
+    /// The place of the connection that has been half-open for longest, which is it no more.
+    pub fn evict(&mut self) -> Option<usize>
+        ensures first { result ≡ backlog.first_of self.old.half_open.places }
+        ensures evicted { self.new ≡ record self.old { half_open = backlog.after_evicting self.old.half_open } }
+    {
+        self.half_open.evict()
     }
 
     /// The handshake of the connection at a place is complete: it waits for the program. Returns false, if there are as many
