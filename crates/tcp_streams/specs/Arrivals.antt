@@ -1,10 +1,11 @@
 -- A segment arrives at a host (RFC 9293 3.10.7): to which connection it goes, or which it begins, or what answers it.
-use Rattle.std.specs.Prelude.{◌≡◌, ◌<◌, ℕ, nat_lt, true, false, List, [], length, Option, Some, None, is_some, if◌then◌else◌}
+use Rattle.std.specs.Prelude.{◌≡◌, ◌<◌, ℕ, nat_lt, true, false, List, [], length, Option, Some, None, is_some, if◌then◌else◌, Bool, ◌&&◌}
 use Rattle.token_bucket.specs.Bucket.{has_token, after_take}
 use Rattle.tcp_machine.specs.Opening.{Arrives, accepted}
 use Rattle.tcp_connection.specs.declared.segment.Segment.{Segment}
 use Rattle.tcp_connection.specs.Segments.{segment_of}
 use Rattle.tcp_host.specs.declared.iss.Endpoints.{Endpoints}
+use Rattle.ip_address.specs.Ip.{is_unicast}
 use Rattle.tcp_host.specs.Iss.{iss}
 use Rattle.tcp_host.specs.Listener as listener
 use Rattle.tcp_host.specs.Backlog.{first_of, after_evicting, evicted}
@@ -73,14 +74,19 @@ pub data Begins (index now : ℕ) (e : Endpoints) (s : Segment) (old new : Host)
       ((place : ℕ) → oldest_in index old ≡ Some place →
       new ≡ accepted_at place index now e s (counted place index (vacated place (without_oldest index old)))) → Begins index now e s old new
 
+-- both ends are one host's: nothing else begins a connection, and nothing else is answered (RFC 9293 3.9.2.3, RFC 1122 4.2.3.10)
+abbrev pub is_proper : Endpoints → Bool
+is_proper e = is_unicast e.local_addr && is_unicast e.remote_addr
+
 -- where a segment between these ends goes
 pub data Receives (now : ℕ) (e : Endpoints) (s : Segment) (octets : List ℕ) (old : Host) (answer : Option Reset) (new : Host) : Type 0 where
   Known : (place : ℕ) → IsPlaceOf e old.ends place → answer ≡ None → Delivers place now e s octets old new → Receives now e s octets old answer new
-  Begun : IsNowhere e old.ends → (index : ℕ) → IsListenerFor e old index → begins s ≡ true → answer ≡ None →
+  Improper : IsNowhere e old.ends → is_proper e ≡ false → answer ≡ None → new ≡ old → Receives now e s octets old answer new
+  Begun : IsNowhere e old.ends → is_proper e ≡ true → (index : ℕ) → IsListenerFor e old index → begins s ≡ true → answer ≡ None →
       Begins index now e s old new → Receives now e s octets old answer new
-  Unheeded : IsNowhere e old.ends → (index : ℕ) → IsListenerFor e old index → begins s ≡ false → is_some s.ack ≡ false → answer ≡ None →
+  Unheeded : IsNowhere e old.ends → is_proper e ≡ true → (index : ℕ) → IsListenerFor e old index → begins s ≡ false → is_some s.ack ≡ false → answer ≡ None →
       new ≡ old → Receives now e s octets old answer new
-  Answered : IsNowhere e old.ends → (index : ℕ) → IsListenerFor e old index → is_some s.ack ≡ true →
+  Answered : IsNowhere e old.ends → is_proper e ≡ true → (index : ℕ) → IsListenerFor e old index → is_some s.ack ≡ true →
       (answer, new) ≡ refused now (reset_for s (length octets)) old → Receives now e s octets old answer new
-  Nobody : IsNowhere e old.ends → HasNoListener e old → (answer, new) ≡ refused now (reset_for s (length octets)) old →
+  Nobody : IsNowhere e old.ends → is_proper e ≡ true → HasNoListener e old → (answer, new) ≡ refused now (reset_for s (length octets)) old →
       Receives now e s octets old answer new

@@ -1,5 +1,5 @@
 -- What a program does with its connections (RFC 9293 3.10.1 to 3.10.5).
-use Rattle.std.specs.Prelude.{ℕ, ◌+◌, ◌%◌, ◌^◌, nat_lt, ◌==◌, ◌&&◌, Bool, true, false, [], ◌∷◌, ◌++◌, length, Option, Some, None, if◌then◌else◌}
+use Rattle.std.specs.Prelude.{ℕ, ◌+◌, ◌%◌, ◌^◌, nat_lt, ◌==◌, ◌&&◌, Bool, true, false, [], ◌∷◌, ◌++◌, length, Option, Some, None, if◌then◌else◌, not}
 use Rattle.tcp_machine.specs.Connection.{Connection}
 use Rattle.tcp_machine.specs.Opening.{opened}
 use Rattle.tcp_machine.specs.Calls.{after_abort}
@@ -10,6 +10,7 @@ use Rattle.tcp_host.specs.Iss.{iss}
 use Rattle.tcp_streams.specs.declared.slot.Owner.{Owner}
 use Rattle.tcp_streams.specs.declared.slot.Owner.TheVariants.{Program, Itself}
 use Rattle.tcp_streams.specs.declared.calls.Handle.{Handle}
+use Rattle.tcp_streams.specs.Arrivals.{is_proper}
 use Rattle.tcp_streams.specs.Host.{Host, slot_at, connection_at, with_slot, with_connection, with_owner, with_alarm, enrolled, link_mss, settings_for, listener_at, with_listener}
 use Rattle.ip_address.specs.declared.ip.IpAddress.{IpAddress}
 use Rattle.tcp_host.specs.Backlog.{first_of}
@@ -75,3 +76,7 @@ abbrev pub listening : ℕ → Option IpAddress → ℕ → Host → Host
 listening port address most h = record h {
   listeners = h.listeners ++ (record { port = port; address = address; half_open = record { places = []; most = most }; ready = [] }) ∷ [];
 }
+
+-- a program may ask for a connection between two hosts, at ports that there are
+abbrev pub is_addressable : Endpoints → Bool
+is_addressable e = is_proper e && not (e.local_port == 0) && not (e.remote_port == 0)

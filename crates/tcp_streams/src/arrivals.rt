@@ -1,5 +1,5 @@
 //! A segment arrives at a host (RFC 9293 3.10.7).
-ghost use Rattle.std.specs.Prelude.{◌≡◌, ◌≤◌, ◌<◌, ◌^◌, ℕ, length, Some, None, IfSome, IsNone};
+ghost use Rattle.std.specs.Prelude.{◌≡◌, ◌≤◌, ◌<◌, ◌^◌, ℕ, length, Some, None, IfSome, IsNone, true};
 ghost use Rattle.tcp_streams.specs.Arrivals as spec;
 ghost use Rattle.tcp_streams.specs.Resets.{reset_for};
 ghost use Rattle.tcp_streams.specs.Host.{vacated, listener_at};
@@ -32,7 +32,8 @@ impl TcpHost {
                 self.deliver(place, now, endpoints, segment, octets);
                 None
             }
-            None => self.receive_new(now, endpoints, segment, octets),
+            None if is_proper(endpoints) => self.receive_new(now, endpoints, segment, octets),
+            None => None,
         }
     }
 
@@ -46,6 +47,7 @@ impl TcpHost {
     ) -> Option<Reset>
         requires few { length octets.now < 2 ^ 32 }
         requires new { IsNowhere endpoints.now self.old.ends }
+        requires proper { spec.is_proper endpoints.now ≡ true }
         ensures { spec.Receives now endpoints.now segment.now octets.now self.old result self.new }
     {
         match self.listener_for(endpoints) {
@@ -232,4 +234,11 @@ impl TcpHost {
             }
         }
     }
+}
+
+/// Whether both ends are one host's: neither a group's, nor broadcast or unspecified.
+pub(crate) fn is_proper(endpoints: &Endpoints) -> bool
+    ensures { result ≡ spec.is_proper endpoints.now }
+{
+    endpoints.local_addr.is_unicast() && endpoints.remote_addr.is_unicast()
 }

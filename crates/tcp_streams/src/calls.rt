@@ -4,10 +4,11 @@ ghost use Rattle.tcp_machine.specs.Calls as calls;
 ghost use Rattle.tcp_host.specs.Table.{IsNowhere, IsPlaceOf};
 ghost use Rattle.tcp_host.specs.Backlog.{first_of};
 ghost use Rattle.tcp_host.specs.Listener.{after_accepting};
-ghost use Rattle.tcp_streams.specs.declared.calls.ConnectError.TheVariants.{InUse, NoPlace};
+ghost use Rattle.tcp_streams.specs.declared.calls.ConnectError.TheVariants.{Unaddressable, InUse, NoPlace};
 ghost use Rattle.tcp_streams.specs.Host.{connection_at, slot_at, listener_at, with_listener, IsFreePlace};
 ghost use Rattle.tcp_streams.specs.Handles as spec;
 
+use crate::arrivals::is_proper;
 use crate::host::TcpHost;
 use crate::slot::Owner;
 use ip_address::IpAddress;
@@ -27,6 +28,8 @@ pub struct Handle {
 /// Why a connection isn't opened.
 #[derive(Clone, Copy, Debug, PartialEq, Eq)]
 pub enum ConnectError {
+    /// An end isn't a host's, or a port is 0.
+    Unaddressable,
     /// A connection has these ends.
     InUse,
     /// Each place has a connection.
@@ -240,16 +243,21 @@ impl TcpHost {
         self.alarms.set(place, 0);
     }
 
-    /// Opens a connection between two ends (RFC 9293 3.10.1, active). It fails, and nothing changes, if a connection has these
-    /// ends, or no place is free.
+    /// Opens a connection between two ends (RFC 9293 3.10.1, active). It fails, and nothing changes, if an end isn't a host's
+    /// or a port is 0, if a connection has these ends, or if no place is free.
     pub fn connect(&mut self, now: u64, endpoints: &Endpoints) -> Result<Handle, ConnectError>
         ensures unchanged { IsErr result → self.new ≡ self.old }
+        ensures unaddressable { result ≡ Err Unaddressable → spec.is_addressable endpoints.now ≡ false }
+        ensures addressable { IfOk result (λ _. spec.is_addressable endpoints.now ≡ true) }
         ensures in_use { result ≡ Err InUse → (place : ℕ) × IsPlaceOf endpoints.now self.old.ends place }
         ensures full { result ≡ Err NoPlace → IsFreePlace self.old None }
         ensures opened { IfOk result (λ handle. self.new ≡ spec.opened_at handle.place now endpoints.now self.old) }
         ensures free { IfOk result (λ handle. IsFreePlace self.old (Some handle.place)) }
         ensures named { IfOk result (λ handle. spec.is_named handle self.new ≡ true) }
     {
+        if !is_addressable(endpoints) {
+            return Err(ConnectError::Unaddressable);
+        }
         if let Some(_place) = self.find(endpoints) {
             return Err(ConnectError::InUse);
         }
@@ -364,4 +372,11 @@ fn ends_by_itself(state: State) -> bool
         | State::FinWait2
         | State::CloseWait => false,
     }
+}
+
+// Whether a program may ask for a connection between two ends.
+fn is_addressable(endpoints: &Endpoints) -> bool
+    ensures { result ≡ spec.is_addressable endpoints.now }
+{
+    is_proper(endpoints) && endpoints.local_port != 0 && endpoints.remote_port != 0
 }
