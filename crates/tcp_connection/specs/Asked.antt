@@ -1,8 +1,9 @@
 -- What a host asks of a connection, besides its events.
-use Rattle.std.specs.Prelude.{ℕ, Bool, nat_lt, ◌&&◌, ◌||◌, length, is_none}
+use Rattle.std.specs.Prelude.{ℕ, Bool, nat_lt, ◌&&◌, ◌||◌, length, is_none, Option, Some, None, if◌then◌else◌}
 use Rattle.tcp_machine.specs.Connection.{Connection}
 use Rattle.tcp_machine.specs.States.{may_write, takes_octets}
 use Rattle.tcp_machine.specs.Calls.{taken, readable}
+use Rattle.tcp_machine.specs.Outgoing.{is_syn_sent}
 use Rattle.tcp_machine.specs.Opening.{opened}
 use Rattle.tcp_machine.specs.declared.settings.Settings.{Settings}
 use Rattle.tcp_machine.specs.declared.state.State.TheVariants.{Closed}
@@ -25,3 +26,8 @@ can_recv c = nat_lt 0 (length (readable c))
 -- there is one, or one may still come
 abbrev pub may_recv : Connection → Bool
 may_recv c = takes_octets c.state || can_recv c
+
+-- the scale that the own SYN offers: one that answers a SYN only if that offered one, as far as either side scales its windows
+abbrev pub offered_scale : Connection → Option ℕ
+offered_scale c =
+    if is_syn_sent c.state || nat_lt 0 c.transmission.scale || nat_lt 0 c.reception.scale then Some c.settings.own_scale else None

@@ -51,6 +51,19 @@ impl Connection {
         !self.reception.readable().is_empty()
     }
 
+    /// The window scale that the own SYN offers, if it offers one: a SYN that answers one does only if that did (RFC 7323 2.2).
+    /// Where neither side scales its windows it needn't.
+    pub fn offered_scale(&self) -> Option<u8>
+        ensures { result ≡ asked.offered_scale self.now }
+    {
+        let is_first = matches!(self.state, State::SynSent);
+        if is_first || self.transmission.scale() > 0 || self.reception.scale() > 0 {
+            Some(self.settings.own_scale)
+        } else {
+            None
+        }
+    }
+
     /// How many octets are written and not acknowledged.
     pub fn send_queue(&self) -> usize
         ensures { result ≡ length self.now.transmission.sender.ring }

@@ -1,3 +1,5 @@
 pub mod AlarmLemmas
 pub mod ChallengeLemmas
 pub mod BacklogLemmas
+pub mod SipHashLemmas
+pub mod TableLemmas

@@ -16,3 +16,9 @@ IsTournament places nodes = (node : ℕ) → 1 ≤ node → node < places → Is
 -- it is but for one node
 abbrev pub IsTournamentBut : ℕ → ℕ → List ℕ → Type 0
 IsTournamentBut places other nodes = (node : ℕ) → 1 ≤ node → node < places → node ≢ other → IsLesser node nodes
+
+-- the one of the two nodes below another that has the lesser instant
+pub record IsLesserChild (node : ℕ) (nodes : List ℕ) (child : ℕ) : Type 0 where
+  pub from : 2 * node ≤ child
+  pub to : child ≤ 2 * node + 1
+  pub lesser : get_or nodes child 0 ≡ min (get_or nodes (2 * node) 0) (get_or nodes (2 * node + 1) 0)

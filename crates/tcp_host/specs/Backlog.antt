@@ -18,6 +18,10 @@ abbrev pub after_adding : ℕ → Waiting → Waiting
 after_adding place w =
     record w { places = (if nat_lt (length w.places) w.most then w.places else drop 1 w.places) ++ place ∷ [] }
 
+-- the oldest one is half-open no more
+abbrev pub after_evicting : Waiting → Waiting
+after_evicting w = record w { places = drop 1 w.places }
+
 -- a place is half-open no more
 abbrev pub without : ℕ → List ℕ → List ℕ
 without place [] = []

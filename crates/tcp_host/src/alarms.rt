@@ -45,12 +45,48 @@ impl Alarms {
         })
     }
 
+    /// The same instant at so many places, at least one and at most 2^32. It fails exactly if the memory is refused.
+    #[tactic(auto, using(crate::proofs::AlarmLemmas::all_same))]
+    pub fn filled(alloc: Global, places: usize, instant: u64) -> Result<Alarms, AllocError>
+        requires some { 1 ≤ places }
+        requires few { places ≤ 2 ^ 32 }
+        ensures { IfOk result (λ a. a ≡ replicate places instant) }
+    {
+        Ok(Alarms {
+            nodes: vec![in alloc; instant; 2 * places]?,
+            places,
+        })
+    }
+
     /// The least instant.
     #[tactic(auto, using(crate::proofs::AlarmLemmas::least_is))]
     pub fn least(&self) -> u64
         ensures { spec.IsLeast self.now result }
     {
         self.nodes[1]
+    }
+
+    /// How many places there are.
+    pub fn places(&self) -> usize
+        ensures { result ≡ length self.now }
+    {
+        self.places
+    }
+
+    /// The instant of a place.
+    pub fn get(&self, place: usize) -> u64
+        requires { place < length self.now }
+        ensures { result ≡ slice_index self.now place }
+    {
+        self.nodes[self.places + place]
+    }
+
+    /// A place with the least instant.
+    pub fn first(&self) -> usize
+        ensures within { result < length self.now }
+        ensures least { spec.IsLeast self.now (slice_index self.now result) }
+    {
+        leaf_below(&self.nodes, self.places) - self.places
     }
 
     /// Sets the instant of a place.
@@ -61,6 +97,38 @@ impl Alarms {
         let node = self.places + place;
         self.nodes[node] = instant;
         settle(&mut self.nodes, self.places, node);
+    }
+}
+
+// The node in the second half that has the least instant.
+fn leaf_below(nodes: &[u64], places: usize) -> usize
+    requires len { length nodes.now ≡ places + places }
+    requires some { 1 ≤ places }
+    requires few { places ≤ 2 ^ 32 }
+    requires lesser { spec.IsTournament places nodes.now }
+    ensures from { places ≤ result }
+    ensures within { result < places + places }
+    ensures least { slice_index nodes.now result ≡ slice_index nodes.now 1 }
+{
+    let mut node = 1;
+    while node < places {
+        node = lesser_child(nodes, node);
+    }
+    node
+}
+
+// Which of the two nodes below one has the lesser instant.
+fn lesser_child(nodes: &[u64], node: usize) -> usize
+    requires some { 1 ≤ node }
+    requires few { node ≤ 2 ^ 32 }
+    requires within { node + node + 1 < length nodes.now }
+    ensures { spec.IsLesserChild node nodes.now result }
+{
+    let left = 2 * node;
+    if nodes[left] <= nodes[left + 1] {
+        left
+    } else {
+        left + 1
     }
 }
 

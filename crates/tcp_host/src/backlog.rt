@@ -52,6 +52,25 @@ impl Backlog {
         oldest
     }
 
+    /// The place of the oldest one.
+    pub fn oldest(&self) -> Option<usize>
+        ensures { result ≡ spec.first_of self.now.places }
+    {
+        self.places.first().copied()
+    }
+
+    /// The oldest one is half-open no more, and its place is returned.
+    pub fn evict(&mut self) -> Option<usize>
+        ensures first { result ≡ spec.first_of self.old.places }
+        ensures evicted { self.new ≡ spec.after_evicting self.old }
+    {
+        if self.places.is_empty() {
+            return None;
+        }
+        let oldest = self.places.remove(0);
+        Some(oldest)
+    }
+
     /// A place is half-open no more. Nothing changes if it isn't half-open.
     #[tactic(auto, using(crate::proofs::BacklogLemmas::removed, crate::proofs::BacklogLemmas::nowhere))]
     pub fn remove(&mut self, place: usize)
@@ -64,7 +83,7 @@ impl Backlog {
 }
 
 // The first index at which a place stands.
-fn index_of(places: &[usize], place: usize) -> Option<usize>
+pub(crate) fn index_of(places: &[usize], place: usize) -> Option<usize>
     ensures some { IfSome result (λ i. spec.IsFirst place i places.now) }
     ensures none { result ≡ None → spec.IsNowhere place places.now }
 {

@@ -64,7 +64,7 @@ fn end_text(address: &IpAddress, port: u16) -> [u8; 19]
 }
 
 /// The family and the number of an address.
-fn key_of(address: &IpAddress) -> (u8, u128)
+pub(crate) fn key_of(address: &IpAddress) -> (u8, u128)
     ensures family { result.0 ≡ (address_key address.now).0 }
     ensures number { result.1 ≡ (address_key address.now).1 }
 {

@@ -5,3 +5,6 @@ pub mod alarms;
 pub mod backlog;
 pub mod challenges;
 pub mod iss;
+pub mod listener;
+pub mod sip_hash;
+pub mod table;

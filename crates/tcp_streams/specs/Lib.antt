@@ -1,0 +1,5 @@
+pub mod Host
+pub mod Resets
+pub mod Arrivals
+pub mod Turns
+pub mod Handles
