@@ -1,0 +1,4 @@
+pub mod Answers
+pub mod Client
+pub mod Lease
+pub mod Messages
