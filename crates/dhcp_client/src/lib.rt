@@ -3,6 +3,7 @@
 
 pub mod answers;
 pub mod client;
+pub mod laws;
 pub mod lease;
 pub mod messages;
 

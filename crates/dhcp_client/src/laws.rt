@@ -1,0 +1,36 @@
+//! What a client promises, whatever messages come and whenever it is asked, each law as the contract of an empty function.
+ghost use Rattle.dhcp_client.specs.Laws.{DiscoveryGoesOn, KindsAreSpaced, LeasesAreAnswered, LeasesEnd, NeverStuck, PollAtIsExact};
+
+/// A lease comes only from an agreement (ACK) to the request that was sent last: with its number, the client's hardware
+/// address, a unicast address, and the identifier of a server, which is the one that the request named, or went to. It
+/// ends as many seconds after the request as the agreement says.
+pub fn leases_are_answered()
+    ensures { LeasesAreAnswered }
+{}
+
+/// After a client was asked for its next message it has no lease that has ended: before the end a lease is renewed, or
+/// else it is given up.
+pub fn leases_end()
+    ensures { LeasesEnd }
+{}
+
+/// Two DISCOVERs are three seconds apart at least, and so are two REQUESTs, whatever comes in between: offers, refusals and
+/// resets too.
+pub fn kinds_are_spaced()
+    ensures { KindsAreSpaced }
+{}
+
+/// A client always has an instant at which it does something, but for a lease without end.
+pub fn never_stuck()
+    ensures { NeverStuck }
+{}
+
+/// Before that instant nothing happens. From it on something does, and the next instant is a later one.
+pub fn poll_at_is_exact()
+    ensures { PollAtIsExact }
+{}
+
+/// A client that asked for offers asks again after 3 seconds at the earliest, and after 65 at the latest, if none comes.
+pub fn discovery_goes_on()
+    ensures { DiscoveryGoesOn }
+{}
