@@ -145,6 +145,7 @@ record IsFrom (at : ℕ) (m : DhcpRepr) (l : DhcpLease) : Type 0 where
   pub server : m.options.server_identifier ≡ Some l.server
   pub address : l.address ≡ m.your_ip
   pub unicast : is_unicast m.your_ip ≡ true
+  pub by_unicast : is_unicast l.server ≡ true
   pub end : option_map (λ t. t.expires_at) l.times ≡ end_of at m.options.lease_duration
 
 if_ending : (t : Bool) (renew rebind end : ℕ) → option_map (λ (x : LeaseTimes). x.expires_at)
@@ -167,17 +168,17 @@ made at m server d = record {
   times = times_of at d m.options;
 }
 
-if_made : (t : Bool) (at : ℕ) (m : DhcpRepr) (l : DhcpLease) (server : Ipv4Address) (d : ℕ) → is_unicast m.your_ip ≡ t →
-    m.options.server_identifier ≡ Some server → m.options.lease_duration ≡ Some d →
+if_made : (t : Bool) (at : ℕ) (m : DhcpRepr) (l : DhcpLease) (server : Ipv4Address) (d : ℕ) →
+    (is_unicast m.your_ip && is_unicast server) ≡ t → m.options.server_identifier ≡ Some server → m.options.lease_duration ≡ Some d →
     (if t then Some (made at m server d) else None) ≡ Some l → IsFrom at m l
 if_made false at m l server d u es ed e = absurd (cc)
 if_made true at m l server d u es ed e =
     subst (λ (x : DhcpLease). IsFrom at m x) (ap (got l) e)
-    (record { server = es; address = refl; unicast = u; end = ending at d m.options ∙ ap (end_of at) (sym ed) })
+    (record { server = es; address = refl; unicast = (and_parts _ _ u).0; by_unicast = (and_parts _ _ u).1; end = ending at d m.options ∙ ap (end_of at) (sym ed) })
 
 by_options : (at : ℕ) (m : DhcpRepr) (l : DhcpLease) (server : Option Ipv4Address) (d : Option ℕ) → m.options.server_identifier ≡ server →
     m.options.lease_duration ≡ d → lease_by at m server d ≡ Some l → IsFrom at m l
-by_options at m l (Some server) (Some d) es ed e = if_made (is_unicast m.your_ip) at m l server d refl es ed e
+by_options at m l (Some server) (Some d) es ed e = if_made (is_unicast m.your_ip && is_unicast server) at m l server d refl es ed e
 by_options at m l (Some server) None es ed e = absurd (cc)
 by_options at m l None (Some d) es ed e = absurd (cc)
 by_options at m l None None es ed e = absurd (cc)
@@ -221,6 +222,7 @@ agrees hw a c m s l hardware asked ea answer phase ack e =
       went_to = if_went a.server s.message.dst l.server asks asked.went_to;
       address = f.address;
       unicast = f.unicast;
+      by_unicast = f.by_unicast;
       end = f.end ∙ ap (λ (n : ℕ). end_of n m.options.lease_duration) asked.at;
     }
 

@@ -7,11 +7,12 @@ use Rattle.ip_address.specs.declared.ethernet_address.EthernetAddress.{EthernetA
 use Rattle.ip_address.specs.EthernetAddress.{is_same}
 use Rattle.dhcp_wire.specs.declared.message.DhcpRepr.{DhcpRepr}
 use Rattle.dhcp_wire.specs.declared.message.DhcpMessageType.{DhcpMessageType}
-use Rattle.dhcp_wire.specs.declared.message.DhcpMessageType.TheVariants.{Discover, Request, Ack}
+use Rattle.dhcp_wire.specs.declared.message.DhcpMessageType.TheVariants.{Discover, Offer, Request, Ack}
 use Rattle.dhcp_client.specs.declared.client.DhcpClient.{DhcpClient}
 use Rattle.dhcp_client.specs.declared.lease.DhcpLease.{DhcpLease}
 use Rattle.dhcp_client.specs.declared.lease.LeaseTimes.{LeaseTimes}
 use Rattle.dhcp_client.specs.declared.messages.DhcpMessage.{DhcpMessage}
+use Rattle.dhcp_client.specs.Answers.{after_receiving}
 use Rattle.dhcp_client.specs.Client.{lease, poll_at}
 use Rattle.dhcp_client.specs.Messages.{after_asking, message_at}
 use Rattle.dhcp_client.specs.Run.{Event, Receive, Ask, Tell, Reset, Sent, History, begun, after, after_all, client_after_all}
@@ -35,6 +36,7 @@ pub record Agrees (hardware_addr : EthernetAddress) (sent : Sent) (m : DhcpRepr)
   pub went_to : (sent.message.dst ≡ broadcast) ⊎ (sent.message.dst ≡ l.server)
   pub address : l.address ≡ m.your_ip
   pub unicast : is_unicast m.your_ip ≡ true
+  pub by_unicast : is_unicast l.server ≡ true
   pub end : option_map (λ t. t.expires_at) l.times ≡ end_of sent.at m.options.lease_duration
 
 abbrev pub IsAgreed : EthernetAddress → Option Sent → DhcpRepr → DhcpLease → Type 0
@@ -97,3 +99,59 @@ abbrev pub DiscoveryGoesOn : Type 0
 DiscoveryGoesOn =
     (now random : ℕ) (c : DhcpClient) → now + 65000000 < 0xffff_ffff_ffff_ffff → type_at now random c ≡ Some Discover →
     IfSome (poll_at (after_asking now random c)) (λ at. (now + 3000000 ≤ at) × (at ≤ now + 65000000))
+
+-- What must come of it, so that no client keeps these laws by doing nothing.
+
+-- a lease that has not ended stays, when the next message is asked for
+abbrev pub LeasesStay : Type 0
+LeasesStay =
+    (now random : ℕ) (c : DhcpClient) (l : DhcpLease) → lease c ≡ Some l → IsBefore now l.times → lease (after_asking now random c) ≡ Some l
+
+-- a message asks for a lease that the client has: its server, or all of them
+abbrev pub IsRenewal : Option DhcpMessage → DhcpLease → Type 0
+IsRenewal None l = ⊥
+IsRenewal (Some m) l =
+    (m.repr.message_type ≡ Request) × (m.repr.client_ip ≡ l.address) × ((m.dst ≡ l.server) ⊎ (m.dst ≡ broadcast))
+
+-- when something is due before a lease ends, it is asked for
+abbrev pub RenewalsAreAsked : Type 0
+RenewalsAreAsked =
+    (now random at : ℕ) (c : DhcpClient) (l : DhcpLease) → now < 0xffff_ffff_ffff_ffff → lease c ≡ Some l → poll_at c ≡ Some at → at ≤ now →
+    IsBefore now l.times → IsRenewal (message_at now random c) l
+
+-- a message of a server answers one that was sent
+pub record Answers (sent : DhcpMessage) (type : DhcpMessageType) (server : Ipv4Address) (m : DhcpRepr) : Type 0 where
+  pub is_type : m.message_type ≡ type
+  pub number : m.transaction_id ≡ sent.repr.transaction_id
+  pub hardware : is_same m.client_hardware_address sent.repr.client_hardware_address ≡ true
+  pub by : m.options.server_identifier ≡ Some server
+  pub unicast : is_unicast m.your_ip ≡ true
+
+-- a message asks for what was offered
+abbrev pub IsRequestOf : Option DhcpMessage → DhcpRepr → Type 0
+IsRequestOf None offer = ⊥
+IsRequestOf (Some m) offer =
+    (m.repr.message_type ≡ Request) × (m.repr.transaction_id ≡ offer.transaction_id) × (m.repr.options.requested_ip ≡ Some offer.your_ip)
+    × (m.repr.options.server_identifier ≡ offer.options.server_identifier)
+
+-- an offer that answers a DISCOVER is asked for, as soon as something is due
+abbrev pub OffersAreTaken : Type 0
+OffersAreTaken =
+    (now random later other at : ℕ) (c : DhcpClient) (sent : DhcpMessage) (server : Ipv4Address) (m : DhcpRepr) →
+    later < 0xffff_ffff_ffff_ffff → message_at now random c ≡ Some sent → sent.repr.message_type ≡ Discover → Answers sent Offer server m →
+    poll_at (after_receiving m (after_asking now random c)) ≡ Some at → at ≤ later →
+    IsRequestOf (message_at later other (after_receiving m (after_asking now random c))) m
+
+abbrev pub IsFor : Option DhcpLease → Ipv4Address → Type 0
+IsFor None address = ⊥
+IsFor (Some l) address = l.address ≡ address
+
+-- an agreement that answers a REQUEST gives a lease, if it is by the server that the request named, or went to, and says for
+-- how long
+abbrev pub AgreementsAreTaken : Type 0
+AgreementsAreTaken =
+    (now random seconds : ℕ) (c : DhcpClient) (sent : DhcpMessage) (server : Ipv4Address) (m : DhcpRepr) →
+    message_at now random c ≡ Some sent → sent.repr.message_type ≡ Request → Answers sent Ack server m →
+    m.options.lease_duration ≡ Some seconds → is_unicast server ≡ true →
+    IfSome (lease c) (λ l. l.server ≡ server) → IfSome sent.repr.options.server_identifier (λ s. s ≡ server) →
+    IsFor (lease (after_receiving m (after_asking now random c))) m.your_ip

@@ -22,9 +22,9 @@ times_of sent_at duration o = if duration == 0xffff_ffff then None else
       expires_at = sent_at + duration * 1000000;
     })
 
--- what an agreement with a server and a duration leases
+-- what an agreement with a server and a duration leases: a unicast address, by a server that has one
 abbrev pub lease_by : ℕ → DhcpRepr → Option Ipv4Address → Option ℕ → Option DhcpLease
-lease_by sent_at ack (Some server) (Some duration) = if is_unicast ack.your_ip
+lease_by sent_at ack (Some server) (Some duration) = if is_unicast ack.your_ip && is_unicast server
     then Some (record {
       address = ack.your_ip;
       subnet_mask = ack.options.subnet_mask;

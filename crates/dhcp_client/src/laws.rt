@@ -1,5 +1,6 @@
 //! What a client promises, whatever messages come and whenever it is asked, each law as the contract of an empty function.
-ghost use Rattle.dhcp_client.specs.Laws.{DiscoveryGoesOn, KindsAreSpaced, LeasesAreAnswered, LeasesEnd, NeverStuck, PollAtIsExact};
+ghost use Rattle.dhcp_client.specs.Laws.{AgreementsAreTaken, DiscoveryGoesOn, KindsAreSpaced, LeasesAreAnswered, LeasesEnd};
+ghost use Rattle.dhcp_client.specs.Laws.{LeasesStay, NeverStuck, OffersAreTaken, PollAtIsExact, RenewalsAreAsked};
 
 /// A lease comes only from an agreement (ACK) to the request that was sent last: with its number, the client's hardware
 /// address, a unicast address, and the identifier of a server, which is the one that the request named, or went to. It
@@ -33,4 +34,24 @@ pub fn poll_at_is_exact()
 /// A client that asked for offers asks again after 3 seconds at the earliest, and after 65 at the latest, if none comes.
 pub fn discovery_goes_on()
     ensures { DiscoveryGoesOn }
+{}
+
+/// A lease that has not ended stays, when the client is asked for its next message.
+pub fn leases_stay()
+    ensures { LeasesStay }
+{}
+
+/// When something is due before a lease ends, the lease is asked for again: of its server, or of all.
+pub fn renewals_are_asked()
+    ensures { RenewalsAreAsked }
+{}
+
+/// An offer that answers a DISCOVER is asked for, as soon as something is due: by its number and address, of its server.
+pub fn offers_are_taken()
+    ensures { OffersAreTaken }
+{}
+
+/// An agreement that answers a REQUEST gives a lease of its address.
+pub fn agreements_are_taken()
+    ensures { AgreementsAreTaken }
 {}

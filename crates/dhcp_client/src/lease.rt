@@ -45,7 +45,7 @@ pub enum DhcpEvent {
 
 impl DhcpLease {
     /// The lease that an agreement gives, for a request that was sent at an instant, in microseconds. `None` exactly if the
-    /// agreement doesn't say how long it lasts, by which server it is, or a unicast address.
+    /// agreement doesn't say how long it lasts, a unicast address, or by which server it is, by a unicast address.
     pub(crate) fn of(sent_at: u64, ack: &DhcpRepr) -> Option<DhcpLease>
         ensures { result ≡ spec.lease_of sent_at ack.now }
     {
@@ -55,7 +55,7 @@ impl DhcpLease {
         ) else {
             return None;
         };
-        if !ack.your_ip.is_unicast() {
+        if !(ack.your_ip.is_unicast() && server.is_unicast()) {
             return None;
         }
         Some(DhcpLease {
