@@ -11,16 +11,24 @@ fn type_of(message: Option<DhcpMessage>) -> Option<DhcpMessageType> {
 #[test]
 fn nobody_answers(rt: HostRuntime) {
     let mut client = DhcpClient::new(HARDWARE, None);
-    let mut now = 0;
-    let waits: [u64; 7] = [3, 7, 15, 31, 63, 63, 63];
-    for wait in waits {
+    let times: [(u32, u32); 7] = [
+        (0, 3),
+        (3, 10),
+        (10, 25),
+        (25, 56),
+        (56, 119),
+        (119, 182),
+        (182, 245),
+    ];
+    for (now, next) in times {
+        let now = u64::from(now) * SECOND;
+        let next = u64::from(next) * SECOND;
         assert_eq!(rt;
             type_of(client.next_message(now, 0)),
             Some(DhcpMessageType::Discover)
         );
-        assert_eq!(rt; client.poll_at(), Some(now + wait * SECOND));
-        assert_eq!(rt; client.next_message(now + wait * SECOND - 1, 0), None);
-        now += wait * SECOND;
+        assert_eq!(rt; client.poll_at(), Some(next));
+        assert_eq!(rt; client.next_message(next.saturating_sub(1), 0), None);
     }
     let mut client = DhcpClient::new(HARDWARE, None);
     assert_eq!(rt;
