@@ -1,2 +1,2 @@
 pub mod Packets
-pub mod Sockets
+pub mod Datagrams

@@ -2,8 +2,8 @@
 //! goes to all servers from a host without an address.
 #![tactic(auto)]
 
+pub mod datagrams;
 pub mod packets;
-pub mod sockets;
 
+pub use datagrams::{receive, send_by_raw, send_by_udp};
 pub use packets::DhcpRoom;
-pub use sockets::{receive, send_by_raw, send_by_udp};

@@ -4,7 +4,7 @@ ghost use Rattle.socket_base.specs.Queue.{first_of, is_room};
 ghost use Rattle.transport_sockets.specs.Udp as udp_spec;
 ghost use Rattle.network_sockets.specs.Raw as raw_spec;
 ghost use Rattle.dhcp_sockets.specs.Packets.{message_text, packet_text};
-ghost use Rattle.dhcp_sockets.specs.Sockets as spec;
+ghost use Rattle.dhcp_sockets.specs.Datagrams as spec;
 
 use crate::packets::{DhcpRoom, build_message, build_packet};
 use dhcp_client::{DhcpClient, DhcpMessage};
