@@ -18,7 +18,7 @@ const MIN_RENEWAL: u128 = 60_000_000;
 #[derive(Clone, Copy, Debug, PartialEq, Eq)]
 pub struct DhcpMessage {
     pub repr: DhcpRepr,
-    /// The server, or the broadcast address. To the broadcast address it goes from 0.0.0.0.
+    /// The server, or the broadcast address. It goes from the client's address if that has one, otherwise from 0.0.0.0.
     pub dst: Ipv4Address,
 }
 

@@ -14,16 +14,17 @@ use Rattle.dhcp_client.specs.declared.messages.DhcpMessage.{DhcpMessage}
 abbrev pub message_text : DhcpMessage → List ℕ
 message_text m = dhcp.text m.repr (1 ∷ 3 ∷ 6 ∷ [])
 
-abbrev pub nobody : Ipv4Address
-nobody = record { bits = 0 }
-
-abbrev pub header_to : Ipv4Address → ℕ → Ipv4Repr
-header_to dst len = record { src_addr = nobody; dst_addr = dst; next_header = protocol.Udp; payload_len = 8 + len; hop_limit = 64 }
+abbrev pub header_of : Ipv4Address → Ipv4Address → ℕ → Ipv4Repr
+header_of src dst len = record { src_addr = src; dst_addr = dst; next_header = protocol.Udp; payload_len = 8 + len; hop_limit = 64 }
 
 abbrev pub ports : UdpRepr
 ports = record { src_port = 68; dst_port = 67 }
 
--- a packet from 0.0.0.0, with the checksums of both headers
-abbrev pub packet_text : Ipv4Address → List ℕ → List ℕ
-packet_text dst payload =
-    ipv4.header_text true (header_to dst (length payload)) ipv4.whole ++ udp.text true (Ipv4 nobody) (Ipv4 dst) ports payload
+-- a packet with the checksums of both headers
+abbrev pub packet_text : Ipv4Address → Ipv4Address → List ℕ → List ℕ
+packet_text src dst payload =
+    ipv4.header_text true (header_of src dst (length payload)) ipv4.whole ++ udp.text true (Ipv4 src) (Ipv4 dst) ports payload
+
+-- a message as a packet, from the client's address; that is 0.0.0.0 as long as it has none
+abbrev pub packet_of : DhcpMessage → List ℕ
+packet_of m = packet_text m.repr.client_ip m.dst (message_text m)

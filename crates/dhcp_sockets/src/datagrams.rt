@@ -3,7 +3,7 @@ ghost use Rattle.std.specs.Prelude.{◌≡◌, is_ok, is_some, OnOk, OnErr, leng
 ghost use Rattle.socket_base.specs.Queue.{first_of, is_room};
 ghost use Rattle.transport_sockets.specs.Udp as udp_spec;
 ghost use Rattle.network_sockets.specs.Raw as raw_spec;
-ghost use Rattle.dhcp_sockets.specs.Packets.{message_text, packet_text};
+ghost use Rattle.dhcp_sockets.specs.Packets.{message_text, packet_of};
 ghost use Rattle.dhcp_sockets.specs.Datagrams as spec;
 
 use crate::packets::{DhcpRoom, build_message, build_packet};
@@ -44,23 +44,24 @@ fn receive_datagram(client: &mut DhcpClient, port: u16, payload: &[u8])
     }
 }
 
-/// Queues a message at a raw socket of IPv4 and UDP, as a packet from 0.0.0.0 port 68. Fails with `Full` exactly if it doesn't
-/// fit; then the socket stays unchanged.
+/// Queues a message at a raw socket of IPv4 and UDP, as a packet from port 68 of the client's address, which is 0.0.0.0 as
+/// long as it has none. Fails with `Full` exactly if it doesn't fit; then the socket stays unchanged.
 ///
-/// For messages to the broadcast address: the host may have no address yet. The socket needs no room to receive, and is to
-/// be there only as long as there is no lease, since packets that a raw socket accepts aren't answered by errors.
+/// For messages to all servers: these don't wait for a neighbour, and a host without an address can send them. The
+/// socket needs no room to receive.
 pub fn send_by_raw<L: Drop>(
     message: &DhcpMessage,
     socket: &mut raw::SocketOf<L>,
     room: &mut DhcpRoom,
 ) -> Result<(), Full>
     ensures fits { is_ok result
-        ≡ is_room socket.old.tx (length (packet_text message.now.dst (message_text message.now))) }
+        ≡ is_room socket.old.tx (length (packet_of message.now)) }
     ensures socket { socket.new
-        ≡ raw_spec.socket_after_send (packet_text message.now.dst (message_text message.now)) socket.old }
+        ≡ raw_spec.socket_after_send (packet_of message.now) socket.old }
 {
     build_message(message, &mut room.message);
-    build_packet(message.dst, room.message.as_slice(), &mut room.packet);
+    let src = message.repr.client_ip;
+    build_packet(src, message.dst, room.message.as_slice(), &mut room.packet);
     socket.send((), room.packet.as_slice())
 }
 

@@ -41,14 +41,19 @@ pub(crate) fn build_message(message: &DhcpMessage, out: &mut FrameBuffer)
     message.repr.emit(&PARAMETERS, out);
 }
 
-/// Builds a packet with these octets as its payload, from 0.0.0.0 port 68 to port 67 of the message's destination, in place
-/// of what the buffer has. Both checksums are computed.
-pub(crate) fn build_packet(dst: Ipv4Address, payload: &[u8], out: &mut FrameBuffer)
+/// Builds a packet with these octets as its payload, from port 68 of an address to port 67 of another one, in place of what
+/// the buffer has. Both checksums are computed.
+pub(crate) fn build_packet(
+    src: Ipv4Address,
+    dst: Ipv4Address,
+    payload: &[u8],
+    out: &mut FrameBuffer,
+)
     requires { length payload.now ≤ 320 }
-    ensures { out.new ≡ spec.packet_text dst payload.now }
+    ensures { out.new ≡ spec.packet_text src dst payload.now }
 {
     let header = Ipv4Repr {
-        src_addr: Ipv4Address::UNSPECIFIED,
+        src_addr: src,
         dst_addr: dst,
         next_header: IpProtocol::Udp,
         payload_len: 8 + payload.len() as u16,
@@ -58,7 +63,7 @@ pub(crate) fn build_packet(dst: Ipv4Address, payload: &[u8], out: &mut FrameBuff
         src_port: CLIENT_PORT,
         dst_port: SERVER_PORT,
     };
-    let src = IpAddress::Ipv4(Ipv4Address::UNSPECIFIED);
+    let src = IpAddress::Ipv4(src);
     let dst = IpAddress::Ipv4(dst);
     out.clear();
     header.emit(&Ipv4Fragment::WHOLE, true, out);
