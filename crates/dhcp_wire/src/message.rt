@@ -22,9 +22,6 @@ pub const CLIENT_PORT: u16 = 68;
 /// The octets before a message's options, with the four that say that these are DHCP's.
 pub const HEADER_LEN: usize = 240;
 
-/// The most octets that a message has as it is emitted, without its list of parameters.
-pub const MAX_LEN: usize = 315;
-
 /// The four octets before the options: 99, 130, 83, 99 (RFC 2131 3).
 const MAGIC_COOKIE: u32 = 0x6382_5363;
 
@@ -138,12 +135,12 @@ impl DhcpRepr {
     }
 
     /// Appends a message with these values and a list of parameters that it asks for, of at most 255 octets; an empty list
-    /// isn't written. The message has at most [`MAX_LEN`] octets, and two more than the list if there is one.
+    /// isn't written. The message has at most 315 octets beside the list.
     pub fn emit(&self, parameters: &[u8], out: &mut FrameBuffer)
         requires short { length parameters.now ≤ 255 }
-        requires room { length out.old + 317 + length parameters.now ≤ 1514 }
+        requires room { length out.old + 315 + length parameters.now ≤ 1514 }
         ensures items { out.new ≡ out.old ++ spec.text self.now parameters.now }
-        ensures len { length out.new ≤ length out.old + 317 + length parameters.now }
+        ensures len { length out.new ≤ length out.old + 315 + length parameters.now }
     {
         emit_header(self, out);
         append_option(53, &[self.message_type.number()], out);
