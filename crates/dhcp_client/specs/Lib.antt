@@ -1,0 +1,6 @@
+pub mod Answers
+pub mod Client
+pub mod Laws
+pub mod Lease
+pub mod Messages
+pub mod Run

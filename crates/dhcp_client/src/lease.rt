@@ -1,0 +1,109 @@
+//! What a server leases to a client (RFC 2131 4.4.1, 4.4.5).
+ghost use Rattle.std.specs.Prelude.{◌≡◌, ◌+◌, ◌*◌, ◌<◌, ◌^◌};
+ghost use Rattle.dhcp_client.specs.Lease as spec;
+
+use dhcp_wire::{DhcpOptions, DhcpRepr};
+use ip_address::Ipv4Address;
+
+/// The duration of a lease without end (RFC 2131 3.3).
+const INFINITE: u32 = 0xffff_ffff;
+
+/// When a lease is renewed, and when it ends, in microseconds.
+#[derive(Clone, Copy, Debug, PartialEq, Eq)]
+pub struct LeaseTimes {
+    /// From when on the client asks the server that leased it, T1.
+    pub renew_at: u128,
+    /// From when on it asks any server, T2.
+    pub rebind_at: u128,
+    /// From when on it no longer has the address.
+    pub expires_at: u128,
+}
+
+/// An address that a client has from a server, and what the server told of the network.
+#[derive(Clone, Copy, Debug, PartialEq, Eq)]
+pub struct DhcpLease {
+    pub address: Ipv4Address,
+    /// The mask of the network, as the server gave it.
+    pub subnet_mask: Option<Ipv4Address>,
+    pub router: Option<Ipv4Address>,
+    /// Up to three servers of names, from the first place on.
+    pub dns_servers: [Option<Ipv4Address>; 3],
+    /// The server that leased it.
+    pub server: Ipv4Address,
+    /// `None` for a lease without end.
+    pub times: Option<LeaseTimes>,
+}
+
+/// What a client's owner is told.
+#[derive(Clone, Copy, Debug, PartialEq, Eq)]
+pub enum DhcpEvent {
+    /// The client has this lease now: a new one, or one that was renewed.
+    Configured(DhcpLease),
+    /// It no longer has a lease, so its address must not be used.
+    Deconfigured,
+}
+
+impl DhcpLease {
+    /// The lease that an agreement gives, for a request that was sent at an instant, in microseconds. `None` exactly if the
+    /// agreement doesn't say how long it lasts, a unicast address, or by which server it is, by a unicast address.
+    pub(crate) fn of(sent_at: u64, ack: &DhcpRepr) -> Option<DhcpLease>
+        ensures { result ≡ spec.lease_of sent_at ack.now }
+    {
+        let (Some(server), Some(duration)) = (
+            ack.options.server_identifier,
+            ack.options.lease_duration,
+        ) else {
+            return None;
+        };
+        if !(ack.your_ip.is_unicast() && server.is_unicast()) {
+            return None;
+        }
+        Some(DhcpLease {
+            address: ack.your_ip,
+            subnet_mask: ack.options.subnet_mask,
+            router: ack.options.router,
+            dns_servers: ack.options.dns_servers,
+            server,
+            times: times_of(sent_at, duration, &ack.options),
+        })
+    }
+
+    /// Whether a lease has ended at an instant, in microseconds.
+    pub(crate) fn has_ended(&self, now: u64) -> bool
+        ensures { result ≡ spec.has_ended now self.now }
+    {
+        match self.times {
+            None => false,
+            Some(times) => times.expires_at <= u128::from(now),
+        }
+    }
+}
+
+/// The times of a lease of so many seconds from an instant on. `None` if it has no end.
+fn times_of(sent_at: u64, duration: u32, options: &DhcpOptions) -> Option<LeaseTimes>
+    ensures { result ≡ spec.times_of sent_at duration options.now }
+{
+    if duration == INFINITE {
+        return None;
+    }
+    let (renew, rebind) = spans_of(duration, options.renew_duration, options.rebind_duration);
+    let sent_at = u128::from(sent_at);
+    Some(LeaseTimes {
+        renew_at: sent_at + u128::from(renew),
+        rebind_at: sent_at + u128::from(rebind),
+        expires_at: sent_at + u128::from(duration) * 1_000_000,
+    })
+}
+
+/// T1 and T2 of a lease of so many seconds, in microseconds: as the server gave them, if they are in order. Otherwise half
+/// of the duration, and seven eighths.
+fn spans_of(duration: u32, renew: Option<u32>, rebind: Option<u32>) -> (u64, u64)
+    ensures { result ≡ spec.spans_of duration renew rebind }
+{
+    match (renew, rebind) {
+        (Some(renew), Some(rebind)) if renew < rebind && rebind < duration => {
+            (u64::from(renew) * 1_000_000, u64::from(rebind) * 1_000_000)
+        }
+        _ => (u64::from(duration) * 500_000, u64::from(duration) * 875_000),
+    }
+}

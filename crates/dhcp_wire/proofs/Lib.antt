@@ -1,0 +1,4 @@
+pub mod MessageAgain
+pub mod OptionsAgain
+pub mod Reading
+pub mod Texts
