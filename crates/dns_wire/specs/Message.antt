@@ -1,5 +1,5 @@
 -- Messages (RFC 1035 4.1): a header of 12 octets, a question, and records.
-use Rattle.std.specs.Prelude.{ℕ, ◌+◌, ◌/◌, ◌%◌, ◌≤◌, ◌==◌, ◌&&◌, nat_le, Bool, IsTrue}
+use Rattle.std.specs.Prelude.{ℕ, ◌+◌, ◌/◌, ◌%◌, ◌==◌, ◌&&◌, nat_le, Bool}
 use Rattle.std.specs.Prelude.{List, [], ◌∷◌, ◌++◌, length, slice_index}
 use Rattle.std.specs.Int.{w16, to_be_bytes}
 use Rattle.wire_base.specs.Octets.{u16_at}
@@ -27,9 +27,8 @@ header_in octets = record {
 }
 
 -- a question stands at an offset: a name, a type and a class
-pub record IsQuestion (octets : List ℕ) (at : ℕ) : Type 0 where
-  pub name : IsTrue (is_name octets at)
-  pub whole : end_of octets at + 4 ≤ length octets
+abbrev pub is_question : List ℕ → ℕ → Bool
+is_question octets at = is_name octets at && nat_le (end_of octets at + 4) (length octets)
 
 abbrev pub question_in : List ℕ → ℕ → DnsQuestion
 question_in octets at = record {

@@ -1,5 +1,5 @@
 -- Resource records (RFC 1035 3.2.1, 4.1.3): a name, a type, a class, a time to live, a length, and so many octets of data.
-use Rattle.std.specs.Prelude.{ℕ, ◌+◌, ◌≤◌, ◌==◌, ◌&&◌, Bool, true, IsTrue, List, length, if◌then◌else◌}
+use Rattle.std.specs.Prelude.{ℕ, ◌+◌, ◌==◌, ◌&&◌, nat_le, Bool, true, List, length, if◌then◌else◌}
 use Rattle.wire_base.specs.Octets.{u16_at, u32_at}
 use Rattle.ipv6_wire.specs.Ipv6Packet.{address_at}
 use Rattle.dns_wire.specs.declared.record.DnsData.{DnsData}
@@ -39,12 +39,13 @@ data_of class type octets at =
     else if type == 5 then Cname at else Other)
     else Other
 
--- a record stands at an offset
-pub record IsRecord (octets : List ℕ) (at : ℕ) : Type 0 where
-  pub name : IsTrue (is_name octets at)
-  pub fields : fields_at octets at + 10 ≤ length octets
-  pub whole : data_at octets at + len_in octets at ≤ length octets
-  pub has_form : IsTrue (is_data (class_in octets at) (type_in octets at) octets (data_at octets at) (len_in octets at))
+-- a record stands at an offset: nothing of it runs out of the message
+abbrev pub is_record : List ℕ → ℕ → Bool
+is_record octets at =
+    is_name octets at
+    && nat_le (fields_at octets at + 10) (length octets)
+    && nat_le (data_at octets at + len_in octets at) (length octets)
+    && is_data (class_in octets at) (type_in octets at) octets (data_at octets at) (len_in octets at)
 
 abbrev pub record_in : List ℕ → ℕ → DnsRecord
 record_in octets at = record {

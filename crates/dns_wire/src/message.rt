@@ -89,7 +89,7 @@ impl DnsQuestion {
     /// The question at an offset of a message, whose name stands there too. `None` exactly if no name stands there, or the
     /// type and the class run out of the message.
     pub fn parse(octets: &[u8], at: usize) -> Option<DnsQuestion>
-        ensures { SomeIff result (spec.IsQuestion octets.now at) (spec.question_in octets.now at) }
+        ensures { SomeIff result (IsTrue (spec.is_question octets.now at)) (spec.question_in octets.now at) }
     {
         let fields = name_end(octets, at)?;
         if octets.len() < 4 || fields > octets.len() - 4 {

@@ -38,7 +38,7 @@ impl DnsRecord {
     /// - its fields or its data run out of the message;
     /// - it is of class 1, and an address has another length than its type's, or the data of a CNAME aren't one name.
     pub fn parse(octets: &[u8], at: usize) -> Option<DnsRecord>
-        ensures { SomeIff result (spec.IsRecord octets.now at) (spec.record_in octets.now at) }
+        ensures { SomeIff result (IsTrue (spec.is_record octets.now at)) (spec.record_in octets.now at) }
     {
         let fields = name_end(octets, at)?;
         if octets.len() < 10 || fields > octets.len() - 10 {
