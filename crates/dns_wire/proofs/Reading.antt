@@ -10,7 +10,7 @@ use Rattle.dns_wire.specs.Names.{lower, is_same_label, are_same_labels, is_same,
 use Rattle.dns_wire.specs.Names.{after_label, after_pointer, have_same_label, begin_the_same, are_empty}
 
 -- of end, label and pointer only one stands at a place
-label_no_end : (octets : List ℕ) (room at : ℕ) → is_label room octets at ≡ true → is_end octets at ≡ false
+pub label_no_end : (octets : List ℕ) (room at : ℕ) → is_label room octets at ≡ true → is_end octets at ≡ false
 label_no_end octets room at h = grind (arith, nat_tests, h)
 
 pointer_no_end : (octets : List ℕ) (start at : ℕ) → is_pointer octets start at ≡ true → is_end octets at ≡ false
@@ -19,27 +19,27 @@ pointer_no_end octets start at h = grind (arith, nat_tests, h)
 pointer_no_label : (octets : List ℕ) (room start at : ℕ) → is_pointer octets start at ≡ true → is_label room octets at ≡ false
 pointer_no_label octets room start at h = grind (arith, nat_tests, h)
 
-by_end : (steps : ℕ) (octets : List ℕ) (start at room : ℕ) → is_end octets at ≡ true → labels_from (suc steps) octets start at room ≡ Some []
+pub by_end : (steps : ℕ) (octets : List ℕ) (start at room : ℕ) → is_end octets at ≡ true → labels_from (suc steps) octets start at room ≡ Some []
 unfolding labels_from
 by_end steps octets start at room h = rw h refl
 
-by_label : (steps : ℕ) (octets : List ℕ) (start at room : ℕ) → is_label room octets at ≡ true →
+pub by_label : (steps : ℕ) (octets : List ℕ) (start at room : ℕ) → is_label room octets at ≡ true →
     labels_from (suc steps) octets start at room
     ≡ with_first (label octets at) (labels_from steps octets start (at + 1 + slice_index octets at) (room - (slice_index octets at + 1)))
 unfolding labels_from
 by_label steps octets start at room h = rw (label_no_end octets room at h, h) refl
 
-by_pointer : (steps : ℕ) (octets : List ℕ) (start at room : ℕ) → is_pointer octets start at ≡ true →
+pub by_pointer : (steps : ℕ) (octets : List ℕ) (start at room : ℕ) → is_pointer octets start at ≡ true →
     labels_from (suc steps) octets start at room ≡ labels_from steps octets (target octets at) (target octets at) room
 unfolding labels_from
 by_pointer steps octets start at room h = rw (pointer_no_end octets start at h, pointer_no_label octets room start at h, h) refl
 
-by_none : (steps : ℕ) (octets : List ℕ) (start at room : ℕ) → is_end octets at ≡ false → is_label room octets at ≡ false →
+pub by_none : (steps : ℕ) (octets : List ℕ) (start at room : ℕ) → is_end octets at ≡ false → is_label room octets at ≡ false →
     is_pointer octets start at ≡ false → labels_from (suc steps) octets start at room ≡ None
 unfolding labels_from
 by_none steps octets start at room e l p = rw (e, l, p) refl
 
-no_steps : (octets : List ℕ) (start at room : ℕ) → labels_from 0 octets start at room ≡ None
+pub no_steps : (octets : List ℕ) (start at room : ℕ) → labels_from 0 octets start at room ≡ None
 unfolding labels_from
 no_steps octets start at room = refl
 
@@ -54,7 +54,7 @@ counts steps = grind (arith, nat_tests)
 tested : (steps : ℕ) (b : Bool) → b ≡ (nat_lt 0 (suc steps) && b)
 tested steps b = rw (counts steps) refl
 
-none_left : (n : ℕ) → (suc n == 0) ≡ false
+pub none_left : (n : ℕ) → (suc n == 0) ≡ false
 none_left n = grind (arith, nat_tests)
 
 third : (a b c : Bool) → a ≡ true → b ≡ true → (a && b && c) ≡ false → c ≡ false
@@ -106,7 +106,7 @@ none_here octets p e l h = at_none p.steps octets p.start p.at p.room e l h
 
 -- Whether a name stands there.
 
-some_first : (l : List ℕ) (a : Option (List (List ℕ))) → is_some (with_first l a) ≡ is_some a
+pub some_first : (l : List ℕ) (a : Option (List (List ℕ))) → is_some (with_first l a) ≡ is_some a
 unfolding with_first
 some_first l None = refl
 some_first l (Some ls) = refl

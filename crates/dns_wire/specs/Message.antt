@@ -1,5 +1,5 @@
 -- Messages (RFC 1035 4.1): a header of 12 octets, a question, and records.
-use Rattle.std.specs.Prelude.{ℕ, ◌+◌, ◌/◌, ◌%◌, ◌==◌, ◌&&◌, nat_le, Bool}
+use Rattle.std.specs.Prelude.{◌≡◌, ℕ, ◌+◌, ◌/◌, ◌%◌, ◌^◌, ◌<◌, ◌==◌, ◌&&◌, nat_le, Bool, true, false}
 use Rattle.std.specs.Prelude.{List, [], ◌∷◌, ◌++◌, length, slice_index}
 use Rattle.std.specs.Int.{w16, to_be_bytes}
 use Rattle.wire_base.specs.Octets.{u16_at}
@@ -7,7 +7,7 @@ use Rattle.dns_wire.specs.declared.message.DnsHeader.{DnsHeader}
 use Rattle.dns_wire.specs.declared.message.DnsQuestion.{DnsQuestion}
 use Rattle.dns_wire.specs.declared.message.DnsType.{DnsType}
 use Rattle.dns_wire.specs.declared.message.DnsType.TheVariants.{A, Aaaa}
-use Rattle.dns_wire.specs.Names.{is_name, end_of}
+use Rattle.dns_wire.specs.Names.{is_name, end_of, is_same_name}
 
 -- the types that are asked for (RFC 1035 3.2.2, RFC 3596 2.1)
 abbrev pub number_of : DnsType → ℕ
@@ -48,3 +48,21 @@ header_text id = to_be_bytes w16 id ++ 1 ∷ 0 ∷ 0 ∷ 1 ∷ 0 ∷ 0 ∷ 0 ∷
 
 abbrev pub query_text : ℕ → List ℕ → DnsType → List ℕ
 query_text id name type = header_text id ++ name ++ 0 ∷ number_of type ∷ 0 ∷ 1 ∷ []
+
+-- a query is read again as its values
+pub record IsQuery (id : ℕ) (name : List ℕ) (type : DnsType) (text : List ℕ) : Type 0 where
+  pub header : header_in text ≡ record {
+    transaction_id = id;
+    is_response = false;
+    opcode = 0;
+    is_truncated = false;
+    response_code = 0;
+    question_count = 1;
+    answer_count = 0;
+  }
+  pub question : is_question text 12 ≡ true
+  pub asked : question_in text 12 ≡ record { question_type = number_of type; class = 1; end = length text }
+  pub same : is_same_name text 12 name 0 ≡ true
+
+abbrev pub ReadAgain : Type 0
+ReadAgain = (id : ℕ) (name : List ℕ) (type : DnsType) → id < 2 ^ 16 → is_whole_name name ≡ true → IsQuery id name type (query_text id name type)

@@ -127,3 +127,8 @@ pub fn emit_query(transaction_id: u16, name: &[u8], query_type: DnsType, out: &m
     out.append(name);
     out.append(&[0, query_type.number(), 0, 1]);
 }
+
+/// A query that is emitted is parsed back as its values: the number, the name, the type, and nothing else.
+pub fn read_again()
+    ensures { spec.ReadAgain }
+{}
