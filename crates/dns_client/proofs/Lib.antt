@@ -1,0 +1,5 @@
+pub mod Asking
+pub mod Ends
+pub mod Reading
+pub mod Spacing
+pub mod Standing

@@ -1,0 +1,5 @@
+use Rattle.dns_client.proofs.Spacing as law
+use Rattle.dns_client.proofs.laws.queries_are_spaced.Goals as goal
+
+pub returns : goal.returns
+returns c = law.queries_are_spaced

@@ -1,0 +1,5 @@
+pub mod Answers
+pub mod Found
+pub mod Laws
+pub mod Query
+pub mod Run

@@ -1,0 +1,2 @@
+pub mod MessageAgain
+pub mod Reading
