@@ -3,3 +3,4 @@ pub mod Ends
 pub mod Reading
 pub mod Spacing
 pub mod Standing
+pub mod Taking

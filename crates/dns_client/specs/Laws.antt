@@ -11,13 +11,14 @@ use Rattle.dns_wire.specs.Message.{number_of}
 use Rattle.dns_wire.specs.Record.{is_record, record_in}
 use Rattle.dns_client.specs.declared.query.DnsFailure.TheVariants.{TimedOut}
 use Rattle.dns_client.specs.declared.query.DnsQuery.{DnsQuery}
+use Rattle.dns_client.specs.declared.query.DnsResult.{DnsResult}
 use Rattle.dns_client.specs.declared.query.DnsResult.TheVariants.{Addresses, Failed}
-use Rattle.dns_client.specs.Answers.{after_receiving, is_same}
+use Rattle.dns_client.specs.Answers.{after_receiving, is_answer, is_same, is_server, result_in}
 use Rattle.dns_client.specs.Query.{new_query, after_asking, asked_at, is_pending, poll_at}
 use Rattle.dns_client.specs.Run.{Event, Receive, Ask, query_after, query_after_all, last_asked}
 
--- two queries are a second apart at least, whatever happens in between (a client that asks the next server at once, whose
--- turn has come, breaks this)
+-- two queries are a second apart at least, whatever happens in between. (A client that asks nobody keeps this; one that asks
+-- the next server at once, when its turn comes, doesn't)
 abbrev pub QueriesAreSpaced : Type 0
 QueriesAreSpaced =
     (name : List ℕ) (servers : List IpAddress) (first second one other : ℕ) (q : DnsQuery) (es : List Event) →
@@ -25,18 +26,20 @@ QueriesAreSpaced =
     asked_at second (length servers) (query_after_all name servers es (after_asking first (length servers) q)) ≡ Some other →
     first + 1000000 ≤ second
 
--- a query that waits has an instant at which something is due
+-- a query that waits has an instant at which something is due. (A client that does nothing then keeps this)
 abbrev pub NeverStuck : Type 0
 NeverStuck = (q : DnsQuery) → is_pending q ≡ true → poll_at q ≡ None → ⊥
 
--- ten seconds for each server after it began a query doesn't wait any more, once its owner asks
+-- ten seconds for each server after it began a query doesn't wait any more, once its owner asks. (A client that gives up at
+-- once keeps this)
 abbrev pub QueriesEnd : Type 0
 QueriesEnd =
     (name : List ℕ) (servers : List IpAddress) (begun random now : ℕ) (type : DnsType) (es : List Event) →
     begun + length servers * 10000000 ≤ now →
     is_pending (after_asking now (length servers) (query_after_all name servers es (new_query begun type random))) ≡ false
 
--- before the instant nothing happens; at every instant what is due then is done, so that something is due only later
+-- before the instant nothing happens; at every instant what is due then is done, so that something is due only later. (A
+-- client that has failed from the beginning keeps this)
 abbrev pub PollAtIsExact : Type 0
 PollAtIsExact =
     (now servers : ℕ) (q : DnsQuery) → now < 0xffff_ffff_ffff_ffff → q.server < servers →
@@ -62,8 +65,8 @@ AnswersLast name servers type random (Some asked) (Receive from from_port to_por
     Answers name servers type random asked from from_port to_port octets
 AnswersLast name servers type random (Some asked) (Ask now) = ⊥
 
--- a query that waited and has a result now has it from a message that answers what was asked last, or has timed out (a client
--- that looks at the number alone, or takes the answer of the server that it gave up, breaks this)
+-- a query that waited and has a result now has it from a message that answers what was asked last, or has timed out. (A client
+-- that takes no answer, or another result from it, keeps this; one that looks at the number alone doesn't)
 abbrev pub ResultsAreAnswers : Type 0
 ResultsAreAnswers =
     (name : List ℕ) (servers : List IpAddress) (begun random : ℕ) (type : DnsType) (es : List Event) (e : Event) →
@@ -94,10 +97,22 @@ pub record Stands (octets : List ℕ) (name : ℕ) (address : IpAddress) : Type 
   pub is : address_of (record_in octets at).«data» ≡ Some address
 
 -- addresses of a result stand in the message that gave them, under the name of its question, which is the one asked for, or
--- behind a chain of aliases from it (a client that takes all addresses of a message breaks this)
+-- behind a chain of aliases from it. (A client that takes one of them, or has them in another order, keeps this; one that takes
+-- all addresses of a message doesn't)
 abbrev pub AddressesStand : Type 0
 AddressesStand =
     (name : List ℕ) (servers : List IpAddress) (from : IpAddress) (from_port to_port i : ℕ) (octets : List ℕ) (q : DnsQuery)
     (list : List (Option IpAddress)) (a : IpAddress) → is_pending q ≡ true →
     (after_receiving name servers from from_port to_port octets q).result ≡ Addresses list → get_or list i None ≡ Some a →
     Stands octets 12 a
+
+-- What must come of it, so that no query keeps these laws by doing nothing.
+
+-- an answer of the server that was just asked gives its result, if its records are whole. (A client that takes no
+-- answer after it was asked for something else keeps this; one that ignores all doesn't)
+abbrev pub AnswersAreTaken : Type 0
+AnswersAreTaken =
+    (name : List ℕ) (servers : List IpAddress) (now server : ℕ) (from : IpAddress) (octets : List ℕ) (q : DnsQuery) (r : DnsResult) →
+    asked_at now (length servers) q ≡ Some server → is_server servers server from ≡ true →
+    is_answer name octets (after_asking now (length servers) q) ≡ true → result_in octets (after_asking now (length servers) q) ≡ Some r →
+    (after_receiving name servers from 53 (after_asking now (length servers) q).source_port octets (after_asking now (length servers) q)).result ≡ r

@@ -1,5 +1,5 @@
 //! What a query promises, whatever messages come and whenever it is asked, each law as the contract of an empty function.
-ghost use Rattle.dns_client.specs.Laws.{AddressesStand, NeverStuck, PollAtIsExact, QueriesAreSpaced, QueriesEnd, ResultsAreAnswers};
+ghost use Rattle.dns_client.specs.Laws.{AddressesStand, AnswersAreTaken, NeverStuck, PollAtIsExact, QueriesAreSpaced, QueriesEnd, ResultsAreAnswers};
 
 /// Two queries of a name are a second apart at least, whatever comes in between, and whichever servers they go to.
 pub fn queries_are_spaced()
@@ -32,4 +32,9 @@ pub fn results_are_answers()
 /// a chain of aliases in the message leads to from it.
 pub fn addresses_stand()
     ensures { AddressesStand }
+{}
+
+/// An answer of the server that was just asked gives the query its result, if its records are whole.
+pub fn answers_are_taken()
+    ensures { AnswersAreTaken }
 {}

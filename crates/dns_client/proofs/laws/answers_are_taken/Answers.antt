@@ -1,0 +1,5 @@
+use Rattle.dns_client.proofs.Taking as law
+use Rattle.dns_client.proofs.laws.answers_are_taken.Goals as goal
+
+pub returns : goal.returns
+returns c = law.answers_are_taken
