@@ -11,7 +11,9 @@ fn main() {
     let mut device = Loopback::new(Medium::Ethernet);
 
     // Create interface
-    let config = Config::new(EthernetAddress([0x02, 0x00, 0x00, 0x00, 0x00, 0x01]).into());
+    let mut config = Config::new(EthernetAddress([0x02, 0x00, 0x00, 0x00, 0x00, 0x01]).into());
+    // What it sends comes back to it, and a guard drops packets from an own address.
+    config.guard = None;
     let mut iface = Interface::new(config, &mut device, Instant::ZERO).unwrap();
     iface
         .update_ip_addrs(|ip_addrs| {
