@@ -33,7 +33,7 @@ impl Node {
         let mut sockets = SocketSet::new(&iface);
         let buffer = udp::PacketBuffer::with_capacity(4, 4096);
         let mut socket = udp::Socket::new(buffer, buffer);
-        socket.bind(7).unwrap();
+        socket.bind(7777).unwrap();
         let handle = sockets.add(socket);
         Node { device, iface, sockets, handle }
     }
@@ -58,7 +58,7 @@ fn settle(a: &mut Node, b: &mut Node) {
 
 fn run() {
     let (mut a, mut b) = (Node::new(1), Node::new(2));
-    a.socket().send_slice(b"bare", (IpAddress::v4(192, 168, 69, 2), 7)).unwrap();
+    a.socket().send_slice(b"bare", (IpAddress::v4(192, 168, 69, 2), 7777)).unwrap();
     settle(&mut a, &mut b);
     let (data, from) = b.socket().recv().unwrap();
     let data = data.to_vec();
