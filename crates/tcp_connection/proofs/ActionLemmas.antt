@@ -7,12 +7,11 @@ use Rattle.tcp_machine.specs.declared.timers.Pending.{Pending}
 use Rattle.tcp_machine.specs.declared.timers.Pending.TheVariants.{Empty, Challenge, Resend, Probe, KeepAlive, Reset}
 use Rattle.tcp_machine.specs.Pieces.{Piece, after_piece}
 use Rattle.tcp_machine.specs.Sending.{Sender}
-use Rattle.tcp_machine.specs.States.{sends_octets, is_synchronized}
+use Rattle.tcp_machine.specs.States.{sends_octets, is_synchronized, is_opening}
 use Rattle.tcp_machine.specs.Connection.{Connection}
-use Rattle.tcp_machine.specs.Timers.{is_opening}
 use Rattle.tcp_machine.specs.Outgoing as machine
 use Rattle.tcp_machine.specs.Outgoing.{action, action_pending, next_action, ack_if, is_reset, is_syn_due, is_worth_sending, tells_something}
-use Rattle.tcp_machine.specs.Outgoing.{next_piece, first_piece, piece_from, octets_from, segment_for}
+use Rattle.tcp_machine.specs.Outgoing.{has_octets, next_piece, first_piece, most_again, piece_from, octets_from, segment_for}
 use Rattle.tcp_connection.specs.declared.transmission.Part.{Part}
 use Rattle.tcp_connection.specs.declared.outgoing.Action.{Action}
 use Rattle.tcp_connection.specs.declared.outgoing.Action.TheVariants.{SendNext, SendAgain, SendProbe}
@@ -25,7 +24,7 @@ abbrev pub Fits : machine.Action → Connection → Type 0
 Fits (machine.SendReset number) c = Unit {0}
 Fits machine.SendSyn c = Unit {0}
 Fits (machine.SendNext p) c = p ≡ next_piece c
-Fits (machine.SendAgain p) c = p ≡ first_piece c.transmission.mss c
+Fits (machine.SendAgain p) c = p ≡ first_piece (most_again c) c
 Fits (machine.SendProbe p) c = p ≡ first_piece 1 c
 Fits machine.SendKeepAlive c = Unit {0}
 Fits machine.SendAck c = Unit {0}
@@ -52,13 +51,18 @@ next_fits false t m c e = ack_fits t m c e
 challenge_fits : (b : Bool) (m : machine.Action) (c : Connection) → (if b then Some machine.SendAck else None) ≡ Some m → Fits m c
 challenge_fits b m c e = ack_fits b m c e
 
+probe_fits : (b : Bool) (m : machine.Action) (c : Connection) →
+    (if b then Some (machine.SendNext (next_piece c)) else Some (machine.SendProbe (first_piece 1 c))) ≡ Some m → Fits m c
+probe_fits true m c e = some_of (machine.SendNext (next_piece c)) m c e refl
+probe_fits false m c e = some_of (machine.SendProbe (first_piece 1 c)) m c e refl
+
 pending_fits : (p : Pending) (now : ℕ) (m : machine.Action) (c : Connection) → action_pending p now c ≡ Some m → Fits m c
 pending_fits Empty now m c e =
     next_fits (sends_octets c.state && is_worth_sending c (next_piece c)) (is_synchronized c.state && tells_something now c) m c e
 pending_fits Challenge now m c e = challenge_fits (is_synchronized c.state) m c e
 pending_fits KeepAlive now m c e = some_of machine.SendKeepAlive m c e tt
-pending_fits Probe now m c e = some_of (machine.SendProbe (first_piece 1 c)) m c e refl
-pending_fits Resend now m c e = some_of (machine.SendAgain (first_piece c.transmission.mss c)) m c e refl
+pending_fits Probe now m c e = probe_fits (sends_octets c.state && has_octets (next_piece c)) m c e
+pending_fits Resend now m c e = some_of (machine.SendAgain (first_piece (most_again c) c)) m c e refl
 pending_fits (Reset n) now m c e = some_of (machine.SendReset n) m c e tt
 
 syn_fits : (b : Bool) (m : machine.Action) (c : Connection) → (if b then Some machine.SendSyn else None) ≡ Some m → Fits m c
@@ -114,7 +118,7 @@ octets_fit (machine.SendReset n) c f = refl
 octets_fit machine.SendSyn c f = refl
 octets_fit (machine.SendNext p) c f =
     piece_octets c.transmission.nxt (min c.transmission.mss (machine.limit_of c - c.transmission.nxt)) c.transmission.sender p f
-octets_fit (machine.SendAgain p) c f = piece_octets c.transmission.sender.una c.transmission.mss c.transmission.sender p f
+octets_fit (machine.SendAgain p) c f = piece_octets c.transmission.sender.una (most_again c) c.transmission.sender p f
 octets_fit (machine.SendProbe p) c f = piece_octets c.transmission.sender.una 1 c.transmission.sender p f
 octets_fit machine.SendKeepAlive c f = refl
 octets_fit machine.SendAck c f = refl
@@ -149,13 +153,13 @@ next_of now part c e = by (chosen_is now (SendNext part) c e).chosen (chosen_is 
       by machine.SendAck is of f = absurd cc
 
 pub again_of : (now : ℕ) (part : Part) (c : Connection) → option_map action_of (action now c) ≡ Some (SendAgain part) →
-    IsSent now part (first_piece c.transmission.mss c) c
-    (machine.piece_sent now (first_piece c.transmission.mss c) c.transmission.nxt c)
+    IsSent now part (first_piece (most_again c) c) c
+    (machine.piece_sent now (first_piece (most_again c) c) c.transmission.nxt c)
 again_of now part c e = by (chosen_is now (SendAgain part) c e).chosen (chosen_is now (SendAgain part) c e).is
     (chosen_is now (SendAgain part) c e).of (chosen_is now (SendAgain part) c e).fits where
       by : (m : machine.Action) → action now c ≡ Some m → action_of m ≡ SendAgain part → Fits m c →
-          IsSent now part (first_piece c.transmission.mss c) c
-          (machine.piece_sent now (first_piece c.transmission.mss c) c.transmission.nxt c)
+          IsSent now part (first_piece (most_again c) c) c
+          (machine.piece_sent now (first_piece (most_again c) c) c.transmission.nxt c)
       by (machine.SendReset n) is of f = absurd cc
       by machine.SendSyn is of f = absurd cc
       by (machine.SendNext p) is of f = absurd cc

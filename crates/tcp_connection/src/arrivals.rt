@@ -159,6 +159,7 @@ impl Connection {
     {
         self.timers.heard_at = now;
         self.timers.probes = 0;
+        self.timers.idle_since = now;
     }
 
     /// The own SYN is acknowledged.
@@ -169,6 +170,9 @@ impl Connection {
             None => State::Established,
             Some(_) => State::FinWait1,
         };
+        let nxt = self.transmission.nxt();
+        let _una = self.transmission.una();
+        self.transmission.go_back(nxt.max(1));
         if self.timers.tries != 0 {
             self.estimator = Estimator {
                 round_trip: self.estimator.round_trip,

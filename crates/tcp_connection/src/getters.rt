@@ -23,6 +23,13 @@ impl Connection {
         self.ending
     }
 
+    /// When something arrived last, in microseconds; when the connection began, if nothing has.
+    pub fn heard_at(&self) -> u64
+        ensures { result ≡ self.now.timers.heard_at }
+    {
+        self.timers.heard_at
+    }
+
     /// Whether the program may write: it hasn't closed, and the connection isn't gone.
     pub fn may_send(&self) -> bool
         ensures { result ≡ asked.may_send self.now }
@@ -35,6 +42,17 @@ impl Connection {
         ensures { result ≡ asked.can_send self.now }
     {
         self.may_send() && self.transmission.room_to_write() > 0
+    }
+
+    /// How many octets a write takes, if it has as many.
+    pub fn send_room(&self) -> usize
+        ensures { result ≡ asked.send_room self.now }
+    {
+        if self.may_send() {
+            self.transmission.room_to_write()
+        } else {
+            0
+        }
     }
 
     /// Whether there is an octet to be read, or one may still come.

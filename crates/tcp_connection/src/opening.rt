@@ -27,6 +27,7 @@ pub(crate) fn timers_at(now: u64) -> Timers
         measured: None,
         heard_at: now,
         probes: 0,
+        idle_since: now,
         waiting_since: None,
         ends_at: None,
     }

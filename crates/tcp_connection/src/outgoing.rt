@@ -3,6 +3,7 @@ ghost use Rattle.std.specs.Prelude.{◌≡◌, ◌≤◌, ◌+◌, min, max, Som
 ghost use Rattle.std.specs.Option.{option_map};
 ghost use Rattle.tcp_machine.specs.Outgoing as outgoing;
 ghost use Rattle.tcp_connection.specs.Actions.{action_of, IsHeader, AreOctets, after_sending};
+ghost use Rattle.tcp_connection.specs.Asked.{is_only_challenged};
 ghost use Rattle.tcp_connection.specs.Pieces.{part_of, IsPieceOf};
 ghost use Rattle.tcp_machine.specs.Pieces.{Piece, after_piece};
 ghost use Rattle.tcp_connection.specs.Bounds.{last, after_part};
@@ -14,7 +15,7 @@ use crate::states::{is_opening, is_synchronized, sends_octets};
 use crate::transmission::Part;
 use tcp_machine::positions::number_at;
 use tcp_machine::state::State;
-use tcp_machine::timers::{Measured, Pending, Timers};
+use tcp_machine::timers::{Measured, Owed, Pending, Timers};
 
 /// What is sent.
 #[derive(Clone, Copy, Debug, PartialEq, Eq)]
@@ -27,7 +28,7 @@ pub enum Action {
     SendNext(Part),
     /// The first unacknowledged piece once more.
     SendAgain(Part),
-    /// A probe of a closed window.
+    /// A probe of a closed window: one octet, or the end.
     SendProbe(Part),
     /// An empty segment before the position of an acknowledgement alone.
     SendKeepAlive,
@@ -87,12 +88,22 @@ impl Connection {
             Pending::Empty => self.unforced_action(now),
             Pending::Challenge => self.ack_if(is_synchronized(self.state)),
             Pending::KeepAlive => Some(Action::SendKeepAlive),
-            Pending::Probe => Some(Action::SendProbe(self.first_part(1))),
-            Pending::Resend => {
-                let mss = self.transmission.mss();
-                Some(Action::SendAgain(self.first_part(mss)))
-            }
+            Pending::Probe => self.probe_action(),
+            Pending::Resend => Some(Action::SendAgain(self.first_part(self.most_again()))),
             Pending::Reset(number) => Some(Action::SendReset(number)),
+        }
+    }
+
+    /// What probes the peer: what its window has room for, whatever that is worth (RFC 9293 3.8.6.2.1); where there is no
+    /// room, one octet beyond it, or the end (3.8.6.1).
+    fn probe_action(&self) -> Option<Action>
+        ensures { result ≡ option_map action_of (outgoing.probe_action self.now) }
+    {
+        let part = self.next_part();
+        if sends_octets(self.state) && part.len > 0 {
+            Some(Action::SendNext(part))
+        } else {
+            Some(Action::SendProbe(self.first_part(1)))
         }
     }
 
@@ -112,6 +123,17 @@ impl Connection {
             return Some(Action::SendNext(part));
         }
         self.ack_if(is_synchronized(self.state) && self.tells_something(now))
+    }
+
+    /// Whether only a challenge is to be sent: an acknowledgement that answers a segment which may be an attacker's (RFC 5961),
+    /// where nothing would be sent now without that segment, and no acknowledgement would be owed.
+    pub fn is_only_challenged(&self, now: u64) -> bool
+        ensures { result ≡ is_only_challenged now self.now }
+    {
+        matches!(self.pending, Pending::Challenge)
+            && is_synchronized(self.state)
+            && matches!(self.reception.owed(), Owed::Nothing)
+            && self.unforced_action(now).is_none()
     }
 
     /// Whether an acknowledgement is to be sent by itself.
@@ -135,7 +157,7 @@ impl Connection {
     }
 
     /// The next piece.
-    fn next_part(&self) -> Part
+    pub(crate) fn next_part(&self) -> Part
         ensures { result ≡ part_of (outgoing.next_piece self.now) }
     {
         let nxt = self.transmission.nxt();
@@ -145,11 +167,20 @@ impl Connection {
     }
 
     /// The first unacknowledged piece, with so many octets at most.
-    fn first_part(&self, most: u16) -> Part
+    fn first_part(&self, most: usize) -> Part
         ensures { result ≡ part_of (outgoing.first_piece most self.now) }
     {
         let una = self.transmission.una();
-        self.transmission.part_from(una, usize::from(most))
+        self.transmission.part_from(una, most)
+    }
+
+    /// How many octets may be sent again: those that were sent, and what the window told last has room for.
+    fn most_again(&self) -> usize
+        ensures { result ≡ outgoing.most_again self.now }
+    {
+        let end = self.transmission.top().max(self.transmission.told_edge());
+        let left = end.saturating_sub(self.transmission.una());
+        u64::from(self.transmission.mss()).min(left) as usize
     }
 
     /// Whether Nagle's rule holds short segments back (RFC 9293 3.7.4).
@@ -162,7 +193,7 @@ impl Connection {
     }
 
     /// Whether the next piece is sent now (RFC 9293 3.8.6.2.1).
-    fn is_worth_sending(&self, part: &Part) -> bool
+    pub(crate) fn is_worth_sending(&self, part: &Part) -> bool
         requires { part.now ≡ part_of (outgoing.next_piece self.now) }
         ensures { result ≡ outgoing.is_worth_sending self.now (outgoing.next_piece self.now) }
     {

@@ -254,7 +254,7 @@ impl Reception {
         ensures { result ≡ windows.is_update_due own_mss self.now }
     {
         let step = (2 * u64::from(own_mss)).min(self.receiver.room() as u64 / 2);
-        self.promised.saturating_add(step) <= self.receiver.edge()
+        self.promised.saturating_add(step.max(1)) <= self.receiver.edge()
     }
 
     /// An acknowledgement was sent that told this promise.

@@ -3,7 +3,6 @@ ghost use Rattle.std.specs.Prelude.{◌≡◌};
 ghost use Rattle.tcp_machine.specs.States as states;
 ghost use Rattle.tcp_machine.specs.Arrivals as arrivals;
 ghost use Rattle.tcp_machine.specs.Calls as calls;
-ghost use Rattle.tcp_machine.specs.Timers as timers;
 
 use tcp_machine::state::State;
 
@@ -74,7 +73,7 @@ pub fn sends_octets(state: State) -> bool
 
 /// Whether the own SYN isn't acknowledged.
 pub fn is_opening(state: State) -> bool
-    ensures { result ≡ timers.is_opening state }
+    ensures { result ≡ states.is_opening state }
 {
     match state {
         State::SynSent | State::SynReceived => true,

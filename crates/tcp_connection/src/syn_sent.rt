@@ -33,7 +33,7 @@ impl Connection {
     fn acknowledges_syn(&self, segment: &Segment) -> bool
         ensures { result ≡ opening.is_acknowledgement_of_syn (segment_of segment.now []) self.now }
     {
-        segment.ack == Some(number_at(self.local, 1)) && self.transmission.nxt() != 0
+        segment.ack == Some(number_at(self.local, 1)) && self.timers.waiting_since.is_some()
     }
 
     /// The peer's SYN arrives, maybe with the acknowledgement of the own one.

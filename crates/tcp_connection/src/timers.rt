@@ -1,12 +1,11 @@
 //! What a connection does by itself (RFC 6298 5; RFC 9293 3.4.2, 3.8.3, 3.8.4, 3.8.6.1).
-ghost use Rattle.std.specs.Prelude.{◌≡◌, ◌+◌, ◌*◌, min};
-ghost use Rattle.tcp_machine.specs.Instants as instants;
+ghost use Rattle.std.specs.Prelude.{◌≡◌, ◌+◌, min};
 ghost use Rattle.tcp_machine.specs.Connection.{most_tries};
 ghost use Rattle.tcp_machine.specs.Due as due;
 ghost use Rattle.tcp_machine.specs.Timers as timers;
 
 use crate::connection::Connection;
-use crate::instants::{NEVER, has_passed, has_waited, later};
+use crate::instants::{has_passed, has_waited, later};
 use crate::states::{is_opening, is_synchronized, is_time_wait, sends_octets};
 use tcp_machine::timers::{Ending, Pending, Timers};
 
@@ -15,19 +14,6 @@ const MOST_TRIES: u64 = 12;
 
 /// How many probes stay unanswered before a peer that is kept alive is given up.
 const MOST_PROBES: u64 = 9;
-
-/// The instant that follows another one after so many intervals and one more.
-fn after_intervals(start: u64, interval: u64, count: u64) -> u64
-    ensures { result ≡ instants.later start (interval * (count + 1)) }
-{
-    let Some(before) = interval.checked_mul(count) else {
-        return NEVER;
-    };
-    match before.checked_add(interval) {
-        Some(span) => later(start, span),
-        None => NEVER,
-    }
-}
 
 /// One more, up to the most tries.
 fn one_more(count: u64) -> u64
@@ -56,14 +42,14 @@ impl Connection {
         }
     }
 
-    /// What isn't acknowledged is sent again, or a closed window is probed, or the connection is given up.
+    /// What isn't acknowledged is sent again, or the peer is probed, or the connection is given up.
     fn expire_resend_timer(&mut self, now: u64)
         ensures { self.new ≡ timers.after_resend_timer now self.old }
     {
         if !has_passed(self.timers.resend_at, now) {
             return;
         }
-        if self.transmission.is_window_closed() && !is_opening(self.state) {
+        if self.is_held_back() && !is_opening(self.state) {
             self.expire_probe_timer(now);
         } else if self.is_given_up(now) {
             self.give_up(Ending::TimedOut);
@@ -102,7 +88,7 @@ impl Connection {
         };
     }
 
-    /// A closed window is probed, or the peer that hasn't answered for too long is given up (RFC 9293 3.8.6.1).
+    /// The peer is probed, or given up if it hasn't answered for too long (RFC 9293 3.8.6.1).
     fn expire_probe_timer(&mut self, now: u64)
         ensures { self.new ≡ timers.after_probe_time now self.old }
     {
@@ -125,7 +111,7 @@ impl Connection {
             || (timeout.is_none() && MOST_TRIES <= self.timers.probes)
     }
 
-    /// A silent peer is probed, or given up after nine probes (RFC 9293 3.8.4).
+    /// A silent peer is asked whether it is still there, or given up after nine such questions (RFC 9293 3.8.4).
     fn expire_keep_alive(&mut self, now: u64)
         ensures { self.new ≡ timers.after_keep_alive now self.old }
     {
@@ -137,27 +123,33 @@ impl Connection {
             return;
         }
         self.timers.probes = one_more(self.timers.probes);
+        self.timers.idle_since = now;
         self.add_pending(Pending::KeepAlive);
     }
 
-    /// When a silent peer is probed next.
+    /// When a silent peer is asked next whether it is still there. While something is unacknowledged it isn't asked.
     pub(crate) fn keep_alive_at(&self) -> Option<u64>
         ensures { result ≡ timers.keep_alive_at self.now }
     {
-        if !is_synchronized(self.state) || is_time_wait(self.state) {
+        if !self.is_kept_alive() {
             return None;
         }
         match self.settings.keep_alive {
             None => None,
-            Some(interval) => Some(after_intervals(
-                self.timers.heard_at,
-                interval,
-                self.timers.probes,
-            )),
+            Some(interval) => Some(later(self.timers.idle_since, interval)),
         }
     }
 
-    /// The timer runs while the window is closed, too.
+    /// Whether the connection stands, and all that was sent is acknowledged.
+    fn is_kept_alive(&self) -> bool
+        ensures { result ≡ timers.is_kept_alive self.now }
+    {
+        is_synchronized(self.state)
+            && !is_time_wait(self.state)
+            && self.transmission.top() <= self.transmission.una()
+    }
+
+    /// The timer runs while all that waits is held back, too.
     fn start_probe_timer(&mut self, now: u64)
         ensures { self.new ≡ timers.with_probe_timer now self.old }
     {
@@ -166,12 +158,20 @@ impl Connection {
         }
     }
 
-    /// Whether the window is closed and no timer runs.
+    /// Whether all that waits is held back, and no timer runs.
     pub(crate) fn lacks_timer(&self) -> bool
         ensures { result ≡ due.lacks_timer self.now }
     {
-        self.timers.resend_at.is_none()
-            && sends_octets(self.state)
-            && self.transmission.is_window_closed()
+        self.timers.resend_at.is_none() && sends_octets(self.state) && self.is_held_back()
+    }
+
+    /// Whether nothing is on its way, and what waits isn't sent now: the peer's window has no room for it, or for less than
+    /// is worth sending (RFC 9293 3.8.6.2.1).
+    fn is_held_back(&self) -> bool
+        ensures { result ≡ timers.is_held_back self.now }
+    {
+        let part = self.next_part();
+        let is_worth_sending = self.is_worth_sending(&part);
+        self.transmission.flight() == 0 && self.transmission.has_unsent() && !is_worth_sending
     }
 }

@@ -5,7 +5,7 @@ ghost use Rattle.tcp_machine.specs.Windows.{tells_window, after_window};
 ghost use Rattle.tcp_machine.specs.Acknowledgements.{flight, empty_position, is_believed, is_end_acknowledged, is_duplicate};
 ghost use Rattle.tcp_machine.specs.Opening.{no_transmission};
 ghost use Rattle.tcp_machine.specs.Calls.{room_to_write};
-ghost use Rattle.tcp_machine.specs.Timers.{has_unsent, is_window_closed};
+ghost use Rattle.tcp_machine.specs.Timers.{has_unsent};
 ghost use Rattle.tcp_machine.specs.Outgoing.{octets_from, piece_from, is_last};
 ghost use Rattle.tcp_connection.specs.Bounds.{last, after_part};
 ghost use Rattle.tcp_connection.specs.Pieces.{IsPieceOf};
@@ -172,13 +172,6 @@ impl Transmission {
     {
         let held = self.ring.limit() - self.ring.room();
         self.nxt < self.una + held as u64 + u64::from(self.stop.is_some())
-    }
-
-    /// Whether all that was sent is acknowledged, and the peer's window has no room for what waits.
-    pub fn is_window_closed(&self) -> bool
-        ensures { result ≡ is_window_closed self.now }
-    {
-        self.flight() == 0 && self.has_unsent() && self.told_edge <= self.nxt
     }
 
     /// What an acknowledgement changes that is believed, with the window that it tells: what is acknowledged leaves the ring.

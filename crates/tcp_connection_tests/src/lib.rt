@@ -6,4 +6,6 @@ mod ends;
 #[cfg(test)]
 mod figures;
 #[cfg(test)]
+mod stalls;
+#[cfg(test)]
 mod transfers;

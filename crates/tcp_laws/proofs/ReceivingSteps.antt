@@ -22,7 +22,7 @@ one_more : (b : Bool) (n t : ℕ) → (b ≡ true → n < t) → n ≤ t → n +
 one_more true n t h k = let l = h refl in omega (arith, l)
 one_more false n t h k = omega arith
 
-at_most_one : (b : Bool) (n : ℕ) → n + (if b then 1 else 0) ≤ n + 1
+pub at_most_one : (b : Bool) (n : ℕ) → n + (if b then 1 else 0) ≤ n + 1
 at_most_one true n = omega arith
 at_most_one false n = omega arith
 
@@ -36,10 +36,10 @@ less_or_equal n m h = by (n == m) refl where
   by true e = inr (grind (arith, nat_tests))
   by false e = inl (grind (arith, nat_tests))
 
-false_true : {P : Type 0} → false ≡ true → P
+pub false_true : {P : Type 0} → false ≡ true → P
 false_true e = cc
 
-more : (b c : Bool) (n m : ℕ) → n ≤ m → (n ≡ m → b ≡ true → c ≡ true) → n + (if b then 1 else 0) ≤ m + (if c then 1 else 0)
+pub more : (b c : Bool) (n m : ℕ) → n ≤ m → (n ≡ m → b ≡ true → c ≡ true) → n + (if b then 1 else 0) ≤ m + (if c then 1 else 0)
 more true true n m h k = omega arith
 more true false n m h k = by (less_or_equal n m h) where
   by : (n < m) ⊎ (n ≡ m) → n + 1 ≤ m + 0
@@ -48,7 +48,7 @@ more true false n m h k = by (less_or_equal n m h) where
 more false true n m h k = omega arith
 more false false n m h k = omega arith
 
-is_at_some : (o : Option ℕ) (p : ℕ) → is_at o p ≡ true → o ≡ Some p
+pub is_at_some : (o : Option ℕ) (p : ℕ) → is_at o p ≡ true → o ≡ Some p
 is_at_some None p h = false_true h
 is_at_some (Some q) p h = let e : q ≡ p = grind (arith, nat_tests) in ap (λ (n : ℕ). Some n) e
 
@@ -62,7 +62,7 @@ pub next_expected : (r : Receiver) → next r ≤ expected r
 next_expected r = not_less (is_at r.stop (next r)) (next r)
 
 -- what B expects was sent
-next_top : (size : ℕ) (s : Sender) (r : Receiver) (w rd : List ℕ) → ReceiverStands size s r w rd → next r ≤ s.top
+pub next_top : (size : ℕ) (s : Sender) (r : Receiver) (w rd : List ℕ) → ReceiverStands size s r w rd → next r ≤ s.top
 next_top size s r w rd h = by (length (in_order r.cells)) refl where
   by : (n : ℕ) → length (in_order r.cells) ≡ n → next r ≤ s.top
   by zero e = omega (arith, e, h.base_top)
@@ -82,7 +82,7 @@ octets_within p = not_less p.ends (after_octets p)
 piece_closed : (p : Piece) → p.ends ≡ true → after_piece p ≡ after_octets p + 1
 piece_closed p e = ap (λ b. after_octets p + (if b then 1 else 0)) e
 
-first_of_two : (a b : Bool) → a && b ≡ true → a ≡ true
+pub first_of_two : (a b : Bool) → a && b ≡ true → a ≡ true
 first_of_two true b h = refl
 first_of_two false b h = h
 
@@ -130,7 +130,7 @@ module _ (size : ℕ) (s : Sender) (r : Receiver) (w rd : List ℕ) (p : Piece) 
   }
 
 -- and B expects no less than before
-expected_kept : (r : Receiver) (p : Piece) → expected r ≤ expected (with_piece p r)
+pub expected_kept : (r : Receiver) (p : Piece) → expected r ≤ expected (with_piece p r)
 expected_kept r p =
     let longer = in_order_filled (first_new p r - r.base) (drop (first_new p r - p.start) p.octets) r.cells in
     let far : next r ≤ next (with_piece p r) = omega (arith, longer) in
@@ -180,7 +180,7 @@ arrives initial size d w rd p small k front fresh h =
     (omega arith) h) h)
 
 -- octets are read
-append_taken : (a : ℕ) (w xs : List ℕ) → a ≤ length w → IsBeginning xs (drop a w) →
+pub append_taken : (a : ℕ) (w xs : List ℕ) → a ≤ length w → IsBeginning xs (drop a w) →
     (take a w ++ xs ≡ take (a + length xs) w) × (a + length xs ≤ length w)
 append_taken a w xs low m =
     let split = sym (take-append-drop a w) ∙ ap (λ ys. take a w ++ ys) (sym m.1) ∙ sym (append_assoc (take a w) xs m.0) in
@@ -194,7 +194,7 @@ module _ (size : ℕ) (s : Sender) (r : Receiver) (w rd xs : List ℕ) (b : IsBe
   read_short = omega (arith, ap length b.1, length-append xs b.0)
 
   -- they are the stream's
-  read_octets : IsBeginning xs (drop (r.base - 1) w)
+  pub read_octets : IsBeginning xs (drop (r.base - 1) w)
   read_octets = from_get xs (drop (r.base - 1) w) (λ i x g.
       let c = h.cells i x (in_order_get r.cells i x (beginning_get xs (in_order r.cells) b i x g)) in
       let e : r.base + i ≡ suc (r.base - 1 + i) = omega (arith, h.base) in
@@ -232,14 +232,19 @@ module _ (size : ℕ) (s : Sender) (r : Receiver) (w rd xs : List ℕ) (b : IsBe
     stop = h.stop;
   }
 
+-- what is expected stays
+pub expected_read : (size : ℕ) (s : Sender) (r : Receiver) (w rd xs : List ℕ) → IsBeginning xs (in_order r.cells) → ReceiverStands size s r w rd →
+    expected r ≤ expected (after_read (length xs) r)
+expected_read size s r w rd xs b h =
+    let same = left_next size s r w rd xs b h in
+    let r' = after_read (length xs) r in
+    more (is_at r.stop (next r)) (is_at r.stop (next r')) (next r) (next r') (omega (arith, same)) (λ e t. ap (is_at r.stop) (sym e) ∙ t)
+
 pub reads : (size : ℕ) (d : Direction) (w rd xs : List ℕ) → IsBeginning xs (in_order d.receiver.cells) → Stands size d w rd →
     Stands size (record d { receiver = after_read (length xs) d.receiver }) w (rd ++ xs)
 reads size d w rd xs b h =
-    let same = left_next size d.sender d.receiver w rd xs b h.receiver in
-    let r = after_read (length xs) d.receiver in
-    with_receiver size d w rd (rd ++ xs) r (left size d.sender d.receiver w rd xs b h.receiver)
-    (more (is_at d.receiver.stop (next d.receiver)) (is_at d.receiver.stop (next r)) (next d.receiver) (next r) (omega (arith, same))
-    (λ e t. ap (is_at d.receiver.stop) (sym e) ∙ t)) (omega arith) h
+    with_receiver size d w rd (rd ++ xs) (after_read (length xs) d.receiver) (left size d.sender d.receiver w rd xs b h.receiver)
+    (expected_read size d.sender d.receiver w rd xs b h.receiver) (omega arith) h
 
 -- an acknowledgement is sent
 pub tells : (size : ℕ) (d : Direction) (w rd : List ℕ) (window : ℕ) → next d.receiver + window ≤ edge d.receiver → Stands size d w rd →

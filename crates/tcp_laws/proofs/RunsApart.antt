@@ -15,7 +15,7 @@ use Rattle.tcp_laws.specs.Apart.{Receiving, Get, Read, TellEnd, StandsForOne, Ma
 use Rattle.tcp_laws.specs.Apart.{RunsApartKeep}
 use Rattle.tcp_laws.proofs.Lists.{no_hole}
 use Rattle.tcp_laws.proofs.Stands.{SenderStands, PieceStands, ReceiverStands}
-use Rattle.tcp_laws.proofs.SendingSteps.{sender_writes, sender_closes, sender_sends, pieces_written, pieces_closed, pieces_sent, any_acked}
+use Rattle.tcp_laws.proofs.SendingSteps.{sendable, sender_writes, sender_closes, sender_sends, pieces_written, pieces_closed, pieces_sent, any_acked}
 use Rattle.tcp_laws.proofs.ReceivingSteps.{takes, left}
 use Rattle.tcp_laws.proofs.Runs.{append_none, no_end, HasEnded, ended_piece}
 
@@ -48,7 +48,7 @@ sender_keeps initial (Close ∷ es) s w ps run h =
 sender_keeps initial (Send p ∷ es) s w ps run h =
     subst (λ qs. SenderHolds (sender_at_last initial (sender_after initial (Send p) s) es) (w ++ written es) qs) (append_assoc ps (p ∷ []) (sent es))
     (sender_keeps initial es (sender_after initial (Send p) s) w (ps ++ p ∷ []) run.1
-    (sender_sends s w p run.0 h.0, pieces_sent s w p ps run.0 h.0 h.1))
+    (sender_sends s w p (sendable s p run.0) h.0, pieces_sent s w p ps (sendable s p run.0) h.0 h.1))
 sender_keeps initial (GetAck ack ∷ es) s w ps run h =
     sender_keeps initial es (sender_after initial (GetAck ack) s) w ps run.1
     (ack_holds (position_near initial s.una ack.number) ack.window s w ps h)

@@ -7,7 +7,7 @@ use Rattle.std.proofs.lemmas.Bool.Decides.{nat_tests}
 use Rattle.std.proofs.lemmas.Option.{none-some}
 use Rattle.std.proofs.lemmas.List.{drop-append-le, take-append-le, drop-drop, length-append, length-drop}
 use Rattle.std.proofs.lemmas.List.Elements.{All-weaker, All-push}
-use Rattle.tcp_machine.specs.Pieces.{octet_at, Piece, after_octets, after_piece, Ack}
+use Rattle.tcp_machine.specs.Pieces.{IsBeginning, octet_at, Piece, after_octets, after_piece, Ack}
 use Rattle.tcp_machine.specs.Sending.{Sender, MayWrite, after_write, after_close, MaySend, after_send, after_position}
 use Rattle.tcp_laws.specs.Run.{Direction}
 use Rattle.tcp_laws.proofs.Lists.{get_drop, octet_append, octet_is, beginning_get}
@@ -95,30 +95,40 @@ closes size d w rd opened h = record {
 }
 
 -- a piece is sent
-le_max_left : (a b : ℕ) → a ≤ max a b
+pub le_max_left : (a b : ℕ) → a ≤ max a b
 le_max_left a b = grind arith
 
-le_max_right : (a b : ℕ) → b ≤ max a b
+pub le_max_right : (a b : ℕ) → b ≤ max a b
 le_max_right a b = grind arith
 
-max_le : (a b c : ℕ) → a ≤ c → b ≤ c → max a b ≤ c
+pub max_le : (a b c : ℕ) → a ≤ c → b ≤ c → max a b ≤ c
 max_le a b c h k = grind arith
 
 le_of_max : (x a b c : ℕ) → x ≤ max a b → a ≤ c → b ≤ c → x ≤ c
 le_of_max x a b c e h k = grind arith
 
 -- the end takes at most one position
-piece_end : (p : Piece) → after_piece p ≤ after_octets p + 1
+pub piece_end : (p : Piece) → after_piece p ≤ after_octets p + 1
 piece_end p = by p.ends refl where
   by : (b : Bool) → p.ends ≡ b → after_piece p ≤ after_octets p + 1
   by true e = rw e (omega arith)
   by false e = rw e (omega arith)
 
-piece_open : (p : Piece) → p.ends ≡ false → after_piece p ≡ after_octets p
+pub piece_open : (p : Piece) → p.ends ≡ false → after_piece p ≡ after_octets p
 piece_open p e = rw e (omega arith)
 
+-- What may be sent, whatever the window is
+pub record IsSendable (s : Sender) (p : Piece) : Type 0 where
+  pub unacknowledged : s.una ≤ p.start
+  pub octets : IsBeginning p.octets (drop (p.start - s.una) s.ring)
+  pub no_gap : after_octets p ≤ max s.top (s.una + length s.ring)
+  pub last : p.ends ≡ true → s.stop ≡ Some (after_octets p)
+
+pub sendable : (s : Sender) (p : Piece) → MaySend s p → IsSendable s p
+sendable s p may = record { unacknowledged = may.unacknowledged; octets = may.octets; no_gap = may.no_gap; last = may.last }
+
 -- where the octets of a piece are in the stream
-piece_octets : (s : Sender) (w : List ℕ) (p : Piece) → MaySend s p → SenderStands s w →
+piece_octets : (s : Sender) (w : List ℕ) (p : Piece) → IsSendable s p → SenderStands s w →
     (i x : ℕ) → slice_get p.octets i ≡ Some x → octet_at w (p.start + i) ≡ Some x
 piece_octets s w p may h i x g =
     let low = may.unacknowledged in
@@ -129,7 +139,7 @@ piece_octets s w p may h i x g =
     let e : p.start + i ≡ suc (s.una - 1 + (p.start - s.una + i)) = omega (arith, h.una, low) in
     octet_is w (p.start + i) (s.una - 1 + (p.start - s.una + i)) e ∙ d
 
-new_top : (s : Sender) (w : List ℕ) (p : Piece) → MaySend s p → SenderStands s w → (b : Bool) → p.ends ≡ b →
+new_top : (s : Sender) (w : List ℕ) (p : Piece) → IsSendable s p → SenderStands s w → (b : Bool) → p.ends ≡ b →
     (s.stop ≡ None → after_piece p ≤ suc (length w)) × ((e : ℕ) → s.stop ≡ Some e → after_piece p ≤ suc (suc (length w)))
 new_top s w p may h true ends = (
   λ none. absurd (none-some _ (sym none ∙ may.last ends)),
@@ -149,7 +159,7 @@ new_top s w p may h false ends =
           let m = le_of_max _ _ _ (suc (suc (length w))) may.no_gap high u in omega (arith, o, m),
     )
 
-pub sender_sends : (s : Sender) (w : List ℕ) (p : Piece) → MaySend s p → SenderStands s w → SenderStands (after_send p s) w
+pub sender_sends : (s : Sender) (w : List ℕ) (p : Piece) → IsSendable s p → SenderStands s w → SenderStands (after_send p s) w
 sender_sends s w p may h =
     let n = new_top s w p may h p.ends refl in record {
       una = h.una;
@@ -159,14 +169,14 @@ sender_sends s w p may h =
       top_stop = λ e stop. ((h.top_stop e stop).0, max_le _ _ _ (h.top_stop e stop).1 (n.1 e stop));
     }
 
-pub piece_sent : (s : Sender) (w : List ℕ) (p : Piece) → MaySend s p → SenderStands s w → PieceStands (after_send p s) w p
+pub piece_sent : (s : Sender) (w : List ℕ) (p : Piece) → IsSendable s p → SenderStands s w → PieceStands (after_send p s) w p
 piece_sent s w p may h = record {
   octets = piece_octets s w p may h;
   last = may.last;
   sent = le_max_right s.top (after_piece p);
 }
 
-pub pieces_sent : (s : Sender) (w : List ℕ) (p : Piece) (ps : List Piece) → MaySend s p → SenderStands s w → All (PieceStands s w) ps →
+pub pieces_sent : (s : Sender) (w : List ℕ) (p : Piece) (ps : List Piece) → IsSendable s p → SenderStands s w → All (PieceStands s w) ps →
     All (PieceStands (after_send p s) w) (ps ++ p ∷ [])
 pieces_sent s w p ps may h k =
     let more = le_max_left s.top (after_piece p) in
@@ -182,7 +192,7 @@ pub sends : (size : ℕ) (d : Direction) (w rd : List ℕ) (p : Piece) → MaySe
     Stands size (record d { sender = after_send p d.sender; pieces = d.pieces ++ p ∷ [] }) w rd
 sends size d w rd p may h =
     let more = le_max_left d.sender.top (after_piece p) in record {
-      sender = sender_sends d.sender w p may h.sender;
+      sender = sender_sends d.sender w p (sendable d.sender p may) h.sender;
       receiver = record {
         places = h.receiver.places;
         cells = h.receiver.cells;
@@ -199,22 +209,22 @@ sends size d w rd p may h =
         room = h.window.room;
         starts = All-push (StartsWithin d.sender) d.pieces p h.window.starts (let k = may.window in omega (arith, k));
       };
-      pieces = pieces_sent d.sender w p d.pieces may h.sender h.pieces;
+      pieces = pieces_sent d.sender w p d.pieces (sendable d.sender p may) h.sender h.pieces;
       acks = h.acks;
       acknowledged = h.acknowledged;
     }
 
 -- an acknowledgement arrives at a sender, at its right position
-tests : (a b c : ℕ) → nat_le a b && nat_le b c ≡ true → (a ≤ b) × (b ≤ c)
+pub tests : (a b c : ℕ) → nat_le a b && nat_le b c ≡ true → (a ≤ b) × (b ≤ c)
 tests a b c h = by (nat_le a b) (nat_le b c) refl refl where
   by : (s t : Bool) → nat_le a b ≡ s → nat_le b c ≡ t → (a ≤ b) × (b ≤ c)
   by s t e f = grind (arith, nat_tests)
 
 -- that is believed
-abbrev acknowledged_to : ℕ → ℕ → Sender → Sender
+abbrev pub acknowledged_to : ℕ → ℕ → Sender → Sender
 acknowledged_to a window s = record s { una = a; ring = drop (a - s.una) s.ring; edge = max s.edge (a + window) }
 
-sender_acked : (s : Sender) (w : List ℕ) (a window : ℕ) → s.una ≤ a → a ≤ s.top → SenderStands s w → SenderStands (acknowledged_to a window s) w
+pub sender_acked : (s : Sender) (w : List ℕ) (a window : ℕ) → s.una ≤ a → a ≤ s.top → SenderStands s w → SenderStands (acknowledged_to a window s) w
 sender_acked s w a window low high h =
     let u = h.una in record {
       una = omega (arith, u, low);

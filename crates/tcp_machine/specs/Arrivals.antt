@@ -1,6 +1,6 @@
 -- A segment arrives at a connection whose peer's initial number is known (RFC 9293 3.10.7.4). In SYN-SENT `Opening` tells
 -- what happens; in CLOSED and LISTEN there is no connection, and the host answers.
-use Rattle.std.specs.Prelude.{ℕ, ◌+◌, ◌-◌, ◌*◌, ◌<◌, min, nat_lt, nat_le, ◌==◌, ◌&&◌, ◌||◌, not, Bool, true, false}
+use Rattle.std.specs.Prelude.{ℕ, ◌+◌, ◌-◌, ◌*◌, ◌<◌, min, max, nat_lt, nat_le, ◌==◌, ◌&&◌, ◌||◌, not, Bool, true, false}
 use Rattle.std.specs.Prelude.{List, [], ◌∷◌, length, drop, Option, Some, None, if◌then◌else◌}
 use Rattle.tcp_machine.specs.Instants.{later}
 use Rattle.tcp_machine.specs.declared.settings.Settings.{Settings}
@@ -81,7 +81,8 @@ abbrev pub is_own_syn_acknowledged : Segment → Connection → Bool
 is_own_syn_acknowledged s c = is_at s.ack (number_at c.local 1) && (s.number == c.remote) && is_syn_received c.state
 
 -- Fifth: an acknowledgement of the own SYN (RFC 9293 3.10.7.4); its timer is off. If it had run out, octets wait for 3 s
--- at first (RFC 6298 5.7). If the program has closed, the end follows
+-- at first (RFC 6298 5.7). What is sent next is behind it, though it was to be sent again. If the program has closed, the
+-- end follows
 abbrev pub timeout_after_syn : ℕ → Estimator → Estimator
 timeout_after_syn tries e = if tries == 0 then e else record e { timeout = 3000000 }
 
@@ -92,6 +93,7 @@ state_after_handshake (Some end) = FinWait1
 abbrev pub established : Connection → Connection
 established c = record c {
   state = state_after_handshake c.transmission.sender.stop;
+  transmission = record c.transmission { nxt = max 1 c.transmission.nxt };
   estimator = timeout_after_syn c.timers.tries c.estimator;
   timers = record c.timers { resend_at = None; tries = 0; measured = None; waiting_since = None };
 }
@@ -180,7 +182,7 @@ after_ack_field now keeps (Some n) s p c =
 
 -- something arrived
 abbrev pub heard : ℕ → Connection → Connection
-heard now c = record c { timers = record c.timers { heard_at = now; probes = 0 } }
+heard now c = record c { timers = record c.timers { heard_at = now; probes = 0; idle_since = now } }
 
 abbrev pub after_piece_of : (now : ℕ) → (keeps : Bool) → Option Piece → Segment → Connection → Connection
 after_piece_of now keeps None s c = after_unacceptable now s c

@@ -4,7 +4,7 @@ use Rattle.tcp_machine.specs.declared.timers.Owed.{Owed}
 use Rattle.tcp_machine.specs.declared.timers.Owed.TheVariants.{Nothing, By, AtOnce}
 use Rattle.tcp_machine.specs.States.{sends_octets}
 use Rattle.tcp_machine.specs.Connection.{Connection}
-use Rattle.tcp_machine.specs.Timers.{is_window_closed, keep_alive_at}
+use Rattle.tcp_machine.specs.Timers.{is_held_back, keep_alive_at}
 use Rattle.tcp_machine.specs.Outgoing.{action}
 
 abbrev pub least : Option ℕ → Option ℕ → Option ℕ
@@ -20,9 +20,9 @@ owed_at AtOnce = None
 abbrev pub timer_at : Connection → Option ℕ
 timer_at c = least (least c.timers.resend_at c.timers.ends_at) (least (keep_alive_at c) (owed_at c.reception.owed))
 
--- a closed window has no timer yet
+-- what is held back has no timer yet
 abbrev pub lacks_timer : Connection → Bool
-lacks_timer c = is_none c.timers.resend_at && sends_octets c.state && is_window_closed c.transmission
+lacks_timer c = is_none c.timers.resend_at && sends_octets c.state && is_held_back c
 
 -- at once, if something is to be sent or a timer to be begun; else when the first timer ends; none: nothing is due by itself
 abbrev pub due_at : ℕ → Connection → Option ℕ

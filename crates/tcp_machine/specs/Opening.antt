@@ -1,5 +1,5 @@
 -- How a connection comes to be (RFC 9293 3.5, 3.10.1, 3.10.7.2, 3.10.7.3).
-use Rattle.std.specs.Prelude.{◌≡◌, ℕ, ◌+◌, min, max, ◌==◌, ◌&&◌, not, Bool, true, false, Option, Some, None, is_some, if◌then◌else◌}
+use Rattle.std.specs.Prelude.{◌≡◌, ℕ, ◌+◌, min, max, ◌&&◌, not, Bool, true, false, Option, Some, None, is_some, if◌then◌else◌}
 use Rattle.tcp_machine.specs.declared.settings.Settings.{Settings}
 use Rattle.tcp_machine.specs.declared.timers.Timers.{Timers}
 use Rattle.tcp_machine.specs.declared.timers.Owed.TheVariants.{Nothing, AtOnce}
@@ -56,6 +56,7 @@ timers_at now = record {
   measured = None;
   heard_at = now;
   probes = 0;
+  idle_since = now;
   waiting_since = None;
   ends_at = None;
 }
@@ -108,9 +109,9 @@ accepted now iss send_room receive_room default link settings s =
     }
 
 -- A segment arrives in SYN-SENT (RFC 9293 3.10.7.3). An acknowledgement of anything but the own SYN is answered by a
--- reset
+-- reset. The SYN was sent, if something has been unacknowledged; it may be to be sent again by now
 abbrev pub is_acknowledgement_of_syn : Segment → Connection → Bool
-is_acknowledgement_of_syn s c = is_at s.ack (number_at c.local 1) && not (c.transmission.nxt == 0)
+is_acknowledgement_of_syn s c = is_at s.ack (number_at c.local 1) && is_some c.timers.waiting_since
 
 abbrev pub after_wrong_ack : Option ℕ → Segment → Connection → Connection
 after_wrong_ack None s c = c

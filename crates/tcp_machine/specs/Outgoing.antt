@@ -1,5 +1,5 @@
 -- What a connection sends, and when (RFC 9293 3.7.4, 3.8.6.2.1, 3.10.7.4; RFC 5681).
-use Rattle.std.specs.Prelude.{ℕ, ◌+◌, ◌-◌, ◌*◌, min, nat_lt, nat_le, ◌==◌, ◌&&◌, ◌||◌, not, Bool, true, false}
+use Rattle.std.specs.Prelude.{ℕ, ◌+◌, ◌-◌, ◌*◌, min, max, nat_lt, nat_le, ◌==◌, ◌&&◌, ◌||◌, not, Bool, true, false}
 use Rattle.std.specs.Prelude.{List, [], length, take, drop, Option, Some, None, is_none, if◌then◌else◌}
 use Rattle.tcp_machine.specs.Instants.{later}
 use Rattle.tcp_machine.specs.declared.timers.Timers.{Timers}
@@ -13,11 +13,10 @@ use Rattle.tcp_machine.specs.Positions.{number_at}
 use Rattle.tcp_machine.specs.Pieces.{Piece, after_octets, after_piece}
 use Rattle.tcp_machine.specs.Sending.{Sender, after_send}
 use Rattle.tcp_machine.specs.Receiving.{expected, is_at}
-use Rattle.tcp_machine.specs.States.{is_synchronized, sends_octets}
+use Rattle.tcp_machine.specs.States.{is_synchronized, is_opening, sends_octets}
 use Rattle.tcp_machine.specs.Connection.{Connection, Reception}
 use Rattle.tcp_machine.specs.Acknowledgements.{empty_position}
 use Rattle.tcp_machine.specs.Windows.{next_promise, window_field, is_update_due}
-use Rattle.tcp_machine.specs.Timers.{is_opening}
 
 -- what is sent: a reset of this number; the own SYN; a piece for the next positions; the first one once more; a probe of a
 -- closed window; or an empty segment before the next position, or at it
@@ -90,12 +89,22 @@ next_action now c =
 abbrev pub first_piece : ℕ → Connection → Piece
 first_piece most c = piece_from c.transmission.sender.una most c.transmission.sender
 
+-- what may be sent again: what was sent, and what the window told last has room for
+abbrev pub most_again : Connection → ℕ
+most_again c = min c.transmission.mss (max c.transmission.sender.top c.transmission.told_edge - c.transmission.sender.una)
+
+-- What probes the peer: what its window has room for, whatever that is worth (RFC 9293 3.8.6.2.1, rule (4)); where there is
+-- no room, one octet beyond it, or the end (3.8.6.1)
+abbrev pub probe_action : Connection → Option Action
+probe_action c =
+    if sends_octets c.state && has_octets (next_piece c) then Some (SendNext (next_piece c)) else Some (SendProbe (first_piece 1 c))
+
 abbrev pub action_pending : Pending → ℕ → Connection → Option Action
 action_pending Empty now c = next_action now c
 action_pending Challenge now c = if is_synchronized c.state then Some SendAck else None
 action_pending KeepAlive now c = Some SendKeepAlive
-action_pending Probe now c = Some (SendProbe (first_piece 1 c))
-action_pending Resend now c = Some (SendAgain (first_piece c.transmission.mss c))
+action_pending Probe now c = probe_action c
+action_pending Resend now c = Some (SendAgain (first_piece (most_again c) c))
 action_pending (Reset number) now c = Some (SendReset number)
 
 abbrev pub is_reset : Pending → Bool

@@ -12,6 +12,12 @@ is_synchronized SynSent = false
 is_synchronized SynReceived = false
 is_synchronized s = true
 
+-- the own SYN isn't acknowledged
+abbrev pub is_opening : State → Bool
+is_opening SynSent = true
+is_opening SynReceived = true
+is_opening s = false
+
 -- octets are taken from the peer (RFC 9293 3.10.7.4, seventh check)
 abbrev pub takes_octets : State → Bool
 takes_octets Established = true

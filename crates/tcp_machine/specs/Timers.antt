@@ -1,40 +1,34 @@
 -- What happens by itself when a timer has ended: retransmission (RFC 6298 5), probes of a closed window (RFC 9293 3.8.6.1),
--- keep-alive (3.8.4), the user time-out (3.8.3) and TIME-WAIT (3.4.2).
-use Rattle.std.specs.Prelude.{ℕ, ◌+◌, ◌*◌, min, nat_lt, nat_le, ◌==◌, ◌&&◌, ◌||◌, not, Bool, true, false}
+-- what too small a window held back (3.8.6.2.1), keep-alive (3.8.4), the user time-out (3.8.3) and TIME-WAIT (3.4.2).
+use Rattle.std.specs.Prelude.{ℕ, ◌+◌, min, nat_lt, nat_le, ◌==◌, ◌&&◌, ◌||◌, not, Bool, false}
 use Rattle.std.specs.Prelude.{length, Option, Some, None, is_none, is_some, if◌then◌else◌}
 use Rattle.tcp_machine.specs.Instants.{later, has_passed}
 use Rattle.tcp_machine.specs.declared.timers.Timers.{Timers}
 use Rattle.tcp_machine.specs.declared.timers.Pending.TheVariants.{Probe, KeepAlive}
 use Rattle.tcp_machine.specs.declared.timers.Ending.TheVariants.{TimedOut}
-use Rattle.tcp_machine.specs.declared.state.State.{State}
-use Rattle.tcp_machine.specs.declared.state.State.TheVariants.{SynSent, SynReceived}
 use Rattle.tcp_machine.specs.Sending.{Sender}
 use Rattle.tcp_machine.specs.Estimator as estimator
 use Rattle.tcp_machine.specs.Congestion as congestion
-use Rattle.tcp_machine.specs.States.{is_synchronized, sends_octets}
-use Rattle.tcp_machine.specs.Connection.{Connection, Transmission, most_tries}
+use Rattle.tcp_machine.specs.States.{is_synchronized, is_opening, sends_octets}
+use Rattle.tcp_machine.specs.Connection.{Connection, most_tries}
 use Rattle.tcp_machine.specs.Acknowledgements.{with_pending, flight}
 use Rattle.tcp_machine.specs.Arrivals.{ended, aborted, is_time_wait}
-
--- the own SYN isn't acknowledged
-abbrev pub is_opening : State → Bool
-is_opening SynSent = true
-is_opening SynReceived = true
-is_opening s = false
+use Rattle.tcp_machine.specs.Outgoing.{next_piece, is_worth_sending}
 
 -- octets, or the end, wait to be sent for the first time
 abbrev pub has_unsent : Sender → ℕ → Bool
 has_unsent s nxt = nat_lt nxt (s.una + length s.ring + (if is_some s.stop then 1 else 0))
 
--- all that was sent is acknowledged, and the window has no room for what waits
-abbrev pub is_window_closed : Transmission → Bool
-is_window_closed t = (flight t == 0) && has_unsent t.sender t.nxt && nat_le t.told_edge t.nxt
+-- nothing is on its way, and what waits isn't sent now: the window has no room for it, or for less than is worth sending
+abbrev pub is_held_back : Connection → Bool
+is_held_back c =
+    (flight c.transmission == 0) && has_unsent c.transmission.sender c.transmission.nxt && not (is_worth_sending c (next_piece c))
 
--- The timer runs while the window is closed, too: else nothing would ever be sent again, if the peer's word that it opens
--- is lost (RFC 9293 3.8.6.1)
+-- The timer runs while all is held back, too: else nothing would ever be sent again, if the peer's word that its window
+-- opens is lost (RFC 9293 3.8.6.1; 3.8.6.2.1, rule (4), of which this is the override time-out)
 abbrev pub with_probe_timer : ℕ → Connection → Connection
 with_probe_timer now c =
-    if is_none c.timers.resend_at && sends_octets c.state && is_window_closed c.transmission
+    if is_none c.timers.resend_at && sends_octets c.state && is_held_back c
     then record c { timers = record c.timers { resend_at = Some (later now c.estimator.timeout) } } else c
 
 abbrev pub has_waited : ℕ → Option ℕ → Option ℕ → Bool
@@ -61,8 +55,8 @@ after_loss_of_all c = record c {
   timers = with_next_try c.timers;
 }
 
--- A closed window is probed. It may stay closed for as long as the peer answers (RFC 9293 3.8.6.1), so what counts is how
--- long nothing has arrived
+-- The peer is probed. Its window may stay closed for as long as it answers (RFC 9293 3.8.6.1), so what counts is how long
+-- nothing has arrived
 abbrev pub is_unheard : ℕ → Connection → Bool
 is_unheard now c =
     has_waited now c.settings.timeout (Some c.timers.heard_at) || (is_none c.settings.timeout && nat_le most_tries c.timers.probes)
@@ -78,26 +72,36 @@ after_probe_time now c =
 abbrev pub after_resend_timer : ℕ → Connection → Connection
 after_resend_timer now c =
     if not (has_passed c.timers.resend_at now) then c
-    else if is_window_closed c.transmission && not (is_opening c.state) then after_probe_time now c
+    else if is_held_back c && not (is_opening c.state) then after_probe_time now c
     else if is_given_up now c then aborted TimedOut c
     else after_loss_of_all c
 
--- the peer is probed after each interval in which nothing arrived, and given up after nine such probes
+-- While nothing that was sent is unacknowledged, the peer is asked whether it is still there after each interval in which
+-- nothing arrived, and given up an interval after the ninth of these (RFC 9293 3.8.4)
 abbrev pub most_probes : ℕ
 most_probes = 9
 
-abbrev pub probed_at : Option ℕ → Timers → Option ℕ
-probed_at None t = None
-probed_at (Some interval) t = Some (later t.heard_at (interval * (t.probes + 1)))
+abbrev pub is_all_acknowledged : Sender → Bool
+is_all_acknowledged s = nat_le s.top s.una
+
+abbrev pub is_kept_alive : Connection → Bool
+is_kept_alive c = is_synchronized c.state && not (is_time_wait c.state) && is_all_acknowledged c.transmission.sender
+
+abbrev pub asked_at : Option ℕ → Timers → Option ℕ
+asked_at None t = None
+asked_at (Some interval) t = Some (later t.idle_since interval)
 
 abbrev pub keep_alive_at : Connection → Option ℕ
-keep_alive_at c = if is_synchronized c.state && not (is_time_wait c.state) then probed_at c.settings.keep_alive c.timers else None
+keep_alive_at c = if is_kept_alive c then asked_at c.settings.keep_alive c.timers else None
+
+abbrev pub after_question : ℕ → Timers → Timers
+after_question now t = record t { probes = min most_tries (t.probes + 1); idle_since = now }
 
 abbrev pub after_keep_alive : ℕ → Connection → Connection
 after_keep_alive now c =
     if not (has_passed (keep_alive_at c) now) then c
     else if nat_le most_probes c.timers.probes then aborted TimedOut c
-    else with_pending KeepAlive (record c { timers = record c.timers { probes = min most_tries (c.timers.probes + 1) } })
+    else with_pending KeepAlive (record c { timers = after_question now c.timers })
 
 abbrev pub after_time_wait : ℕ → Connection → Connection
 after_time_wait now c = if has_passed c.timers.ends_at now then ended None c else c

@@ -33,7 +33,7 @@ next_promise own_mss r =
 abbrev pub window_field : ℕ → Reception → ℕ
 window_field promise r = min 65535 ((promise - expected r.receiver) / 2 ^ r.scale)
 
--- whether a program that has read so much makes it worth a segment of its own to tell: twice the step
+-- whether a program that has read so much makes it worth a segment of its own to tell: twice the step, and an octet at least
 abbrev pub is_update_due : ℕ → Reception → Bool
 is_update_due own_mss r =
-    nat_le (r.promised + min (2 * own_mss) (length r.receiver.cells / 2)) (edge r.receiver)
+    nat_le (r.promised + max 1 (min (2 * own_mss) (length r.receiver.cells / 2))) (edge r.receiver)

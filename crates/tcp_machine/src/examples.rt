@@ -1,9 +1,9 @@
 //! Worked examples of the rules, by figures and examples of the RFCs, and beside them what must not be.
-ghost use Rattle.tcp_machine.specs.Examples.Handshakes.{BasicHandshake, BasicHandshakeAccepted, SimultaneousOpen, OldDuplicateSyn, NoHandshake};
+ghost use Rattle.tcp_machine.specs.Examples.Handshakes.{BasicHandshake, BasicHandshakeAccepted, SimultaneousOpen, OldDuplicateSyn, LateHandshake, NoHandshake};
 ghost use Rattle.tcp_machine.specs.Examples.Closings.{NormalClose, NormalCloseOfOther, SimultaneousClose, NoClose};
 ghost use Rattle.tcp_machine.specs.Examples.Resets.{HalfOpen, Abort, NoReset};
 ghost use Rattle.tcp_machine.specs.Examples.Timeouts.{Estimates, Losses};
-ghost use Rattle.tcp_machine.specs.Examples.Transfers.{InOrder, OutOfOrder, Nagle, Retransmission, ClosedWindow, Wraps, SynOptions};
+ghost use Rattle.tcp_machine.specs.Examples.Transfers.{InOrder, OutOfOrder, OneCell, Nagle, Retransmission, ClosedWindow, SmallWindow, Wraps, SynOptions};
 ghost use Rattle.tcp_machine.specs.Examples.Sack.{Rfc2018};
 ghost use Rattle.tcp_machine.specs.Examples.Silence.{KeepAlive, GivingUp, Recovery};
 
@@ -13,6 +13,7 @@ pub fn handshakes()
     ensures accepted { BasicHandshakeAccepted }
     ensures simultaneous { SimultaneousOpen }
     ensures old_duplicate { OldDuplicateSyn }
+    ensures late { LateHandshake }
     ensures none { NoHandshake }
 {}
 
@@ -41,9 +42,11 @@ pub fn timeouts()
 pub fn transfers()
     ensures in_order { InOrder }
     ensures out_of_order { OutOfOrder }
+    ensures one_cell { OneCell }
     ensures nagle { Nagle }
     ensures retransmission { Retransmission }
     ensures closed_window { ClosedWindow }
+    ensures small_window { SmallWindow }
     ensures wraps { Wraps }
     ensures options { SynOptions }
 {}

@@ -22,6 +22,8 @@ pub struct Timers {
     pub heard_at: u64,
     /// How often the peer was probed since.
     pub probes: u64,
+    /// When something arrived last, or a silent peer was asked whether it is still there, whichever came later.
+    pub idle_since: u64,
     /// Since when something has been unacknowledged.
     pub waiting_since: Option<u64>,
     /// When TIME-WAIT ends.
@@ -48,7 +50,7 @@ pub enum Pending {
     Challenge,
     /// An empty segment before the next position (RFC 9293 3.8.4).
     KeepAlive,
-    /// One octet beyond a closed window (RFC 9293 3.8.6.1).
+    /// What the window has room for, or one octet beyond a closed one (RFC 9293 3.8.6.1, 3.8.6.2.1).
     Probe,
     /// The first unacknowledged segment once more (RFC 5681 3.2).
     Resend,

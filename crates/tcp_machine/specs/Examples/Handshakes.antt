@@ -3,6 +3,7 @@ use Rattle.std.specs.Prelude.{◌≡◌, [], ◌∷◌, Some, None}
 use Rattle.tcp_machine.specs.declared.state.State.TheVariants as state
 use Rattle.tcp_machine.specs.Connection.{Connection}
 use Rattle.tcp_machine.specs.Calls.{after_writing, readable}
+use Rattle.tcp_machine.specs.Timers.{after_timers}
 use Rattle.tcp_machine.specs.Examples.Ends.{opened_by, accepted_by, ack_segment, syn_segment, reset_segment, text_segment}
 use Rattle.tcp_machine.specs.Examples.Ends.{sends, after_sending, after_segment, sent_ack, sent_syn, sent_text, sent_reset}
 
@@ -70,6 +71,23 @@ pub record OldDuplicateSyn : Type 0 where
   pub ends : (after_segment 2 (reset_segment 91) begun_by_old).state ≡ state.Closed
   -- and the true SYN-ACK still establishes
   pub goes_on : (after_segment 3 (syn_segment 400 (Some 101)) (after_sending 1 misled)).state ≡ state.Established
+
+-- The own SYN is due again, and before it is sent its acknowledgement arrives: octets follow it all the same, and each side
+-- is established
+abbrev pub due_again : Connection
+due_again = after_timers 1000000 asked
+
+abbrev pub accepted_late : Connection
+accepted_late = after_writing (7 ∷ 8 ∷ []) (after_segment 1000001 (ack_segment 101 301) due_again)
+
+abbrev pub opening_late : Connection
+opening_late = after_segment 1000001 (syn_segment 300 (Some 101)) (after_timers 1000000 opening)
+
+pub record LateHandshake : Type 0 where
+  pub syn_again : sends 1000000 due_again ≡ Some (sent_syn 300 (Some 101))
+  pub octets : sends 1000001 accepted_late ≡ Some (sent_text 301 101 (7 ∷ 8 ∷ []))
+  pub established : opening_late.state ≡ state.Established
+  pub ack : sends 1000001 opening_late ≡ Some (sent_ack 101 301)
 
 -- what must not be
 pub record NoHandshake : Type 0 where

@@ -37,6 +37,11 @@ pub record KeepAlive : Type 0 where
   pub next : due_at 1000 probed_once ≡ Some 2000
   -- an answer ends the probes, and the peer is probed a second after it
   pub answered : due_at 1500 (after_segment 1500 (ack_segment 300 100) probed_once) ≡ Some 2500
+  -- a program that comes late asks once, and the peer has an interval to answer
+  pub late : due_at 20000 (after_sending 20000 (after_timers 20000 kept_alive)) ≡ Some 21000
+  pub once : sends 20000 (after_timers 20000 (after_sending 20000 (after_timers 20000 kept_alive))) ≡ None
+  -- nobody is asked while an octet is unacknowledged
+  pub unacknowledged : sends 1000 (after_timers 1000 (after_sending 0 (after_writing (7 ∷ []) kept_alive))) ≡ None
   -- the ninth probe is the last one
   pub ninth : (after_timers 9000 (probed 7)).state ≡ state.Established
   pub given_up : (after_timers 10000 (probed 8)).ending ≡ Some TimedOut

@@ -1,12 +1,13 @@
--- Octets on their way: order, delay of acknowledgements, Nagle's rule, retransmission, a closed window, numbers that wrap.
-use Rattle.std.specs.Prelude.{◌≡◌, ℕ, true, false, [], ◌∷◌, Some, None}
+-- Octets on their way: order, delay of acknowledgements, Nagle's rule, retransmission, a window that is closed or too small,
+-- numbers that wrap.
+use Rattle.std.specs.Prelude.{◌≡◌, ℕ, true, false, List, [], ◌∷◌, Some, None}
 use Rattle.tcp_machine.specs.Connection.{Connection}
-use Rattle.tcp_machine.specs.Opening.{scale_from, own_scale_for, mss_from}
+use Rattle.tcp_machine.specs.Opening.{opened, scale_from, own_scale_for, mss_from}
 use Rattle.tcp_machine.specs.Outgoing.{Outgoing}
 use Rattle.tcp_machine.specs.Calls.{after_writing, after_reading, after_closing, readable}
 use Rattle.tcp_machine.specs.Timers.{after_timers}
 use Rattle.tcp_machine.specs.Due.{due_at}
-use Rattle.tcp_machine.specs.Examples.Ends.{opened_by, ack_segment, syn_segment, text_segment, sends, after_sending, after_segment}
+use Rattle.tcp_machine.specs.Examples.Ends.{settings, opened_by, ack_segment, syn_segment, text_segment, sends, after_sending, after_segment}
 use Rattle.tcp_machine.specs.Examples.Ends.{sent_ack, sent_text}
 
 -- established, with the next number 100 and the peer's 300; rings and windows of twenty octets
@@ -46,6 +47,21 @@ pub record OutOfOrder : Type 0 where
   pub once : readable (after_segment 3 (text_segment 300 100 (1 ∷ 1 ∷ 1 ∷ [])) filled) ≡ 5 ∷ 6 ∷ 7 ∷ []
   -- what overlaps gives what is new
   pub overlap : readable (after_segment 3 (text_segment 302 100 (1 ∷ 8 ∷ [])) filled) ≡ 5 ∷ 6 ∷ 7 ∷ 8 ∷ []
+
+-- A ring of one octet: once that is read, one segment tells the window, and nothing follows it at that instant
+abbrev pub with_one_cell : Connection
+with_one_cell =
+    after_segment 1 (text_segment 300 100 (5 ∷ []))
+    (after_sending 0 (after_segment 0 (syn_segment 299 (Some 100)) (after_sending 0 (opened 0 99 20 1 100 settings))))
+
+abbrev pub read_again : Connection
+read_again = after_reading 1 (after_sending 10001 with_one_cell)
+
+pub record OneCell : Type 0 where
+  pub full : sends 10001 with_one_cell ≡ Some (with_window 0 (sent_ack 100 301))
+  pub quiet : sends 10001 (after_sending 10001 with_one_cell) ≡ None
+  pub told : sends 10001 read_again ≡ Some (with_window 1 (sent_ack 100 301))
+  pub once : sends 10001 (after_sending 10001 read_again) ≡ None
 
 -- One octet goes at once, a second one waits for its acknowledgement, unless Nagle's rule is off or the program closes
 abbrev pub one_sent : Connection
@@ -102,6 +118,49 @@ pub record ClosedWindow : Type 0 where
   pub next : due_at 1000004 probed ≡ Some 3000003
   -- it opens: the rest goes at once
   pub opens : sends 1000005 (after_segment 1000005 (ack_segment 300 102) probed) ≡ Some (sent_text 102 300 (9 ∷ []))
+
+-- All is acknowledged, and the window is open by four octets of twenty. Eight wait: four of them are neither a whole segment,
+-- nor the last ones, nor half of the largest window. The segment that tells a wider window is lost. After the time-out the
+-- four go all the same (RFC 9293 3.8.6.2.1, rule (4)), and their acknowledgement tells it again
+abbrev pub eight : List ℕ
+eight = 1 ∷ 2 ∷ 3 ∷ 4 ∷ 5 ∷ 6 ∷ 7 ∷ 8 ∷ []
+
+abbrev pub narrowed_to : ℕ → Connection
+narrowed_to window = after_writing eight (after_segment 2 (record (ack_segment 300 101) { window = window }) one_sent)
+
+abbrev pub narrow : Connection
+narrow = narrowed_to 4
+
+abbrev pub narrow_timed : Connection
+narrow_timed = after_timers 3 narrow
+
+abbrev pub overridden : Connection
+overridden = after_sending 1000003 (after_timers 1000003 narrow_timed)
+
+abbrev pub with_mss : ℕ → Connection → Connection
+with_mss mss c = record c { transmission = record c.transmission { mss = mss } }
+
+pub record SmallWindow : Type 0 where
+  pub waits : sends 3 narrow_timed ≡ None
+  pub timer_wanted : due_at 3 narrow ≡ Some 3
+  pub due : due_at 3 narrow_timed ≡ Some 1000003
+  pub not_before : sends 1000002 (after_timers 1000002 narrow_timed) ≡ None
+  pub probe : sends 1000003 (after_timers 1000003 narrow_timed) ≡ Some (sent_text 101 300 (1 ∷ 2 ∷ 3 ∷ 4 ∷ []))
+  -- once, until it is lost: then once more
+  pub once : sends 1000003 overridden ≡ None
+  pub next : due_at 1000003 overridden ≡ Some 3000003
+  pub again : sends 3000003 (after_timers 3000003 overridden) ≡ Some (sent_text 101 300 (1 ∷ 2 ∷ 3 ∷ 4 ∷ []))
+  -- its acknowledgement tells a wider window: the rest goes at once
+  pub opens : sends 1000005 (after_segment 1000005 (ack_segment 300 105) overridden)
+      ≡ Some (sent_text 105 300 (5 ∷ 6 ∷ 7 ∷ 8 ∷ []))
+  -- no probe waits where a whole segment has room, or half of the largest window, or all that waits
+  pub whole : sends 3 (with_mss 4 narrow) ≡ Some (sent_text 101 300 (1 ∷ 2 ∷ 3 ∷ 4 ∷ []))
+  pub whole_untimed : (after_timers 3 (with_mss 4 narrow)).timers.resend_at ≡ None
+  pub half_untimed : (after_timers 3 (after_writing eight (narrowed_to 10))).timers.resend_at ≡ None
+  pub all : sends 3 (narrowed_to 8) ≡ Some (sent_text 101 300 eight)
+  pub all_untimed : (after_timers 3 (narrowed_to 8)).timers.resend_at ≡ None
+  -- nor where Nagle's rule holds octets back, as something is on its way then
+  pub nagle : (after_timers 3 one_more).timers.resend_at ≡ one_sent.timers.resend_at
 
 -- The peer's numbers wrap within a segment
 abbrev pub near_the_end : Connection

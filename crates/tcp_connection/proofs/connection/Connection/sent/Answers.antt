@@ -2,7 +2,7 @@ use Rattle.std.proofs.Common.{◌≡◌, ◌-◌, ℕ, sym, ap, ◌∙◌, min, 
 use Rattle.std.specs.Option.{option_map}
 use Rattle.tcp_machine.specs.Connection.{Connection}
 use Rattle.tcp_machine.specs.Outgoing as machine
-use Rattle.tcp_machine.specs.Outgoing.{action, limit_of, next_piece, first_piece}
+use Rattle.tcp_machine.specs.Outgoing.{action, limit_of, next_piece, first_piece, most_again}
 use Rattle.tcp_connection.specs.declared.transmission.Part.{Part}
 use Rattle.tcp_connection.specs.declared.outgoing.Action.TheVariants.{SendNext, SendAgain, SendProbe}
 use Rattle.tcp_connection.specs.Actions.{action_of}
@@ -49,7 +49,7 @@ piece_sent-requires-clause-piece c =
     let part = c.in-SendAgain.part in
     let e : option_map action_of (action c.args.now old) ≡ Some (SendAgain part) = c.requires ∙ ap Some c.in-SendAgain.is in
     let n = again_of c.args.now part old e in
-    is_piece old.transmission.sender.una (old.transmission.mss) old.transmission.sender part n.is_part
+    is_piece old.transmission.sender.una (most_again old) old.transmission.sender part n.is_part
 
 pub probe_sent-requires-clause-sent : goal.probe_sent-requires-clause-sent
 probe_sent-requires-clause-sent c =
@@ -86,7 +86,7 @@ returns-in-SendAgain c =
     let part = c.in-SendAgain.part in
     let e : option_map action_of (action c.args.now old) ≡ Some (SendAgain part) = c.requires ∙ ap Some c.in-SendAgain.is in
     let n = again_of c.args.now part old e in
-    let p = first_piece old.transmission.mss old in
+    let p = first_piece (most_again old) old in
     let v = c.nxt-nxt.ensures.value ∙ ap (λ (x : Connection). x.transmission.nxt) c.self.view_is in
     c.piece_sent.ensures p (sym n.is_part) ∙ ap (λ (k : ℕ). machine.piece_sent c.args.now p k old) v ∙ sym n.is_after
 

@@ -1,0 +1,334 @@
+-- When something is sent once more.
+use Rattle.std.proofs.Common.{◌≡◌, ◌<◌, ◌≤◌, ℕ, Bool, true, false}
+use Rattle.std.proofs.Common.{refl, sym, ap, ◌∙◌, arith, Option, Some, None, inl, inr}
+use Rattle.std.specs.Prelude.{max, nat_le, nat_lt, ◌==◌, ◌&&◌, ◌||◌, not, ◌⊎◌, is_some, is_none, if◌then◌else◌}
+use Rattle.std.proofs.lemmas.Bool.Decides.{nat_tests}
+use Rattle.tcp_machine.specs.declared.state.State.{State}
+use Rattle.tcp_machine.specs.declared.state.State.TheVariants.{Closed, Listen, SynSent, SynReceived, Established, FinWait1}
+use Rattle.tcp_machine.specs.declared.state.State.TheVariants.{FinWait2, CloseWait, Closing, LastAck, TimeWait}
+use Rattle.tcp_machine.specs.declared.timers.Pending.{Pending}
+use Rattle.tcp_machine.specs.declared.timers.Pending.TheVariants.{Empty, Challenge, Resend, Probe, KeepAlive, Reset}
+use Rattle.tcp_machine.specs.declared.timers.Owed.TheVariants.{AtOnce}
+use Rattle.tcp_machine.specs.declared.timers.Ending.{Ending}
+use Rattle.tcp_machine.specs.declared.timers.Ending.TheVariants.{Refused, TimedOut}
+use Rattle.tcp_machine.specs.declared.congestion.Congestion.{Congestion}
+use Rattle.tcp_machine.specs.Instants.{later, has_passed}
+use Rattle.tcp_machine.specs.Positions.{number_at}
+use Rattle.tcp_machine.specs.Pieces.{Piece}
+use Rattle.tcp_machine.specs.Sending.{after_position}
+use Rattle.tcp_machine.specs.Receiving.{expected, with_piece, is_in_window}
+use Rattle.tcp_machine.specs.States.{is_opening, is_synchronized, sends_octets, takes_octets, after_peers_end, after_end_acknowledged}
+use Rattle.tcp_machine.specs.Connection.{Connection}
+use Rattle.tcp_machine.specs.Segments.{Segment, window_in, acceptable_piece, acknowledged_in}
+use Rattle.tcp_machine.specs.Windows.{tells_window, with_window, after_window}
+use Rattle.tcp_machine.specs.Congestion as congestion
+use Rattle.tcp_machine.specs.Acknowledgements as acknowledgements
+use Rattle.tcp_machine.specs.Acknowledgements.{rank, with_pending, empty_position, is_believed, is_end_acknowledged, is_duplicate}
+use Rattle.tcp_machine.specs.Acknowledgements.{after_progress, after_duplicate, after_acked, after_told, after_end, after_acknowledgement}
+use Rattle.tcp_machine.specs.Arrivals.{is_time_wait, is_syn_received, is_closed, with_owed, ended, aborted, with_time_wait, after_entering}
+use Rattle.tcp_machine.specs.Arrivals.{after_unacceptable, why_reset, after_reset, is_own_syn_acknowledged, established}
+use Rattle.tcp_machine.specs.Arrivals.{reception_after, has_text, after_octets_of, has_ended, after_fin, after_text, after_last}
+use Rattle.tcp_machine.specs.Arrivals.{after_position_acknowledged, after_ack_field, heard, after_piece_of, after_segment_arrives}
+use Rattle.tcp_machine.specs.Opening.{with_syn, is_acknowledgement_of_syn, after_wrong_ack, after_syn, after_arrival_in_syn_sent}
+use Rattle.tcp_machine.specs.Opening.{after_arrival_in}
+use Rattle.tcp_machine.specs.Timers.{is_held_back, with_probe_timer, is_given_up, after_loss_of_all, is_unheard}
+use Rattle.tcp_machine.specs.Timers.{after_probe_time, after_resend_timer, most_probes, keep_alive_at, after_keep_alive}
+use Rattle.tcp_machine.specs.Timers.{after_time_wait, after_timers}
+use Rattle.tcp_machine.specs.Outgoing.{Action, SendSyn, SendNext, SendAgain, SendProbe, first_piece, next_piece, has_octets}
+use Rattle.tcp_machine.specs.Outgoing.{is_worth_sending, ack_if, tells_something}
+use Rattle.tcp_machine.specs.Outgoing.{action_pending, is_reset, is_syn_due, action}
+use Rattle.tcp_laws.specs.Again.{HasReason, RetransmissionsWait}
+use Rattle.tcp_laws.proofs.ReceivingSteps.{false_true, first_of_two}
+use Rattle.tcp_laws.proofs.MachineArrivals.{either, last_of}
+use Rattle.tcp_laws.proofs.MachineTimers.{probing, once_more}
+
+-- what is sent
+module _ (now : ℕ) (c : Connection) (p : Piece) where
+  abbrev Owes : Option Action → Type 0
+  Owes o = o ≡ Some (SendAgain p) → c.pending ≡ Resend
+
+  owes_ack : (b : Bool) → Owes (ack_if b)
+  owes_ack true = λ e. cc
+  owes_ack false = λ e. cc
+
+  owes_pending : (q : Pending) → c.pending ≡ q → Owes (action_pending q now c)
+  owes_pending Empty e =
+      either Owes (sends_octets c.state && is_worth_sending c (next_piece c)) (Some (SendNext (next_piece c)))
+      (ack_if (is_synchronized c.state && tells_something now c)) (λ _. λ f. cc)
+      (λ _. owes_ack (is_synchronized c.state && tells_something now c))
+  owes_pending Challenge e = owes_ack (is_synchronized c.state)
+  owes_pending KeepAlive e = λ f. cc
+  owes_pending Probe e =
+      either Owes (sends_octets c.state && has_octets (next_piece c)) (Some (SendNext (next_piece c)))
+      (Some (SendProbe (first_piece 1 c))) (λ _. λ f. cc) (λ _. λ f. cc)
+  owes_pending Resend e = λ f. e
+  owes_pending (Reset number) e = λ f. cc
+
+  owes : Owes (action now c)
+  owes =
+      either Owes (is_opening c.state && not (is_reset c.pending)) (if is_syn_due now c then Some SendSyn else None)
+      (action_pending c.pending now c)
+      (λ _. either Owes (is_syn_due now c) (Some SendSyn) None (λ _. λ f. cc) (λ _. λ f. cc)) (λ _. owes_pending c.pending refl)
+
+-- what arrives
+is_two : (n : ℕ) → (n == 2) ≡ true → n ≡ 2
+is_two n h = grind (arith, nat_tests)
+
+le_max_kept : (m n a : ℕ) → m ≤ n → m ≤ max n a
+le_max_kept m n a h = grind arith
+
+le_one_max : (m n : ℕ) → m ≤ n → m ≤ max 1 n
+le_one_max m n h = grind arith
+
+module _ (c0 : Connection) where
+  abbrev Kept : Connection → Type 0
+  Kept d = (d.pending ≡ Resend → HasReason c0) × (c0.transmission.nxt ≤ d.transmission.nxt)
+
+  kept_first : Kept c0
+  kept_first = (λ e. inl e, omega arith)
+
+  kept_challenge : (d : Connection) → Kept d → Kept (with_pending Challenge d)
+  kept_challenge d h =
+      either Kept (nat_lt (rank d.pending) (rank Challenge)) (record d { pending = Challenge }) d (λ _. (λ e. cc, h.1)) (λ _. h)
+
+  kept_number : (n : ℕ) (d : Connection) → Kept d → Kept (with_pending (Reset n) d)
+  kept_number n d h =
+      either Kept (nat_lt (rank d.pending) (rank (Reset n))) (record d { pending = Reset n }) d (λ _. (λ e. cc, h.1)) (λ _. h)
+
+  kept_ended : (why : Option Ending) (d : Connection) → Kept d → Kept (ended why d)
+  kept_ended why d h = (λ e. cc, h.1)
+
+  kept_unacceptable : (now : ℕ) (s : Segment) (d : Connection) → Kept d → Kept (after_unacceptable now s d)
+  kept_unacceptable now s d h =
+      either Kept s.rst d
+      (if s.fin && is_time_wait d.state then with_time_wait now (with_pending Challenge d) else with_pending Challenge d) (λ _. h) (λ _.
+      either Kept (s.fin && is_time_wait d.state) (with_time_wait now (with_pending Challenge d)) (with_pending Challenge d)
+      (λ _. kept_challenge d h) (λ _. kept_challenge d h))
+
+  kept_reset : (p : Piece) (d : Connection) → Kept d → Kept (after_reset p d)
+  kept_reset p d h =
+      either Kept (p.start == expected d.reception.receiver) (ended (Some (why_reset d)) d)
+      (if is_in_window d.reception.receiver p.start then with_pending Challenge d else d) (λ _. kept_ended (Some (why_reset d)) d h) (λ _.
+      either Kept (is_in_window d.reception.receiver p.start) (with_pending Challenge d) d (λ _. kept_challenge d h) (λ _. h))
+
+  kept_established : (d : Connection) → Kept d → Kept (established d)
+  kept_established d h = (h.0, le_one_max c0.transmission.nxt d.transmission.nxt h.1)
+
+  -- what an acknowledgement makes owed
+  loss_reason : (a : ℕ) (k : Congestion) (q : Pending) → (q ≡ Resend → HasReason c0) → k ≡ c0.congestion → (b : Bool) →
+      congestion.shows_a_loss a k ≡ b → (if b then Resend else q) ≡ Resend → HasReason c0
+  loss_reason a k q h same true f e =
+      inr (inr (ap (λ (x : Congestion). x.is_recovering) (sym same) ∙ first_of_two k.is_recovering (nat_lt a k.recover) f))
+  loss_reason a k q h same false f e = h e
+
+  third_reason : (a : ℕ) (k : Congestion) (q : Pending) → (q ≡ Resend → HasReason c0) → k ≡ c0.congestion → (b : Bool) →
+      congestion.is_third a k ≡ b → (if b then Resend else q) ≡ Resend → HasReason c0
+  third_reason a k q h same true f e =
+      let g = first_of_two (not k.is_recovering && (k.duplicates == 2)) (nat_lt k.recover a) f in
+      let two = is_two k.duplicates (last_of (not k.is_recovering) (k.duplicates == 2) g) in
+      inr (inl (ap (λ (x : Congestion). x.duplicates) (sym same) ∙ two))
+  third_reason a k q h same false f e = h e
+
+  module _ (now a : ℕ) (s : Segment) (p : Piece) where
+    kept_acked : (d : Connection) → Kept d → d.congestion ≡ c0.congestion → Kept (after_acked now a s p d)
+    kept_acked d h same =
+        let t = d.transmission in
+        let window = window_in d s in
+        either Kept (nat_lt t.sender.una a) (after_progress now a window d) (after_duplicate a window p d) (λ _. (
+          loss_reason a d.congestion d.pending h.0 same (congestion.shows_a_loss a d.congestion) refl,
+          le_max_kept c0.transmission.nxt t.nxt a h.1,
+        )) (λ _.
+        either Kept (is_duplicate a window p t) (record d {
+          congestion = congestion.after_duplicate t.mss a (acknowledgements.flight t) t.sender.top d.congestion;
+          pending = if congestion.is_third a d.congestion then Resend else d.pending;
+        }) (record d { transmission = record t { sender = after_position a window t.sender } }) (λ _. (
+          third_reason a d.congestion d.pending h.0 same (congestion.is_third a d.congestion) refl,
+          h.1,
+        )) (λ _. h))
+
+    kept_window : (d : Connection) (window : ℕ) → Kept d → (b : Bool) →
+        Kept (record d { transmission = if b then with_window p.start a window d.transmission else d.transmission })
+    kept_window d window h true = h
+    kept_window d window h false = h
+
+    kept_told : (c d : Connection) → Kept d → Kept (after_told a s p c d)
+    kept_told c d h =
+        either Kept (nat_le c.transmission.sender.una a)
+        (record d { transmission = after_window p.start a (window_in c s) d.transmission }) d
+        (λ _. kept_window d (window_in c s) h (tells_window p.start a d.transmission)) (λ _. h)
+
+    kept_end : (d : Connection) → Kept d → Kept (after_end d)
+    kept_end d h =
+        either Kept (is_end_acknowledged d.transmission.sender) (record d { state = after_end_acknowledged d.state }) d (λ _. h) (λ _. h)
+
+    kept_acknowledgement : (d : Connection) → Kept d → d.congestion ≡ c0.congestion → Kept (after_acknowledgement now a s p d)
+    kept_acknowledgement d h same =
+        kept_end (after_told a s p d (after_acked now a s p d)) (kept_told d (after_acked now a s p d) (kept_acked d h same))
+
+  kept_entering : (now : ℕ) (before : State) (d : Connection) → Kept d → Kept (after_entering now before d)
+  kept_entering now before d h =
+      either Kept (is_time_wait d.state && not (is_time_wait before)) (with_time_wait now d) d (λ _. h) (λ _. h)
+
+  kept_last : (d : Connection) → Kept d → Kept (after_last d)
+  kept_last d h = either Kept (is_closed d.state) (ended None d) d (λ _. kept_ended None d h) (λ _. h)
+
+  module _ (now : ℕ) (keeps : Bool) (s : Segment) (p : Piece) where
+    kept_octets : (d : Connection) → Kept d → Kept (after_octets_of now keeps p d)
+    kept_octets d h =
+        either Kept (not (takes_octets d.state && has_text p)) d
+        (if keeps
+        then record d { reception = reception_after now d.settings (with_piece p d.reception.receiver) d.reception }
+        else with_owed AtOnce d) (λ _. h) (λ _.
+        either Kept keeps (record d { reception = reception_after now d.settings (with_piece p d.reception.receiver) d.reception })
+        (with_owed AtOnce d) (λ _. h) (λ _. h))
+
+    kept_fin : (d : Connection) → Kept d → Kept (after_fin now d)
+    kept_fin d h =
+        let e : Connection = record (with_owed AtOnce d) { state = after_peers_end d.state } in
+        either Kept (takes_octets d.state && has_ended d.reception.receiver) (after_entering now d.state e) d
+        (λ _. kept_entering now d.state e h) (λ _. h)
+
+    kept_position : (o : Option ℕ) (d : Connection) → Kept d → d.congestion ≡ c0.congestion → Kept (after_position_acknowledged now keeps o s p d)
+    kept_position None d h same = kept_challenge d h
+    kept_position (Some a) d h same =
+        let e = after_entering now d.state (after_acknowledgement now a s p d) in
+        either Kept (is_believed a d.transmission) (after_text now keeps p (after_last e)) (with_pending Challenge d)
+        (λ _. kept_fin (after_octets_of now keeps p (after_last e)) (kept_octets (after_last e)
+        (kept_last e (kept_entering now d.state (after_acknowledgement now a s p d) (kept_acknowledgement now a s p d h same)))))
+        (λ _. kept_challenge d h)
+
+    kept_field : (o : Option ℕ) (d : Connection) → Kept d → d.congestion ≡ c0.congestion → Kept (after_ack_field now keeps o s p d)
+    kept_field None d h same = h
+    kept_field (Some n) d h same =
+        either Kept (not (is_syn_received d.state)) (after_position_acknowledged now keeps (acknowledged_in d n) s p d)
+        (if n == number_at d.local 1 then after_position_acknowledged now keeps (Some 1) s p (established d) else with_pending (Reset n) d)
+        (λ _. kept_position (acknowledged_in d n) d h same) (λ _.
+        either Kept (n == number_at d.local 1) (after_position_acknowledged now keeps (Some 1) s p (established d))
+        (with_pending (Reset n) d) (λ _. kept_position (Some 1) (established d) (kept_established d h) same) (λ _. kept_number n d h))
+
+  kept_piece : (now : ℕ) (keeps : Bool) (s : Segment) (o : Option Piece) → Kept (after_piece_of now keeps o s c0)
+  kept_piece now keeps s None = kept_unacceptable now s c0 kept_first
+  kept_piece now keeps s (Some p) =
+      either Kept s.rst (after_reset p c0) (after_ack_field now keeps s.ack s p (heard now c0)) (λ _. kept_reset p c0 kept_first)
+      (λ _. kept_field now keeps s p s.ack (heard now c0) kept_first refl)
+
+  kept_arrival : (now : ℕ) (keeps : Bool) (s : Segment) → Kept (after_segment_arrives now keeps s c0)
+  kept_arrival now keeps s =
+      either Kept (s.syn && not s.rst)
+      (if is_own_syn_acknowledged s c0 then with_owed AtOnce (established c0) else with_pending Challenge c0)
+      (after_piece_of now keeps (acceptable_piece c0 s) s c0) (λ _.
+      either Kept (is_own_syn_acknowledged s c0) (with_owed AtOnce (established c0)) (with_pending Challenge c0)
+      (λ _. kept_established c0 kept_first) (λ _. kept_challenge c0 kept_first)) (λ _. kept_piece now keeps s (acceptable_piece c0 s))
+
+  module _ (default link now : ℕ) (s : Segment) where
+    kept_syn : (b : Bool) → Kept (after_syn default link now b s c0)
+    kept_syn true = kept_established (with_syn default link s (heard now c0)) kept_first
+    kept_syn false = kept_first
+
+    kept_wrong : (o : Option ℕ) → Kept (after_wrong_ack o s c0)
+    kept_wrong None = kept_first
+    kept_wrong (Some n) = either Kept s.rst c0 (with_pending (Reset n) c0) (λ _. kept_first) (λ _. kept_number n c0 kept_first)
+
+    kept_asking : Kept (after_arrival_in_syn_sent default link now s c0)
+    kept_asking =
+        either Kept (is_acknowledgement_of_syn s c0)
+        (if s.rst then ended (Some Refused) c0 else if s.syn then after_syn default link now true s c0 else c0)
+        (if is_some s.ack then after_wrong_ack s.ack s c0 else if s.syn && not s.rst then after_syn default link now false s c0 else c0) (λ _.
+        either Kept s.rst (ended (Some Refused) c0) (if s.syn then after_syn default link now true s c0 else c0)
+        (λ _. kept_ended (Some Refused) c0 kept_first) (λ _.
+        either Kept s.syn (after_syn default link now true s c0) c0 (λ _. kept_syn true) (λ _. kept_first))) (λ _.
+        either Kept (is_some s.ack) (after_wrong_ack s.ack s c0)
+        (if s.syn && not s.rst then after_syn default link now false s c0 else c0) (λ _. kept_wrong s.ack) (λ _.
+        either Kept (s.syn && not s.rst) (after_syn default link now false s c0) c0 (λ _. kept_syn false) (λ _. kept_first)))
+
+  kept_in : (default link now : ℕ) (keeps : Bool) (s : Segment) (t : State) → Kept (after_arrival_in t default link now keeps s c0)
+  kept_in default link now keeps s Closed = kept_first
+  kept_in default link now keeps s Listen = kept_first
+  kept_in default link now keeps s SynSent = kept_asking default link now s
+  kept_in default link now keeps s SynReceived = kept_arrival now keeps s
+  kept_in default link now keeps s Established = kept_arrival now keeps s
+  kept_in default link now keeps s FinWait1 = kept_arrival now keeps s
+  kept_in default link now keeps s FinWait2 = kept_arrival now keeps s
+  kept_in default link now keeps s CloseWait = kept_arrival now keeps s
+  kept_in default link now keeps s Closing = kept_arrival now keeps s
+  kept_in default link now keeps s LastAck = kept_arrival now keeps s
+  kept_in default link now keeps s TimeWait = kept_arrival now keeps s
+
+-- timers
+module _ (c0 : Connection) (now : ℕ) where
+  abbrev Still : Connection → Type 0
+  Still d = (d.pending ≡ Resend → c0.pending ≡ Resend) × (has_passed c0.timers.resend_at now ≡ false → d.transmission.nxt ≡ c0.transmission.nxt)
+
+  still_ended : (why : Option Ending) (d : Connection) → Still d → Still (ended why d)
+  still_ended why d h = (λ e. cc, h.1)
+
+  still_aborted : (why : Ending) (d : Connection) → Still d → Still (aborted why d)
+  still_aborted why d h =
+      either Still (is_synchronized d.state || is_syn_received d.state)
+      (record (ended (Some why) d) { pending = Reset (number_at d.local (empty_position d.transmission)) }) (ended (Some why) d)
+      (λ _. (λ e. cc, h.1)) (λ _. still_ended (Some why) d h)
+
+  still_probe : (d : Connection) → Still d → Still (with_pending Probe d)
+  still_probe d h =
+      either Still (nat_lt (rank d.pending) (rank Probe)) (record d { pending = Probe }) d (λ _. (λ e. cc, h.1)) (λ _. h)
+
+  still_keep : (d : Connection) → Still d → Still (with_pending KeepAlive d)
+  still_keep d h =
+      either Still (nat_lt (rank d.pending) (rank KeepAlive)) (record d { pending = KeepAlive }) d (λ _. (λ e. cc, h.1)) (λ _. h)
+
+  still_wait : (d : Connection) → Still d → Still (after_time_wait now d)
+  still_wait d h = either Still (has_passed d.timers.ends_at now) (ended None d) d (λ _. still_ended None d h) (λ _. h)
+
+  -- the time-out of a connection that is gone hasn't ended
+  passed : (o p : Option ℕ) → ((o ≡ p) ⊎ (o ≡ None)) → not (has_passed o now) ≡ false → has_passed p now ≡ false → ⊥
+  passed o p (inl e) f g = false_true (sym f ∙ ap (λ o. not (has_passed o now)) e ∙ ap not g)
+  passed o p (inr e) f g = false_true (sym f ∙ ap (λ o. not (has_passed o now)) e)
+
+  still_resend : (d : Connection) → Still d → ((d.timers.resend_at ≡ c0.timers.resend_at) ⊎ (d.timers.resend_at ≡ None)) →
+      Still (after_resend_timer now d)
+  still_resend d h same =
+      either Still (not (has_passed d.timers.resend_at now)) d
+      (if is_held_back d && not (is_opening d.state) then after_probe_time now d
+      else if is_given_up now d then aborted TimedOut d else after_loss_of_all d) (λ _. h) (λ f.
+      either Still (is_held_back d && not (is_opening d.state)) (after_probe_time now d)
+      (if is_given_up now d then aborted TimedOut d else after_loss_of_all d) (λ _.
+      either Still (is_unheard now d && nat_lt 0 d.timers.probes) (aborted TimedOut d) (with_pending Probe (probing d))
+      (λ _. still_aborted TimedOut d h) (λ _. still_probe (probing d) h)) (λ _.
+      either Still (is_given_up now d) (aborted TimedOut d) (after_loss_of_all d) (λ _. still_aborted TimedOut d h)
+      (λ _. (h.0, λ g. absurd (passed d.timers.resend_at c0.timers.resend_at same f g)))))
+
+  still_alive : (d : Connection) → Still d → Still (after_keep_alive now d)
+  still_alive d h =
+      either Still (not (has_passed (keep_alive_at d) now)) d
+      (if nat_le most_probes d.timers.probes then aborted TimedOut d else with_pending KeepAlive (once_more now d)) (λ _. h) (λ _.
+      either Still (nat_le most_probes d.timers.probes) (aborted TimedOut d) (with_pending KeepAlive (once_more now d))
+      (λ _. still_aborted TimedOut d h) (λ _. still_keep (once_more now d) h))
+
+  still_timer : (d : Connection) → Still d → Still (with_probe_timer now d)
+  still_timer d h =
+      either Still (is_none d.timers.resend_at && sends_octets d.state && is_held_back d)
+      (record d { timers = record d.timers { resend_at = Some (later now d.estimator.timeout) } }) d (λ _. h) (λ _. h)
+
+  abbrev Sameness : Connection → Type 0
+  Sameness d = (d.timers.resend_at ≡ c0.timers.resend_at) ⊎ (d.timers.resend_at ≡ None)
+
+  same_wait : Sameness (after_time_wait now c0)
+  same_wait = either Sameness (has_passed c0.timers.ends_at now) (ended None c0) c0 (λ _. inr refl) (λ _. inl refl)
+
+  still : Still (after_timers now c0)
+  still =
+      let a = after_time_wait now c0 in
+      let b = after_resend_timer now a in
+      still_timer (after_keep_alive now b) (still_alive b (still_resend a (still_wait c0 (λ e. e, λ _. refl)) same_wait))
+
+less_passed : (b : Bool) (n m : ℕ) → (b ≡ false → n ≡ m) → n < m → b ≡ true
+less_passed true n m h l = refl
+less_passed false n m h l = let e = h refl in absurd (omega (arith, e, l))
+
+pub retransmissions_wait : RetransmissionsWait
+retransmissions_wait = record {
+  sent = λ now c p e. owes now c p e;
+  arrivals = λ default link now keeps s c. kept_in c default link now keeps s c.state;
+  timers = λ now c e. (still c now).0 e;
+  back = λ now c l. less_passed (has_passed c.timers.resend_at now) (after_timers now c).transmission.nxt c.transmission.nxt (still c now).1 l;
+}
