@@ -32,6 +32,9 @@ still_nowhere e ends place nowhere p has = by (p == place) (nat_lt place (length
 
 -- what was read of a place is its slot, and its connection alone is changed
 pub connection_set : (h : Host) (place : ℕ) (seen : Slot) (c : Connection) → seen ≡ get_or h.slots place no_slot →
-    record h { slots = set h.slots place (record { connection = c; owner = seen.owner; generation = seen.generation }) } ≡ with_connection place c h
+    record h { slots = set h.slots place (record { connection = c; owner = seen.owner; generation = seen.generation; challenges = seen.challenges }) }
+    ≡ with_connection place c h
 connection_set h place seen c e =
-    ap (λ (s : Slot). record h { slots = set h.slots place (record { connection = c; owner = s.owner; generation = s.generation }) }) e
+    ap (λ (s : Slot). record h {
+      slots = set h.slots place (record { connection = c; owner = s.owner; generation = s.generation; challenges = s.challenges });
+    }) e

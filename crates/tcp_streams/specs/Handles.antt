@@ -11,6 +11,7 @@ use Rattle.tcp_streams.specs.declared.slot.Owner.{Owner}
 use Rattle.tcp_streams.specs.declared.slot.Owner.TheVariants.{Program, Itself}
 use Rattle.tcp_streams.specs.declared.calls.Handle.{Handle}
 use Rattle.tcp_streams.specs.Arrivals.{is_proper}
+use Rattle.tcp_streams.specs.Challenges.{all_challenges}
 use Rattle.tcp_streams.specs.Host.{Host, slot_at, connection_at, with_slot, with_connection, with_owner, with_alarm, enrolled, link_mss, settings_for, listener_at, with_listener}
 use Rattle.ip_address.specs.declared.ip.IpAddress.{IpAddress}
 use Rattle.tcp_host.specs.Backlog.{first_of}
@@ -52,6 +53,7 @@ opened_at place now e h =
           (length (connection_at place h).reception.receiver.cells) (link_mss h.config e.remote_addr) (settings_for h.config e.remote_addr);
       owner = Program;
       generation = ((slot_at place h).generation + 1) % 2 ^ 64;
+      challenges = all_challenges;
     }) h)
 
 abbrev pub with_settings : Settings → Connection → Connection

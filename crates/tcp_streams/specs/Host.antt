@@ -12,6 +12,7 @@ use Rattle.tcp_streams.specs.declared.slot.Slot.{Slot}
 use Rattle.tcp_streams.specs.declared.slot.Owner.{Owner}
 use Rattle.tcp_streams.specs.declared.slot.Owner.TheVariants.{Nobody}
 use Rattle.tcp_streams.specs.declared.config.Config.{Config}
+use Rattle.tcp_streams.specs.Challenges.{all_challenges}
 
 pub record Host : Type 0 where
   -- at each place a connection, the ends of it, when something is due, and 0 if the place is free
@@ -42,7 +43,7 @@ no_settings = record {
 
 -- what stands past the last place
 unfoldable pub no_slot : Slot
-no_slot = record { connection = opened 0 0 0 0 0 no_settings; owner = Nobody; generation = 0 }
+no_slot = record { connection = opened 0 0 0 0 0 no_settings; owner = Nobody; generation = 0; challenges = all_challenges }
 
 abbrev pub slot_at : ℕ → Host → Slot
 slot_at place h = get_or h.slots place no_slot
@@ -83,7 +84,12 @@ enrolled place e h = record h {
 abbrev pub occupied : ℕ → Endpoints → Owner → Connection → Host → Host
 occupied place e owner c h =
     enrolled place e
-    (with_slot place (record { connection = c; owner = owner; generation = ((slot_at place h).generation + 1) % 2 ^ 64 }) h)
+    (with_slot place (record {
+      connection = c;
+      owner = owner;
+      generation = ((slot_at place h).generation + 1) % 2 ^ 64;
+      challenges = all_challenges;
+    }) h)
 
 -- what is said of the family of an address: the MSS of a peer that tells none (RFC 9293 3.7.1), and the most octets of a segment
 abbrev pub default_mss : IpAddress → ℕ

@@ -1,3 +1,4 @@
+pub mod Challenges
 pub mod Host
 pub mod Resets
 pub mod Arrivals

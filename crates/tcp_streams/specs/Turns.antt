@@ -1,6 +1,10 @@
 -- What a host sends, and what happens by itself: a turn of the connection at which something is due first.
-use Rattle.std.specs.Prelude.{◌≡◌, ◌<◌, ℕ, ◌+◌, min, max, nat_lt, length, get_or, slice_set, Option, Some, None, if◌then◌else◌}
+use Rattle.std.specs.Prelude.{◌≡◌, ◌<◌, ℕ, ◌+◌, ◌-◌, min, max, nat_lt, nat_le, Bool, ◌&&◌, length, get_or, slice_set, Option, Some, None, if◌then◌else◌}
 use Rattle.tcp_machine.specs.Arrivals.{is_closed}
+use Rattle.tcp_machine.specs.Connection.{Connection}
+use Rattle.tcp_connection.specs.Asked.{offered_scale}
+use Rattle.tcp_connection.specs.declared.outgoing.Header.{Header}
+use Rattle.tcp_host.specs.declared.iss.Endpoints.{Endpoints}
 use Rattle.tcp_machine.specs.Calls.{after_abort}
 use Rattle.tcp_machine.specs.Due.{due_at}
 use Rattle.tcp_machine.specs.Outgoing as outgoing
@@ -13,7 +17,8 @@ use Rattle.tcp_streams.specs.declared.slot.Owner.{Owner}
 use Rattle.tcp_streams.specs.declared.slot.Owner.TheVariants.{HalfOpen, Waiting, Program, Itself}
 use Rattle.tcp_streams.specs.declared.turns.Turn.{Turn}
 use Rattle.tcp_streams.specs.declared.turns.Turn.TheVariants.{Idle, Quiet, Sends}
-use Rattle.tcp_streams.specs.Host.{Host, never, slot_at, connection_at, with_connection, with_owner, with_alarm, vacated, listener_at, with_listener}
+use Rattle.tcp_streams.specs.Challenges.{is_challenge_left, slot_after_sending}
+use Rattle.tcp_streams.specs.Host.{Host, never, slot_at, connection_at, with_slot, with_connection, with_owner, with_alarm, vacated, listener_at, with_listener, link_mss}
 
 -- what timers do that have ended
 abbrev pub expired : (place now : ℕ) → Host → Host
@@ -60,18 +65,27 @@ rested place now h =
 abbrev pub before_sending : (place now : ℕ) → Host → Host
 before_sending place now h = advanced place (expired place now h)
 
+abbrev pub left_at : (place now : ℕ) → Host → Host
+left_at place now h = with_alarm place now (with_connection place (after_sending now (connection_at place h)) h)
+
 abbrev pub turn_by : Option outgoing.Action → (place now : ℕ) → Host → Turn × Host
 turn_by None place now h = (Quiet, rested place now h)
 turn_by (Some a) place now h = (Sends place (action_of a), h)
 
+-- a challenge that may not be sent is left: it counts as sent, as if the link had lost it
+abbrev pub turn_asked : (place now : ℕ) → Host → Turn × Host
+turn_asked place now h =
+    if is_challenge_left now (slot_at place h) then (Quiet, left_at place now h)
+    else turn_by (outgoing.action now (connection_at place h)) place now h
+
 abbrev pub turn_at : (place now : ℕ) → Host → Turn × Host
 turn_at place now h =
     if nat_lt now (get_or h.alarms place 0) then (Idle, h)
-    else turn_by (outgoing.action now (connection_at place (before_sending place now h))) place now (before_sending place now h)
+    else turn_asked place now (before_sending place now h)
 
 -- what the connection at a place sent was sent
 abbrev pub sent_at : (place now : ℕ) → Host → Host
-sent_at place now h = with_alarm place now (with_connection place (after_sending now (connection_at place h)) h)
+sent_at place now h = with_alarm place now (with_slot place (slot_after_sending now (slot_at place h)) h)
 
 abbrev pub sent_if : (place now : ℕ) → Host → Host
 sent_if place now h = if nat_lt place (length h.slots) then sent_at place now h else h
@@ -89,3 +103,24 @@ pub record TakesTurn (now : ℕ) (old : Host) (turn : Turn) (new : Host) : Type 
 abbrev pub IsPollAt : Host → Option ℕ → Type 0
 IsPollAt h None = IsLeast h.alarms never
 IsPollAt h (Some t) = IsLeast h.alarms t × (t < never)
+
+-- the options of a SYN (RFC 9293 3.7.1, RFC 7323 2.2); other segments have none
+abbrev pub mss_of : Endpoints → Header → Host → Option ℕ
+mss_of e header h = if header.syn then Some (link_mss h.config e.remote_addr) else None
+
+abbrev pub scale_of : Header → Connection → Option ℕ
+scale_of header c = if header.syn then offered_scale c else None
+
+-- the peer has answered, and something came from it within the last minute
+abbrev pub is_peer_heard : ℕ → Connection → Bool
+is_peer_heard now c = is_synchronized c.state && nat_le (now - c.timers.heard_at) 60000000
+
+abbrev pub is_heard : (place now : ℕ) → Host → Bool
+is_heard place now h = nat_lt place (length h.slots) && is_peer_heard now (connection_at place h)
+
+-- the connection at a place is aborted (RFC 9293 3.10.5)
+abbrev pub aborted_at : ℕ → Host → Host
+aborted_at place h = with_alarm place 0 (with_connection place (after_abort (connection_at place h)) h)
+
+abbrev pub aborted_if : ℕ → Host → Host
+aborted_if place h = if nat_lt place (length h.slots) then aborted_at place h else h

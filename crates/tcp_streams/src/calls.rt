@@ -1,5 +1,6 @@
 //! What a program does with its connections (RFC 9293 3.10.1 to 3.10.5).
-ghost use Rattle.std.specs.Prelude.{◌≡◌, ◌<◌, ◌++◌, ℕ, length, drop, max, true, false, Ok, Err, None, Some, IsErr, IfOk, OnOk, OnErr};
+ghost use Rattle.std.specs.Prelude.{◌≡◌, ◌<◌, ◌++◌, ℕ, length, drop, max, true, false, Ok, Err, None, Some, IsErr, IsNone, IfOk, OnOk, OnErr};
+ghost use Rattle.std.specs.Option.{option_map};
 ghost use Rattle.tcp_machine.specs.Calls as calls;
 ghost use Rattle.tcp_host.specs.Table.{IsNowhere, IsPlaceOf};
 ghost use Rattle.tcp_host.specs.Backlog.{first_of};
@@ -87,7 +88,11 @@ impl TcpHost {
     }
 
     /// The octets in order that aren't read, lent by the connection. None with a wrong handle.
-    pub fn peek_slice(&self, handle: Handle) -> Option<&[u8]> {
+    pub fn peek_slice(&self, handle: Handle) -> Option<&[u8]>
+        ensures wrong { spec.is_named handle self.now ≡ false → IsNone result }
+        ensures value { spec.is_named handle self.now ≡ true
+            → option_map (λ octets. octets.now) result ≡ Some (calls.readable (connection_at handle.place self.now)) }
+    {
         if self.is_named(handle) {
             Some(self.slots[handle.place].connection.peek())
         } else {

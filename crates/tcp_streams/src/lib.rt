@@ -4,6 +4,7 @@
 pub mod arrivals;
 pub mod calls;
 pub mod config;
+pub mod getters;
 pub mod host;
 pub mod resets;
 pub mod slot;

@@ -2,11 +2,24 @@
 ghost use Rattle.std.specs.Prelude.{◌≡◌, ◌≤◌, ◌+◌, ◌%◌, ◌^◌, [], length};
 ghost use Rattle.tcp_machine.specs.Opening.{accepted, opened};
 ghost use Rattle.tcp_connection.specs.Segments.{segment_of};
+ghost use Rattle.tcp_connection.specs.Actions.{after_sending};
+ghost use Rattle.tcp_connection.specs.Asked.{is_only_challenged};
 ghost use Rattle.tcp_streams.specs.declared.slot.Owner.TheVariants.{Program};
+ghost use Rattle.tcp_streams.specs.Challenges as spec;
+ghost use Rattle.tcp_streams.specs.Challenges.{all_challenges};
 
 use tcp_connection::connection::Connection;
 use tcp_connection::segment::Segment;
 use tcp_machine::settings::Settings;
+use token_bucket::bucket::{Bucket, few_are_taken};
+
+/// How many challenges a connection may send at once, and the interval in which one more may be, in microseconds: at most ten
+/// in any second (RFC 5961 7).
+pub(crate) const CHALLENGES: Bucket = Bucket {
+    interval: 200_000,
+    depth: 5,
+    full_at: 0,
+};
 
 /// Whose a connection is.
 #[derive(Clone, Copy, Debug, PartialEq, Eq)]
@@ -30,6 +43,8 @@ pub struct Slot {
     pub owner: Owner,
     /// How often the place was given to another connection: a handle with another generation names nothing.
     pub generation: u64,
+    /// How many challenges the connection may send.
+    pub challenges: Bucket,
 }
 
 impl Slot {
@@ -50,12 +65,14 @@ impl Slot {
               (length self.old.connection.reception.receiver.cells) default link settings.now (segment_of segment.now []);
           owner = owner;
           generation = (self.old.generation + 1) % 2 ^ 64;
+          challenges = all_challenges;
         } }
     {
         self.connection
             .accept(now, number, default, link, settings, segment);
         self.owner = owner;
         self.generation = self.generation.wrapping_add(1);
+        self.challenges = CHALLENGES;
     }
 
     /// The program opens a connection.
@@ -66,10 +83,54 @@ impl Slot {
               (length self.old.connection.reception.receiver.cells) link settings.now;
           owner = Program;
           generation = (self.old.generation + 1) % 2 ^ 64;
+          challenges = all_challenges;
         } }
     {
         self.connection.open(now, number, link, settings);
         self.owner = Owner::Program;
         self.generation = self.generation.wrapping_add(1);
+        self.challenges = CHALLENGES;
+    }
+
+    /// Whether what the connection sends now is a challenge that it may not send.
+    pub(crate) fn is_challenge_left(&self, now: u64) -> bool
+        ensures { result ≡ spec.is_challenge_left now self.now }
+    {
+        let mut challenges = self.challenges;
+        self.connection.is_only_challenged(now) && !challenges.take(now)
+    }
+
+    /// What the connection sends now counts as sent, as if the link had lost it.
+    pub(crate) fn leave(&mut self, now: u64)
+        ensures { self.new ≡ record self.old { connection = after_sending now self.old.connection } }
+    {
+        after_sending(&mut self.connection, now);
+    }
+
+    /// What the connection sends now was sent, if it sends anything. A challenge is counted.
+    pub(crate) fn sent(&mut self, now: u64)
+        ensures { self.new ≡ spec.slot_after_sending now self.old }
+    {
+        if self.connection.is_only_challenged(now) {
+            let _is_there = self.challenges.take(now);
+        }
+        after_sending(&mut self.connection, now);
+    }
+}
+
+/// In any second a connection sends at most ten challenges: so many tokens its bucket has for the instants of a second, in whatever
+/// order they come.
+pub fn challenges_are_few()
+    ensures { spec.AtMostTen }
+{
+    few_are_taken();
+}
+
+// What a connection sends now was sent, if it sends anything.
+fn after_sending(connection: &mut Connection, now: u64)
+    ensures { connection.new ≡ after_sending now connection.old }
+{
+    if let Some(action) = connection.next_action(now) {
+        connection.sent(now, &action);
     }
 }

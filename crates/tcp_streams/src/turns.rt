@@ -1,7 +1,7 @@
 //! What a host sends, and when (RFC 9293 3.10.8 and what follows from calls and arrivals).
 ghost use Rattle.std.specs.Prelude.{◌≡◌, ◌<◌, length, slice_index, None, Some, IfSome, IsNone};
 ghost use Rattle.tcp_machine.specs.Outgoing as outgoing;
-ghost use Rattle.tcp_connection.specs.Actions.{IsHeader, AreOctets, after_sending};
+ghost use Rattle.tcp_connection.specs.Actions.{IsHeader, AreOctets};
 ghost use Rattle.tcp_host.specs.Alarms.{IsLeast};
 ghost use Rattle.tcp_host.specs.Table.{ends_at};
 ghost use Rattle.tcp_streams.specs.Host.{slot_at, connection_at};
@@ -14,6 +14,9 @@ use tcp_connection::outgoing::{Action, Header};
 use tcp_connection::states::{is_closed, is_synchronized};
 use tcp_host::alarms::NEVER;
 use tcp_host::iss::Endpoints;
+
+/// For how long who sent something counts as heard: a minute, in microseconds.
+const HEARD: u64 = 60_000_000;
 
 /// What a turn comes to.
 #[derive(Clone, Copy, Debug)]
@@ -37,15 +40,6 @@ pub struct Outgoing<'a> {
     /// The window scale option.
     pub scale: Option<u8>,
     pub octets: &'a [u8],
-}
-
-// What a connection sends now was sent, if it sends anything.
-fn after_sending(connection: &mut Connection, now: u64)
-    ensures { connection.new ≡ after_sending now connection.old }
-{
-    if let Some(action) = connection.next_action(now) {
-        connection.sent(now, &action);
-    }
 }
 
 impl TcpHost {
@@ -79,8 +73,29 @@ impl TcpHost {
         self.slots[place].connection.expire(now);
     }
 
-    // What the connection at a place sends.
+    // What the connection at a place sends. A challenge that it may not send is left.
     fn ask(&mut self, place: usize, now: u64) -> Turn
+        requires { place < length self.old.slots }
+        ensures { (result, self.new) ≡ spec.turn_asked place now self.old }
+    {
+        if self.slots[place].is_challenge_left(now) {
+            self.leave(place, now);
+            return Turn::Quiet;
+        }
+        self.ask_connection(place, now)
+    }
+
+    // What the connection at a place sends now isn't sent, and counts as sent.
+    fn leave(&mut self, place: usize, now: u64)
+        requires { place < length self.old.slots }
+        ensures { self.new ≡ spec.left_at place now self.old }
+    {
+        self.slots[place].leave(now);
+        self.alarms.set(place, now);
+    }
+
+    // What the connection at a place sends, whatever it may.
+    fn ask_connection(&mut self, place: usize, now: u64) -> Turn
         requires { place < length self.old.slots }
         ensures { (result, self.new) ≡ spec.turn_by (outgoing.action now (connection_at place self.old)) place now self.old }
     {
@@ -180,7 +195,7 @@ impl TcpHost {
         requires { place < length self.old.slots }
         ensures { self.new ≡ spec.sent_at place now self.old }
     {
-        after_sending(&mut self.slots[place].connection, now);
+        self.slots[place].sent(now);
         self.alarms.set(place, now);
     }
 
@@ -199,6 +214,8 @@ impl TcpHost {
         ensures ends { IfSome result (λ o. ends_at self.now.ends place ≡ Some o.endpoints) }
         ensures header { IfSome result (λ o. IsHeader action.now (connection_at place self.now) o.header) }
         ensures octets { IfSome result (λ o. AreOctets action.now (connection_at place self.now) o.octets.now) }
+        ensures mss { IfSome result (λ o. o.mss ≡ spec.mss_of o.endpoints o.header self.now) }
+        ensures scale { IfSome result (λ o. o.scale ≡ spec.scale_of o.header (connection_at place self.now)) }
         ensures none { IsNone result → ends_at self.now.ends place ≡ None }
     {
         if place >= self.slots.len() {
@@ -210,18 +227,46 @@ impl TcpHost {
         Some(Outgoing {
             endpoints,
             header,
-            mss: if header.syn {
-                Some(self.link_mss(&endpoints.remote_addr))
-            } else {
-                None
-            },
-            scale: if header.syn {
-                connection.offered_scale()
-            } else {
-                None
-            },
+            mss: self.mss_of(&endpoints, &header),
+            scale: scale_of(&header, connection),
             octets: connection.octets(action),
         })
+    }
+
+    // The MSS option of a segment between two ends.
+    fn mss_of(&self, endpoints: &Endpoints, header: &Header) -> Option<u16>
+        ensures { result ≡ spec.mss_of endpoints.now header.now self.now }
+    {
+        if header.syn {
+            Some(self.link_mss(&endpoints.remote_addr))
+        } else {
+            None
+        }
+    }
+
+    /// Whether the peer of the connection at a place has answered, and something came from it within the last minute.
+    pub fn is_heard(&self, place: usize, now: u64) -> bool
+        ensures { result ≡ spec.is_heard place now self.now }
+    {
+        place < self.slots.len() && is_heard(&self.slots[place].connection, now)
+    }
+
+    /// The connection at a place is aborted, whoever has it (RFC 9293 3.10.5). Nothing changes if there is no such place.
+    pub fn abort_at(&mut self, place: usize)
+        ensures { self.new ≡ spec.aborted_if place self.old }
+    {
+        if place < self.slots.len() {
+            self.abort_there(place);
+        }
+    }
+
+    // The connection at a place that there is is aborted.
+    fn abort_there(&mut self, place: usize)
+        requires { place < length self.old.slots }
+        ensures { self.new ≡ spec.aborted_at place self.old }
+    {
+        self.slots[place].connection.abort();
+        self.alarms.set(place, 0);
     }
 
     /// When something is due first: `None`, if nothing is due by itself.
@@ -231,4 +276,22 @@ impl TcpHost {
         let least = self.alarms.least();
         if least == NEVER { None } else { Some(least) }
     }
+}
+
+// The window scale option of a segment.
+fn scale_of(header: &Header, connection: &Connection) -> Option<u8>
+    ensures { result ≡ spec.scale_of header.now connection.now }
+{
+    if header.syn {
+        connection.offered_scale()
+    } else {
+        None
+    }
+}
+
+// Whether the peer has answered, and something came from it within the last minute.
+fn is_heard(connection: &Connection, now: u64) -> bool
+    ensures { result ≡ spec.is_peer_heard now connection.now }
+{
+    is_synchronized(connection.state()) && now.saturating_sub(connection.heard_at()) <= HEARD
 }

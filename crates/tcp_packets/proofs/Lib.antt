@@ -1,0 +1,3 @@
+pub mod ArrivalLemmas
+pub mod DestinationLemmas
+pub mod ReceivingLemmas

@@ -1,0 +1,5 @@
+pub mod Arrivals
+pub mod Destinations
+pub mod Packets
+pub mod Receiving
+pub mod Sending

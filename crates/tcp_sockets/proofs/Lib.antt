@@ -1,0 +1,4 @@
+pub mod LawLemmas
+pub mod PollLemmas
+pub mod QueueLemmas
+pub mod TurnLemmas
