@@ -2,8 +2,12 @@ use crate::servers::{HARDWARE, SECOND, SERVER, nak, offer};
 use dhcp_client::{DhcpClient, DhcpMessage};
 use dhcp_wire::DhcpMessageType;
 
-fn type_of(message: Option<DhcpMessage>) -> Option<DhcpMessageType> {
-    message.map(|message| message.repr.message_type)
+/// Whether a message is of this type.
+fn is_of(message: Option<DhcpMessage>, message_type: DhcpMessageType) -> bool {
+    match message {
+        Some(message) => message.repr.message_type == message_type,
+        None => false,
+    }
 }
 
 /// RFC 2131 4.1: 4, 8, 16, 32 and 64 seconds, each less a second for the lowest random number, and more by one for the
@@ -23,42 +27,34 @@ fn nobody_answers(rt: HostRuntime) {
     for (now, next) in times {
         let now = u64::from(now) * SECOND;
         let next = u64::from(next) * SECOND;
-        assert_eq!(rt;
-            type_of(client.next_message(now, 0)),
-            Some(DhcpMessageType::Discover)
-        );
-        assert_eq!(rt; client.poll_at(), Some(next));
-        assert_eq!(rt; client.next_message(next.saturating_sub(1), 0), None);
+        let is_right = is_of(client.next_message(now, 0), DhcpMessageType::Discover)
+            && client.poll_at() == Some(next)
+            && client.next_message(next.saturating_sub(1), 0).is_none();
+        assert!(&rt; is_right, "{now}");
     }
     let mut client = DhcpClient::new(HARDWARE, None);
-    assert_eq!(rt;
-        type_of(client.next_message(0, 2_000_000)),
-        Some(DhcpMessageType::Discover)
-    );
-    assert_eq!(rt; client.poll_at(), Some(5 * SECOND));
+    let message = client.next_message(0, 2_000_000);
+    let is_right = is_of(message, DhcpMessageType::Discover)
+        && client.poll_at() == Some(5 * SECOND);
+    assert!(rt; is_right);
 }
 
 /// A server that falls silent after its offer: the request is sent five times, and then the client begins anew.
 #[test]
 fn the_request_is_lost(rt: HostRuntime) {
     let mut client = DhcpClient::new(HARDWARE, None);
-    assert_eq!(rt;
-        type_of(client.next_message(0, 1_000_000)),
-        Some(DhcpMessageType::Discover)
-    );
+    let discovers = is_of(client.next_message(0, 1_000_000), DhcpMessageType::Discover);
     client.receive(&offer(1_000_000, SERVER));
     let times: [u64; 5] = [0, 4, 12, 28, 60];
     for time in times {
         let message = client.next_message(time * SECOND, 1_000_000);
-        assert_eq!(rt; type_of(message), Some(DhcpMessageType::Request));
+        assert!(&rt; is_of(message, DhcpMessageType::Request), "{time}");
     }
-    assert_eq!(rt; client.poll_at(), Some(124 * SECOND));
+    let is_due = client.poll_at() == Some(124 * SECOND);
     let message = client.next_message(124 * SECOND, 77);
-    assert_eq!(rt; type_of(message), Some(DhcpMessageType::Discover));
-    assert_eq!(rt;
-        message.map(|message| message.repr.transaction_id),
-        Some(77)
-    );
+    let begins_anew = is_of(message, DhcpMessageType::Discover)
+        && message.map(|message| message.repr.transaction_id) == Some(77);
+    assert!(rt; discovers && is_due && begins_anew);
 }
 
 /// Refusals at once, one after another, don't make the client send more than two messages in three seconds.

@@ -1,4 +1,6 @@
-use crate::servers::{ADDRESS, EVERYBODY, HARDWARE, OTHER, SECOND, SERVER, ack, nak, offer, parts};
+use crate::servers::{
+    ADDRESS, EVERYBODY, HARDWARE, OTHER, SECOND, SERVER, ack, is_leased, nak, offer,
+};
 use dhcp_client::{DhcpClient, DhcpEvent, DhcpMessage};
 use dhcp_wire::DhcpMessageType;
 use ip_address::Ipv4Address;
@@ -14,39 +16,34 @@ fn bound(seconds: u32) -> DhcpClient {
     client
 }
 
-/// Where a request goes, the address that the client has, and that it asks for by itself alone.
-fn renewal(message: Option<DhcpMessage>) -> Option<(Ipv4Address, Ipv4Address, bool)> {
-    let message = message?;
-    let repr = message.repr;
-    let is_plain = repr.message_type == DhcpMessageType::Request
-        && repr.options.requested_ip.is_none()
-        && repr.options.server_identifier.is_none();
-    Some((message.dst, repr.client_ip, is_plain))
+/// Whether a request goes there, from the address that the client has, and asks for that by itself alone.
+fn is_renewal(message: Option<DhcpMessage>, dst: Ipv4Address) -> bool {
+    match message {
+        Some(message) => {
+            message.dst == dst
+                && message.repr.client_ip == ADDRESS
+                && message.repr.message_type == DhcpMessageType::Request
+                && message.repr.options.requested_ip.is_none()
+                && message.repr.options.server_identifier.is_none()
+        }
+        None => false,
+    }
 }
 
 /// RFC 2131 4.4.5: after half of the lease the server is asked, which agrees.
 #[test]
 fn renewed(rt: HostRuntime) {
     let mut client = bound(1_000);
-    assert_eq!(rt;
-        parts(client.lease()),
-        Some((ADDRESS, SERVER, 500, 875, 1_000))
-    );
-    assert_eq!(rt;
-        renewal(client.next_message(500 * SECOND, 9)),
-        Some((SERVER, ADDRESS, true))
-    );
+    let has_lease = is_leased(client.lease(), SERVER, [500, 875, 1_000]);
+    let message = client.next_message(500 * SECOND, 9);
+    let asks = is_renewal(message, SERVER);
     client.receive(&ack(9, OTHER, 1_000));
-    assert_eq!(rt; client.take_event(), None);
+    let of_the_other = client.take_event();
     client.receive(&ack(9, SERVER, 1_000));
-    assert_eq!(rt;
-        parts(client.lease()),
-        Some((ADDRESS, SERVER, 1_000, 1_375, 1_500))
-    );
-    assert_eq!(rt;
-        client.take_event(),
-        client.lease().map(DhcpEvent::Configured)
-    );
+    let lease = client.lease();
+    let is_renewed = is_leased(lease, SERVER, [1_000, 1_375, 1_500]);
+    let is_told = client.take_event() == lease.map(DhcpEvent::Configured);
+    assert!(rt; has_lease && asks && of_the_other.is_none() && is_renewed && is_told);
 }
 
 /// The server is gone: it is asked again after half of what is left until any server is, and then another one agrees.
@@ -54,49 +51,40 @@ fn renewed(rt: HostRuntime) {
 fn rebound(rt: HostRuntime) {
     let mut client = bound(1_000);
     // 500, 500 + 375 / 2 = 687.5, 687.5 + 187.5 / 2 = 781.25, a minute later, and at 875
-    let times: [u64; 4] = [500_000, 687_500, 781_250, 841_250];
-    for time in times {
-        assert_eq!(rt; client.poll_at(), Some(time * 1_000));
-        assert_eq!(rt;
-            renewal(client.next_message(time * 1_000, 9)),
-            Some((SERVER, ADDRESS, true))
-        );
+    let times: [(u64, Ipv4Address); 5] = [
+        (500_000, SERVER),
+        (687_500, SERVER),
+        (781_250, SERVER),
+        (841_250, SERVER),
+        (875_000, EVERYBODY),
+    ];
+    for (time, server) in times {
+        let is_due = client.poll_at() == Some(time * 1_000);
+        let message = client.next_message(time * 1_000, 11);
+        let asks = is_renewal(message, server);
+        assert!(&rt; is_due && asks, "{time}");
     }
-    assert_eq!(rt; client.poll_at(), Some(875 * SECOND));
-    assert_eq!(rt;
-        renewal(client.next_message(875 * SECOND, 11)),
-        Some((EVERYBODY, ADDRESS, true))
-    );
     client.receive(&ack(11, OTHER, 100));
-    assert_eq!(rt;
-        parts(client.lease()),
-        Some((ADDRESS, OTHER, 925, 962, 975))
-    );
+    assert!(rt; is_leased(client.lease(), OTHER, [925, 962, 975]));
 }
 
 /// Nobody answers: the lease ends, and the client begins anew.
 #[test]
 fn expired(rt: HostRuntime) {
     let mut client = bound(100);
-    assert_eq!(rt;
-        renewal(client.next_message(50 * SECOND, 9)),
-        Some((SERVER, ADDRESS, true))
-    );
-    assert_eq!(rt; client.poll_at(), Some(87_500_000));
-    assert_eq!(rt;
-        renewal(client.next_message(87_500_000, 9)),
-        Some((EVERYBODY, ADDRESS, true))
-    );
-    assert_eq!(rt; client.poll_at(), Some(100 * SECOND));
-    assert_eq!(rt; client.next_message(100 * SECOND - 1, 9), None);
-    assert_eq!(rt; client.take_event(), None);
+    for (time, server) in [(50_000_000, SERVER), (87_500_000, EVERYBODY)] {
+        let is_due = client.poll_at() == Some(time);
+        let message = client.next_message(time, 9);
+        assert!(&rt; is_due && is_renewal(message, server), "{time}");
+    }
+    let waits = client.poll_at() == Some(100 * SECOND)
+        && client.next_message(100 * SECOND - 1, 9).is_none()
+        && client.take_event().is_none();
     let message = client.next_message(100 * SECOND, 11);
-    assert_eq!(rt;
-        message.map(|message| message.repr.message_type),
-        Some(DhcpMessageType::Discover)
-    );
-    assert_eq!(rt; client.lease(), None);
-    assert_eq!(rt; client.take_event(), Some(DhcpEvent::Deconfigured));
+    let begins_anew = message.map(|message| message.repr.message_type)
+        == Some(DhcpMessageType::Discover);
+    let is_over = client.lease().is_none() && client.take_event() == Some(DhcpEvent::Deconfigured);
+    assert!(rt; waits && begins_anew && is_over);
 }
 
 /// The server refuses the renewal: the lease is gone at once.
@@ -104,26 +92,28 @@ fn expired(rt: HostRuntime) {
 fn refused(rt: HostRuntime) {
     let mut client = bound(100);
     client.receive(&nak(7, SERVER));
-    assert_eq!(rt; client.take_event(), None);
-    assert_eq!(rt;
-        renewal(client.next_message(50 * SECOND, 9)),
-        Some((SERVER, ADDRESS, true))
-    );
+    let unasked = client.take_event();
+    let message = client.next_message(50 * SECOND, 9);
     client.receive(&nak(9, OTHER));
-    assert_eq!(rt; client.take_event(), None);
+    let of_the_other = client.take_event();
     client.receive(&nak(9, SERVER));
-    assert_eq!(rt; client.take_event(), Some(DhcpEvent::Deconfigured));
+    let is_right = unasked.is_none()
+        && is_renewal(message, SERVER)
+        && of_the_other.is_none()
+        && client.take_event() == Some(DhcpEvent::Deconfigured);
+    assert!(rt; is_right);
 }
 
 /// RFC 2131 3.3: a lease without end. RFC 2132 9.11: T1 and T2 as the server says, if they are in order.
 #[test]
 fn durations(rt: HostRuntime) {
     let mut client = bound(0xffff_ffff);
-    assert_eq!(rt; client.poll_at(), None);
-    assert_eq!(rt; client.next_message(0x7fff_ffff_ffff_ffff, 9), None);
+    let is_endless = client.poll_at().is_none()
+        && client.next_message(0x7fff_ffff_ffff_ffff, 9).is_none();
     client.reset();
-    assert_eq!(rt; client.take_event(), Some(DhcpEvent::Deconfigured));
-    assert_eq!(rt; client.poll_at(), Some(3 * SECOND));
+    let is_reset = client.take_event() == Some(DhcpEvent::Deconfigured)
+        && client.poll_at() == Some(3 * SECOND);
+    assert!(&rt; is_endless && is_reset);
     let cases: [(u32, u32, u128, u128); 3] = [
         (40, 60, 40, 60),
         (60, 40, 50, 87),
@@ -136,9 +126,7 @@ fn durations(rt: HostRuntime) {
         agreement.options.renew_duration = Some(renew);
         agreement.options.rebind_duration = Some(rebind);
         client.receive(&agreement);
-        assert_eq!(rt;
-            parts(client.lease()),
-            Some((ADDRESS, SERVER, renew_at, rebind_at, 100))
-        );
+        let is_right = is_leased(client.lease(), SERVER, [renew_at, rebind_at, 100]);
+        assert!(rt; is_right, "{renew} {rebind}");
     }
 }

@@ -74,16 +74,18 @@ pub fn nak(transaction_id: u32, server: Ipv4Address) -> DhcpRepr {
     answer(DhcpMessageType::Nak, transaction_id, server, NOBODY, None)
 }
 
-/// What of a lease tells it from others in these tests: the address, the server, and its times in seconds.
-pub fn parts(lease: Option<DhcpLease>) -> Option<(Ipv4Address, Ipv4Address, u128, u128, u128)> {
-    let lease = lease?;
-    let times = lease.times?;
+/// Whether a lease is of the address, of this server, and has these times in seconds: T1, T2 and its end.
+pub fn is_leased(lease: Option<DhcpLease>, server: Ipv4Address, seconds: [u128; 3]) -> bool {
+    let Some(lease) = lease else {
+        return false;
+    };
+    let Some(times) = lease.times else {
+        return false;
+    };
     let second = u128::from(SECOND);
-    Some((
-        lease.address,
-        lease.server,
-        times.renew_at / second,
-        times.rebind_at / second,
-        times.expires_at / second,
-    ))
+    lease.address == ADDRESS
+        && lease.server == server
+        && times.renew_at / second == seconds[0]
+        && times.rebind_at / second == seconds[1]
+        && times.expires_at / second == seconds[2]
 }

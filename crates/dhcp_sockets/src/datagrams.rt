@@ -6,7 +6,7 @@ ghost use Rattle.network_sockets.specs.Raw as raw_spec;
 ghost use Rattle.dhcp_sockets.specs.Packets.{message_text, packet_of};
 ghost use Rattle.dhcp_sockets.specs.Datagrams as spec;
 
-use crate::packets::{DhcpRoom, build_message, build_packet};
+use crate::packets::DhcpRoom;
 use dhcp_client::{DhcpClient, DhcpMessage};
 use dhcp_wire::DhcpRepr;
 use dhcp_wire::message::SERVER_PORT;
@@ -33,8 +33,8 @@ pub fn receive<L: Drop>(client: &mut DhcpClient, socket: &mut udp::SocketOf<L>) 
     is_there
 }
 
-/// Hands a datagram from a port to a client.
-fn receive_datagram(client: &mut DhcpClient, port: u16, payload: &[u8])
+/// Hands a datagram from a port to a client. It counts only if the port is 67 and it is a message of DHCP.
+pub fn receive_datagram(client: &mut DhcpClient, port: u16, payload: &[u8])
     ensures { spec.ReceivesDatagram port payload.now client.old client.new }
 {
     if port == SERVER_PORT {
@@ -59,9 +59,7 @@ pub fn send_by_raw<L: Drop>(
     ensures socket { socket.new
         ≡ raw_spec.socket_after_send (packet_of message.now) socket.old }
 {
-    build_message(message, &mut room.message);
-    let src = message.repr.client_ip;
-    build_packet(src, message.dst, room.message.as_slice(), &mut room.packet);
+    room.build_packet(message);
     socket.send((), room.packet.as_slice())
 }
 
@@ -78,10 +76,16 @@ pub fn send_by_udp<L: Drop>(
         ≡ udp_spec.socket_after_send (spec.server_of message.now) (message_text message.now) socket.old) }
     ensures err { OnErr result (socket.new ≡ socket.old) }
 {
-    build_message(message, &mut room.message);
-    let remote = IpEndpoint {
+    room.build_message(message);
+    socket.try_send(server_of(message), room.message.as_slice())
+}
+
+/// Port 67 of the address that a message goes to.
+pub fn server_of(message: &DhcpMessage) -> IpEndpoint
+    ensures { result ≡ spec.server_of message.now }
+{
+    IpEndpoint {
         addr: IpAddress::Ipv4(message.dst),
         port: SERVER_PORT,
-    };
-    socket.try_send(remote, room.message.as_slice())
+    }
 }

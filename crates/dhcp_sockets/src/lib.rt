@@ -5,5 +5,5 @@
 pub mod datagrams;
 pub mod packets;
 
-pub use datagrams::{receive, send_by_raw, send_by_udp};
+pub use datagrams::{receive, receive_datagram, send_by_raw, send_by_udp, server_of};
 pub use packets::DhcpRoom;

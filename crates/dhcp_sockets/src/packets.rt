@@ -30,10 +30,28 @@ impl DhcpRoom {
             packet: FrameBuffer::new(),
         }
     }
+
+    /// Builds a message as the payload of a datagram, in place of the message before.
+    pub fn build_message(&mut self, message: &DhcpMessage)
+        ensures room { self.new ≡ record self.old { message = spec.message_text message.now } }
+        ensures len { length self.new.message ≤ 320 }
+    {
+        build_message(message, &mut self.message);
+    }
+
+    /// Builds a message as a packet from port 68 of the client's address, which is 0.0.0.0 as long as it has none. Both
+    /// checksums are computed.
+    pub fn build_packet(&mut self, message: &DhcpMessage)
+        ensures { self.new ≡ record { message = spec.message_text message.now; packet = spec.packet_of message.now } }
+    {
+        build_message(message, &mut self.message);
+        let src = message.repr.client_ip;
+        build_packet(src, message.dst, self.message.as_slice(), &mut self.packet);
+    }
 }
 
 /// Builds a message, in place of what the buffer has.
-pub(crate) fn build_message(message: &DhcpMessage, out: &mut FrameBuffer)
+fn build_message(message: &DhcpMessage, out: &mut FrameBuffer)
     ensures items { out.new ≡ spec.message_text message.now }
     ensures len { length out.new ≤ 320 }
 {
@@ -43,12 +61,7 @@ pub(crate) fn build_message(message: &DhcpMessage, out: &mut FrameBuffer)
 
 /// Builds a packet with these octets as its payload, from port 68 of an address to port 67 of another one, in place of what
 /// the buffer has. Both checksums are computed.
-pub(crate) fn build_packet(
-    src: Ipv4Address,
-    dst: Ipv4Address,
-    payload: &[u8],
-    out: &mut FrameBuffer,
-)
+fn build_packet(src: Ipv4Address, dst: Ipv4Address, payload: &[u8], out: &mut FrameBuffer)
     requires { length payload.now ≤ 320 }
     ensures { out.new ≡ spec.packet_text src dst payload.now }
 {

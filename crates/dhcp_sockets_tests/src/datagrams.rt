@@ -19,11 +19,29 @@ fn to_all_servers(rt: HostRuntime) {
     let mut client = DhcpClient::new(HARDWARE, None);
     let sent = client.next_message(0, 0x3903_f326);
     let discover = sent.expect(&rt, "a message");
-    assert!(rt; send_by_raw(&discover, &mut socket, &mut room).is_ok());
+    let is_sent = send_by_raw(&discover, &mut socket, &mut room).is_ok();
     let packet = message(&DISCOVER, &DISCOVER_OPTIONS);
-    assert_eq!(rt; room.packet.as_slice(), packet.as_slice());
-    assert_eq!(rt; socket.tx().len(), 1);
-    assert!(rt; send_by_raw(&discover, &mut socket, &mut room).is_err());
+    let is_right = room.packet.as_slice() == packet.as_slice() && socket.tx().len() == 1;
+    let is_full = send_by_raw(&discover, &mut socket, &mut room).is_err();
+    assert!(rt; is_sent && is_right && is_full);
+}
+
+/// An offer comes from the server, from this port, and is taken.
+fn hears(client: &mut DhcpClient, socket: &mut udp::Socket<'_>, port: u16) -> bool {
+    let server = IpEndpoint { addr: SERVER, port };
+    socket.process(server, message(&OFFER, &OFFER_OPTIONS).as_slice());
+    receive(client, socket)
+}
+
+/// Whether a client asks for what it was offered.
+fn requests(client: &mut DhcpClient, socket: &mut udp::Socket<'_>, room: &mut DhcpRoom) -> bool {
+    match client.next_message(1, 5) {
+        Some(request) => {
+            request.repr.message_type == DhcpMessageType::Request
+                && send_by_udp(&request, socket, room).is_ok()
+        }
+        None => false,
+    }
 }
 
 /// What a server sent, from its port and from another one.
@@ -35,25 +53,9 @@ fn from_a_server(rt: HostRuntime) {
     let mut room = DhcpRoom::new();
     let mut client = DhcpClient::new(HARDWARE, None);
     let _ = client.next_message(0, 0x3903_f326);
-    let offer = message(&OFFER, &OFFER_OPTIONS);
-    let other = IpEndpoint {
-        addr: SERVER,
-        port: 1067,
-    };
-    socket.process(other, offer.as_slice());
     let asking = client;
-    assert!(rt; receive(&mut client, &mut socket));
-    assert_eq!(rt; client, asking);
-    let server = IpEndpoint {
-        addr: SERVER,
-        port: 67,
-    };
-    socket.process(server, offer.as_slice());
-    assert!(rt; receive(&mut client, &mut socket));
-    assert!(rt; !receive(&mut client, &mut socket));
-    let sent = client.next_message(1, 5);
-    let request = sent.expect(&rt, "a message");
-    assert_eq!(rt; request.repr.message_type, DhcpMessageType::Request);
-    assert!(rt; send_by_udp(&request, &mut socket, &mut room).is_ok());
-    assert_eq!(rt; socket.tx().len(), 1);
+    let is_nothing = hears(&mut client, &mut socket, 1067) && client == asking;
+    let is_offered = hears(&mut client, &mut socket, 67) && !receive(&mut client, &mut socket);
+    let is_asked = requests(&mut client, &mut socket, &mut room);
+    assert!(rt; is_nothing && is_offered && is_asked && socket.tx().len() == 1);
 }

@@ -73,60 +73,66 @@ fn refused() -> DhcpOptions {
 
 #[test]
 fn servers_messages_are_parsed(rt: HostRuntime) {
-    let offer = message(&OFFER.0, &OFFER.1);
-    let values = repr(
-        DhcpMessageType::Offer,
-        0x3903_f326,
-        CLIENT,
-        SERVER,
-        offered(),
-    );
-    let empty: &[u8] = &[];
-    assert_eq!(rt; DhcpRepr::parse(offer.as_slice()), Some((values, empty)));
-    let ack = message(&ACK.0, &ACK.1);
-    let values = repr(DhcpMessageType::Ack, 0x3903_f326, CLIENT, SERVER, offered());
-    assert_eq!(rt; DhcpRepr::parse(ack.as_slice()), Some((values, empty)));
-    let nak = message(&NAK.0, &NAK.1);
-    let values = repr(DhcpMessageType::Nak, 0x3903_f327, NOBODY, NOBODY, refused());
-    assert_eq!(rt; DhcpRepr::parse(nak.as_slice()), Some((values, empty)));
+    for (octets, message_type, number, your_ip, server_ip, options) in [
+        (
+            message(&OFFER.0, &OFFER.1),
+            DhcpMessageType::Offer,
+            0x3903_f326,
+            CLIENT,
+            SERVER,
+            offered(),
+        ),
+        (
+            message(&ACK.0, &ACK.1),
+            DhcpMessageType::Ack,
+            0x3903_f326,
+            CLIENT,
+            SERVER,
+            offered(),
+        ),
+        (
+            message(&NAK.0, &NAK.1),
+            DhcpMessageType::Nak,
+            0x3903_f327,
+            NOBODY,
+            NOBODY,
+            refused(),
+        ),
+    ] {
+        let values = repr(message_type, number, your_ip, server_ip, options);
+        let is_parsed = DhcpRepr::parse(octets.as_slice()) == Some((values, [].as_slice()));
+        assert!(rt; is_parsed, "{message_type:?}");
+    }
 }
 
 #[test]
 fn clients_messages_are_emitted(rt: HostRuntime) {
-    let discover = repr(
-        DhcpMessageType::Discover,
-        0x3903_f326,
-        NOBODY,
-        NOBODY,
-        asked(None, None),
-    );
-    let mut out = FrameBuffer::new();
-    discover.emit(&PARAMETERS, &mut out);
-    assert_eq!(rt;
-        out.as_slice(),
-        message(&DISCOVER.0, &DISCOVER.1).as_slice()
-    );
-    let request = repr(
-        DhcpMessageType::Request,
-        0x3903_f326,
-        NOBODY,
-        NOBODY,
-        asked(Some(CLIENT), Some(SERVER)),
-    );
-    let mut out = FrameBuffer::new();
-    request.emit(&PARAMETERS, &mut out);
-    assert_eq!(rt; out.as_slice(), message(&REQUEST.0, &REQUEST.1).as_slice());
     let lost = Ipv4Address { bits: 0x0a00_0007 };
-    let reboot = repr(
-        DhcpMessageType::Request,
-        0x3903_f327,
-        NOBODY,
-        NOBODY,
-        asked(Some(lost), None),
-    );
-    let mut out = FrameBuffer::new();
-    reboot.emit(&PARAMETERS, &mut out);
-    assert_eq!(rt; out.as_slice(), message(&REBOOT.0, &REBOOT.1).as_slice());
-    let parameters: &[u8] = &PARAMETERS;
-    assert_eq!(rt; DhcpRepr::parse(out.as_slice()), Some((reboot, parameters)));
+    for (octets, message_type, number, options) in [
+        (
+            message(&DISCOVER.0, &DISCOVER.1),
+            DhcpMessageType::Discover,
+            0x3903_f326,
+            asked(None, None),
+        ),
+        (
+            message(&REQUEST.0, &REQUEST.1),
+            DhcpMessageType::Request,
+            0x3903_f326,
+            asked(Some(CLIENT), Some(SERVER)),
+        ),
+        (
+            message(&REBOOT.0, &REBOOT.1),
+            DhcpMessageType::Request,
+            0x3903_f327,
+            asked(Some(lost), None),
+        ),
+    ] {
+        let values = repr(message_type, number, NOBODY, NOBODY, options);
+        let mut out = FrameBuffer::new();
+        values.emit(&PARAMETERS, &mut out);
+        let is_emitted = out.as_slice() == octets.as_slice();
+        let is_parsed = DhcpRepr::parse(out.as_slice()) == Some((values, PARAMETERS.as_slice()));
+        assert!(rt; is_emitted && is_parsed, "{number:x}");
+    }
 }

@@ -1,0 +1,5 @@
+//! The tests of `dns_sockets`.
+#![tactic(auto)]
+
+#[cfg(test)]
+mod datagrams;
