@@ -35,6 +35,11 @@ const char *iface_strerror(uint32_t code) {
     case IFACE_NO_ROOM: return "the buffer is too short";
     case IFACE_BAD_TIMEOUT: return "bad reassembly timeout";
     case IFACE_BAD_VERSION: return "the library is of another version than the header";
+    case IFACE_NO_CLIENT: return "the handle owns no client";
+    case IFACE_HAS_CLIENT: return "the handle owns a client already";
+    case IFACE_NO_STREAMS: return "the handle owns no connections";
+    case IFACE_HAS_STREAMS: return "the handle owns connections already";
+    case IFACE_IN_USE: return "a connection has these ends";
     }
     return "unknown code";
 }

@@ -10,6 +10,8 @@
  *  - Pings of 3,000 octets, three at a time, and under half a percent of loss.
  *  - Stray fragments: packets in fragments are put together again after the time that fragments wait.
  *
+ *  - Eight and sixty neighbours, each of which asks once a second: all are answered, where there is room for them.
+ *
  * All these are without a guard. Then come attacks without one and with one, as docs/SECURITY.md has them.
  */
 #include "iface.h"
@@ -53,12 +55,16 @@ static int is_lost(void) {
 /* Whether hosts have a guard: the usual one, with a rate of echo replies beside it. */
 static uint8_t guarded;
 
+/* How many neighbours a host knows at once; 0 is what iface_config_init writes. */
+static uint32_t room;
+
 /* A host at 192.168.69.`last`, whose frames have at most so many octets. */
 static void make(iface *host, uint8_t last, uint32_t frame_len) {
     struct iface_config config;
     struct iface_address own = v4(last);
     iface_config_init(&config);
     config.guard.on = guarded, config.guard.echo_replies = (struct iface_rate){10000, 10}, config.seed = last, config.frame_len = frame_len, config.hardware_address[0] = 2, config.hardware_address[5] = last;
+    if (room > 0) config.neighbors = room;
     must("host", iface_new(host, &config));
     must("address", iface_add_address(host, &own, 24));
 }
@@ -266,6 +272,69 @@ static void neighbors_in_turn(void) {
            (long long)(last - begun) / 1000);
     wants("all arrive, and none is given up", arrived == 4 && given_up == 0);
     must("free", iface_free(&host)), must("free", iface_free(&peer));
+}
+
+/* A link of many hosts, each at its last octet. */
+static iface *linked[256];
+
+static void empty(uint8_t last);
+
+/* Hands a frame to the host that it is for, or to all others. */
+static void carry(uint8_t from, const uint8_t *frame, size_t length) {
+    for (uint8_t last = 1; last < 255; last++) {
+        uint8_t reply[IFACE_FRAME_ROOM];
+        size_t n = 0;
+        if (linked[last] == NULL || last == from || !(frame[0] % 2 == 1 || frame[5] == last)) continue;
+        must("receive", iface_receive(linked[last], now, frame, length, reply, sizeof reply, &n));
+        if (n > 0) carry(last, reply, n);
+        empty(last);
+    }
+}
+
+/* Hands over all that a host has to send. */
+static void empty(uint8_t last) {
+    uint8_t frame[IFACE_FRAME_ROOM];
+    size_t n;
+    for (must("next", iface_next(linked[last], now, frame, sizeof frame, &n)); n > 0;
+         must("next", iface_next(linked[last], now, frame, sizeof frame, &n)))
+        carry(last, frame, n);
+}
+
+static struct iface_address v6(uint8_t last) {
+    return (struct iface_address){6, {0xfe, 0x80, [15] = last}};
+}
+
+/* A service, and so many neighbours, of which each asks it once a second for a minute over IPv4, and over IPv6 if they have
+ * both, with room for so many neighbours, or as most programs have it where that is 0. All are answered if `are_all`. */
+static void many_neighbors(uint8_t count, int have_both, uint32_t places, int are_all) {
+    static iface hosts[61];
+    uint32_t sockets[61];
+    unsigned asked = 0, answered = 0;
+    int64_t begun = now += 10 * SECOND;
+    for (uint8_t i = 0; i <= count; i++) {
+        uint8_t last = i == 0 ? 1 : (uint8_t)(99 + i);
+        room = i == 0 ? places : 0;
+        make(linked[last] = &hosts[i], last, 1514);
+        if (have_both) must("address", iface_add_address(&hosts[i], &(struct iface_address){6, {0xfe, 0x80, [15] = last}}, 64));
+        sockets[i] = udp_at(&hosts[i], i == 0 ? ECHO_PORT : 1000, 16, 4096);
+    }
+    for (unsigned i = 0; i < 60u * count; i++) {
+        now = begun + (int64_t)i * SECOND / count;
+        uint8_t got[16], peer = (uint8_t)(1 + i % count);
+        size_t n;
+        struct iface_endpoint from;
+        (void)iface_udp_send(&hosts[peer], sockets[peer], &(struct iface_endpoint){v4(1), ECHO_PORT}, (const uint8_t *)"4", 1), asked++;
+        if (have_both) (void)iface_udp_send(&hosts[peer], sockets[peer], &(struct iface_endpoint){v6(1), ECHO_PORT}, (const uint8_t *)"6", 1), asked++;
+        empty((uint8_t)(99 + peer)), echo_or_drop(&hosts[0], sockets[0]), empty(1);
+        while (iface_udp_receive(&hosts[peer], sockets[peer], &from, got, sizeof got, &n) == IFACE_OK) answered++;
+    }
+    printf("%u neighbours%s ask once a second each, ", count, have_both ? " of both versions" : "");
+    printf(places > 0 ? "room for %u: " : "the usual room: ", places);
+    printf("%u of %u questions are answered\n", answered, asked);
+    if (are_all) wants("all are", answered == asked);
+    for (uint8_t i = 0; i <= count; i++) must("free", iface_free(&hosts[i])), hosts[i] = (iface)IFACE_NONE;
+    memset(linked, 0, sizeof linked);
+    room = 0;
 }
 
 /* The first socket sends to an absent neighbour again and again, the second to one that is there. Time goes from one
@@ -510,7 +579,7 @@ static void own_address(void) {
     send_arp(&host, 1, 66);
     unsigned taken = entries_of(&host, 1);
     uint32_t told = iface_guard_conflict(&host, hardware, &at);
-    printf("own address claimed, guard %s: %u of 4 entries taken, %s\n", guarded ? "on" : "off", taken,
+    printf("own address claimed, guard %s: %u entries taken, %s\n", guarded ? "on" : "off", taken,
            told == IFACE_OK ? "and it is told who did" : "and nothing is told");
     wants("it is dropped and told with a guard alone",
           guarded ? taken == 0 && told == IFACE_OK && hardware[5] == 66 && at == now && drops_of(&host).own_address == 1
@@ -518,16 +587,16 @@ static void own_address(void) {
     must("free", iface_free(&host));
 }
 
-/* A neighbour that pings ten times a second for a minute, and tells its hardware address when it is asked, beside a hundred
- * forged ARP packets a second, in its name or in others': how many pings are answered to it. */
-static unsigned answered_beside(int in_its_name) {
+/* A neighbour that pings so often in a second for a minute, and tells its hardware address when it is asked, beside so many
+ * forged ARP packets between two pings, in its name or in others': how many pings are answered to it. */
+static unsigned answered_beside(unsigned pings, unsigned forged, int in_its_name) {
     iface host = IFACE_NONE;
     unsigned answered = 0;
     now += 10 * SECOND;
     make(&host, 1, 1514);
     send_arp(&host, 2, 2);
-    for (unsigned i = 0; i < 600; i++, now += SECOND / 10) {
-        for (unsigned k = 0; k < 10; k++) send_arp(&host, in_its_name ? 2 : (uint8_t)(100 + (10 * i + k) % 100), 66);
+    for (unsigned i = 0; i < 60 * pings; i++) {
+        for (unsigned k = 0; k < forged; k++, now += SECOND / (pings * forged)) send_arp(&host, in_its_name ? 2 : (uint8_t)(100 + (forged * i + k) % 100), 66);
         size_t n = forge_ping(&host, 2);
         answered += n == 43 && response[5] == 2 && response[34] == 0;
         if (n == 42 && response[13] == 6 && response[41] == 2) send_arp(&host, 2, 2);
@@ -537,10 +606,40 @@ static unsigned answered_beside(int in_its_name) {
 }
 
 static void forged_neighbors(void) {
-    unsigned many = answered_beside(0), known = answered_beside(1);
-    printf("100 forged neighbours a second, guard %s: %u of 600 pings of a neighbour are answered; in its own name: %u\n",
-           guarded ? "on" : "off", many, known);
-    wants("a neighbour that is known is served with a guard", guarded ? many >= 580 : many <= 100);
+    static const unsigned rates[] = {30, 60, 100, 1000};
+    unsigned many = answered_beside(10, 10, 0), known = answered_beside(10, 10, 1);
+    room = 4;
+    unsigned few = answered_beside(10, 10, 0);
+    room = 0;
+    printf("100 forged neighbours a second, guard %s: %u of 600 pings of a neighbour are answered, %u with room for four; in its own name: %u\n",
+           guarded ? "on" : "off", many, few, known);
+    wants("a neighbour that is known is served with a guard, or with room", many >= 580 && (guarded ? few >= 580 : few <= 100));
+    for (unsigned i = 0; i < sizeof rates / sizeof rates[0]; i++) {
+        unsigned answered = answered_beside(1, rates[i], 0);
+        printf("%u forged neighbours a second, guard %s: %u of 60 pings, one a second, are answered\n", rates[i], guarded ? "on" : "off", answered);
+        if (rates[i] < 64) wants("all are, since fewer are forged between two of them than there is room for", answered == 60);
+    }
+}
+
+/* The same in the name of a neighbour that is pinned, which a guard alone can do: how many pings are answered to it. */
+static void forged_pinned(void) {
+    iface host = IFACE_NONE;
+    struct iface_address two = v4(2);
+    const uint8_t hardware[6] = {2, 0, 0, 0, 0, 2};
+    unsigned answered = 0;
+    now += 10 * SECOND;
+    make(&host, 1, 1514);
+    must("pin", iface_guard_pin(&host, &two, hardware));
+    send_arp(&host, 2, 2);
+    for (unsigned i = 0; i < 600; i++, now += SECOND / 10) {
+        for (unsigned k = 0; k < 10; k++) send_arp(&host, 2, 66);
+        size_t n = forge_ping(&host, 2);
+        answered += n == 43 && response[5] == 2 && response[34] == 0;
+    }
+    printf("100 forged ARP packets a second in the name of a pinned neighbour, guard %s: %u of 600 pings of it are answered\n",
+           guarded ? "on" : "off", answered);
+    wants("a pinned neighbour is served with a guard alone", guarded ? answered == 600 && drops_of(&host).pinned == 6000 : answered == 0);
+    must("free", iface_free(&host));
 }
 
 /* Pings from absent neighbours, a thousand a second, and a datagram to a neighbour that is there and not known: after how
@@ -716,6 +815,7 @@ static void queries(void) {
 static void attacks(void) {
     own_address();
     forged_neighbors();
+    forged_pinned();
     discovery_for_nothing();
     reflection();
     loop();
@@ -729,6 +829,8 @@ int main(void) {
     spoofed_datagrams();
     absent_neighbor_first();
     neighbors_in_turn();
+    many_neighbors(8, 1, 0, 1), many_neighbors(60, 0, 0, 1), many_neighbors(60, 1, 128, 1);
+    many_neighbors(5, 0, 4, 0), many_neighbors(8, 1, 4, 0);
     bursts(1514, 3000), bursts(1514, 4000), bursts(1114, 4000);
     long_behind_short();
     long_for_absent();

@@ -297,6 +297,73 @@ static void guards(uint8_t on, uint8_t own_addresses) {
     must("free", iface_free(&host));
 }
 
+/* What the host itself sent may come back: a claim from the own hardware address that tells this one is no conflict. */
+static void takes_its_own_back(void) {
+    uint8_t arp[42] = {2, 0, 0, 0, 0, 1, 2, 0, 0, 0, 0, 1, 8, 6, 0, 1, 8, 0, 6, 4, 0, 2, 2, 0, 0, 0, 0, 1,
+                       192, 168, 69, 1, 2, 0, 0, 0, 0, 1, 192, 168, 69, 1};
+    iface host = IFACE_NONE;
+    struct iface_config config;
+    struct iface_address own = v4(192, 168, 69, 1), is;
+    struct iface_drops drops;
+    int64_t at = 77;
+    size_t n;
+    iface_config_init(&config);
+    config.hardware_address[0] = 2, config.hardware_address[5] = 1;
+    must("host", iface_new(&host, &config));
+    must("address", iface_add_address(&host, &own, 24));
+    must("receive", iface_receive(&host, 2000, arp, sizeof arp, reply, sizeof reply, &n));
+    must("learnt", iface_neighbor_at(&host, 0, &is, reply, &at));
+    arp[27] = 9; /* it tells another one */
+    must("receive", iface_receive(&host, 2001, arp, sizeof arp, reply, sizeof reply, &n));
+    must("drops", iface_guard_drops(&host, &drops));
+    wants("dropped", drops.own_address, 1);
+    must("learnt", iface_neighbor_at(&host, 0, &is, reply, &at));
+    wants("the own one still", reply[5], 1);
+    must("free", iface_free(&host));
+}
+
+/* A pinned neighbour is learnt from what tells the pinned hardware address, and from nothing else. */
+static void pins(void) {
+    uint8_t arp[42] = {2, 0, 0, 0, 0, 1, 2, 0, 0, 0, 0, 66, 8, 6, 0, 1, 8, 0, 6, 4, 0, 2, 2, 0, 0, 0, 0, 66,
+                       192, 168, 69, 2, 2, 0, 0, 0, 0, 1, 192, 168, 69, 1};
+    const uint8_t true_one[6] = {2, 0, 0, 0, 0, 2}, group[6] = {3, 0, 0, 0, 0, 2};
+    iface host = IFACE_NONE;
+    struct iface_config config;
+    struct iface_address own = v4(192, 168, 69, 1), two = v4(192, 168, 69, 2), other = v4(10, 0, 0, 0), is, none = {5, {0}};
+    struct iface_drops drops;
+    uint8_t hardware[6] = {0};
+    int64_t at = 77;
+    size_t n;
+    iface_config_init(&config);
+    config.hardware_address[0] = 2, config.hardware_address[5] = 1;
+    must("host", iface_new(&host, &config));
+    must("address", iface_add_address(&host, &own, 24));
+    wants("no version", iface_guard_pin(&host, &none, true_one), IFACE_BAD_ARGUMENT);
+    wants("a group", iface_guard_pin(&host, &two, group), IFACE_NOT_UNICAST);
+    wants("not pinned", iface_guard_unpin(&host, &two), IFACE_NOT_THERE);
+    must("pin", iface_guard_pin(&host, &two, true_one));
+    wants("no conflict", iface_guard_pinned_conflict(&host, hardware, &at), IFACE_NOT_THERE);
+    must("receive", iface_receive(&host, 2000, arp, sizeof arp, reply, sizeof reply, &n));
+    wants("not learnt", iface_neighbor_at(&host, 0, &is, hardware, &at), IFACE_NOT_THERE);
+    must("conflict", iface_guard_pinned_conflict(&host, hardware, &at));
+    wants("who, and when", hardware[5] == 66 && at == 2000, 1);
+    must("drops", iface_guard_drops(&host, &drops));
+    wants("dropped", drops.pinned == 1 && drops.own_address == 0, 1);
+    arp[11] = arp[27] = 2;
+    must("receive", iface_receive(&host, 2001, arp, sizeof arp, reply, sizeof reply, &n));
+    must("learnt", iface_neighbor_at(&host, 0, &is, hardware, &at));
+    wants("the pinned one", hardware[5], 2);
+    for (uint8_t last = 3; last < 10; last++) other.octets[3] = last, must("pin", iface_guard_pin(&host, &other, true_one));
+    other.octets[3] = 10, wants("eight are pinned", iface_guard_pin(&host, &other, true_one), IFACE_TABLE_FULL);
+    must("again", iface_guard_pin(&host, &two, true_one));
+    must("unpin", iface_guard_unpin(&host, &two));
+    arp[11] = arp[27] = 66;
+    must("receive", iface_receive(&host, 2002, arp, sizeof arp, reply, sizeof reply, &n));
+    must("learnt", iface_neighbor_at(&host, 0, &is, hardware, &at));
+    wants("pinned no more", hardware[5], 66);
+    must("free", iface_free(&host));
+}
+
 /* A datagram whose checksums are wrong comes where they aren't verified, and one is sent with 0 where none is computed. */
 static void leaves_checksums_to_the_link(void) {
     static const uint8_t datagram[29] = {0x45, 0, 0, 29, 0, 1, 0, 0, 64, 17, 0xde, 0xad, 192, 168, 69, 2,
@@ -583,6 +650,7 @@ int main(void) {
     chooses_sources();
     knows_neighbors();
     guards(1, 1), guards(1, 0), guards(0, 1);
+    takes_its_own_back(), pins();
     makes_link_local_addresses();
     keeps_routes_until_their_end();
     sends_to_any_address();

@@ -1,10 +1,10 @@
-/* A host on a network, for C: the interface layer with UDP, ICMP and raw sockets, and sockets for segments of TCP, over
- * IPv4 and IPv6, on Ethernet or without a header of the link. Frames are handed over by the program and asked for by it;
+/* A host on a network, for C: the interface layer with UDP, ICMP and raw sockets, and connections of TCP, over IPv4 and IPv6, on Ethernet or without a header of the link. Frames are handed over by the program and asked for by it;
  * the library opens no device, starts no thread and reads no clock.
  *
  * Each call answers by a code: IFACE_OK, or why it was refused. A refused call changes nothing, of the host and of
  * what the pointers point to. Where several reasons hold, the one answered is the first in the comment of the call; those
- * that a comment has for several calls come after. NO_HOST comes after BAD_ARGUMENT, and before all others.
+ * that a comment has for several calls come after. BAD_ARGUMENT comes before all of these, and NO_HOST right after it.
+ * iface_new and iface_set_addresses have an order of their own.
  *
  * What the library does is proved: for a caller that keeps what follows there is no undefined behaviour, and each
  * call ends. What the caller promises, and nothing checks:
@@ -15,8 +15,8 @@
  *    overlaps what another pointer of the same call points to, the handle included.
  *  - malloc, realloc and free are of one allocator, whose blocks are aligned as the C standard says, and no call is
  *    made where these may not be called, as in a signal handler or in the forked child of a process with threads.
- *  - There is room on the stack. On x86-64 iface_new takes at most 12,700 octets of it, iface_next 6,200 and any other
- *    call 5,400; beside that comes what malloc and memcpy take. docs/PERFORMANCE.md lists them.
+ *  - There is room on the stack. On x86-64 iface_new and iface_streams_new take at most 13,300 octets of it, iface_next
+ *    4,700 and any other call 6,050; beside that comes what malloc and memcpy take. docs/PERFORMANCE.md lists them.
  */
 #ifndef IFACE_H
 #define IFACE_H
@@ -43,21 +43,26 @@ enum iface_code {
     IFACE_NOT_THERE = 9,     /* no such address or route, no own address; the medium has no hardware addresses */
     IFACE_TABLE_FULL = 10,   /* four addresses, four routes or eight groups are there, or all sockets are open; a list of
                                 more than four addresses */
-    IFACE_NO_SOCKET = 11,    /* no socket of this kind is open by this number */
+    IFACE_NO_SOCKET = 11,    /* no socket of this kind is open by this number; no connection has this name */
     IFACE_BAD_PORT = 12,     /* a port that is 0 */
     IFACE_TOO_LONG = 13,     /* a packet longer than is ever sent */
     IFACE_QUEUE_FULL = 14,   /* the socket's queue has no room for the packet: iface_next makes some, unless the packet is
                                 longer than the whole queue */
-    IFACE_EMPTY = 15,        /* no packet came; the socket doesn't wait; no packet was given up */
+    IFACE_EMPTY = 15,        /* no packet came; the socket doesn't wait; no packet was given up; no connection waits */
     IFACE_NO_ROOM = 16,      /* the room for a frame is shorter than IFACE_FRAME_ROOM, that for a packet than the packet */
     IFACE_BAD_TIMEOUT = 17,  /* reassembly_timeout: 0, or longer than a day */
-    IFACE_BAD_VERSION = 18   /* iface_new: the library isn't of this header's version */
+    IFACE_BAD_VERSION = 18,  /* iface_new: the library isn't of this header's version */
+    IFACE_NO_CLIENT = 19,    /* the handle owns no client of DHCP */
+    IFACE_HAS_CLIENT = 20,   /* iface_dhcp_new: the handle owns a client already */
+    IFACE_NO_STREAMS = 21,   /* the handle owns no connections of TCP */
+    IFACE_HAS_STREAMS = 22,  /* iface_streams_new: the handle owns connections already */
+    IFACE_IN_USE = 23        /* iface_stream_connect: a connection has these ends */
 };
 
 /* The version of this header, an octet each: 0.14.0, and the header's number, which grows with each change of a call or
  * a structure. iface_new refuses a library of another one; a program that compares it with iface_version() before its
  * first call learns of that earlier. */
-#define IFACE_VERSION 0x000e0004u
+#define IFACE_VERSION 0x000e0005u
 
 /* The room that iface_receive and iface_next need for a frame, in octets. */
 #define IFACE_FRAME_ROOM 1514
@@ -148,19 +153,22 @@ struct iface_rate {
  * back. Each rule has its switch; a rate is off by an interval of 0. A comment ends with what iface_config_init sets. A
  * neighbour is expected if its hardware address is known, or if the host asked for it last, within three seconds. */
 struct iface_guard {
-    struct iface_rate neighbors;    /* ARP packets for own addresses and neighbour messages of those that aren't expected: 500,000 and 8 */
+    struct iface_rate neighbors;    /* ARP packets for own addresses and neighbour messages of those that aren't
+                                       expected: 500,000 and 8 */
     struct iface_rate discoveries;  /* packets to own addresses, other than of UDP and TCP, from those of own networks
                                        that aren't known: 2,000,000 and 1 */
     struct iface_rate queries;      /* queries of IGMP and MLD: 1,000,000 and 1 */
     struct iface_rate echo_replies; /* echo replies of either ICMP: 0 and 0 */
     struct iface_rate errors;       /* errors of either ICMP (RFC 4443, 2.4): 10,000 and 10 */
     struct iface_rate resets;       /* resets of TCP: 10,000 and 10 */
-    uint32_t routers;               /* for so many microseconds after a router was heard as another one than before, no other
-                                       is; 0 sets no bound: 60,000,000 */
+    uint32_t routers;               /* for so many microseconds after a router was heard as another one than before, no
+                                       other is; 0 sets no bound: 60,000,000 */
     uint8_t on;                     /* 0: there is no guard, as without hardware addresses: 1 */
-    uint8_t own_addresses;          /* not 0: drops what claims an own address (RFC 5227, 2.4), or comes from one: 1 */
+    uint8_t own_addresses;          /* not 0: drops what claims an own address for another hardware address than the own one
+                                       (RFC 5227, 2.4), or comes from one by another: 1 */
     uint8_t loops;                  /* not 0: drops datagrams of UDP from port 7, 13, 17 or 19 to a port below 1024: 1 */
     uint8_t fragments;              /* not 0: drops fragments: 0 */
+    uint32_t longest_error;         /* an error may be so many times as long as the frame that it answers; 0 sets no bound: 3 */
 };
 
 /* How a host is to be made: iface_config_init fills it in. */
@@ -175,6 +183,8 @@ struct iface_config {
     uint32_t frame_len;          /* the longest frame of the link in octets, with a header of Ethernet and without its
                                     checksum: 1514 on usual Ethernet */
     uint32_t sockets;            /* how many may be open at once; memory for their places is taken at once */
+    uint32_t neighbors;          /* how many neighbours it knows at once, of both versions together, in memory that is taken at
+                                    once; 0 is four, without such memory. A new one replaces the one that ends first */
     uint32_t burst;              /* how many frames the link takes one after the other: the window in a segment of TCP is at
                                     most what so many carry; 0 sets no bound */
     uint8_t hardware_address[6]; /* on Ethernet; else it isn't read */
@@ -195,7 +205,7 @@ enum iface_checksum {
 
 /* What a host counted since it was made. A number stays at the greatest one. */
 struct iface_counts {
-    uint64_t frames_in;  /* frames that iface_receive took */
+    uint64_t frames_in;  /* frames that iface_receive took, without those that the guard dropped */
     uint64_t frames_out; /* frames that iface_receive and iface_next wrote */
     uint64_t given_up;   /* packets that were given up, of all sockets */
     uint64_t no_memory;  /* how often memory for a frame was refused in the middle of a round: what was to be sent waits */
@@ -206,6 +216,7 @@ struct iface_counts {
 struct iface_drops {
     uint64_t own_address;  /* messages that claim an own address */
     uint64_t own_source;   /* packets from an own address */
+    uint64_t pinned;       /* messages that tell another hardware address of a pinned neighbour */
     uint64_t new_neighbor; /* by the rate `neighbors` */
     uint64_t discovery;    /* by the rate `discoveries` */
     uint64_t query;        /* by the rate `queries` */
@@ -219,16 +230,16 @@ struct iface_drops {
 
 /* ---- hosts ---- */
 
-/* Writes what most programs want: frames of 1514 octets on Ethernet, 8 sockets, no addresses from routers, a patience of
- * 3 s (three requests, a second apart: RFC 4861, 10), 10 s for fragments, and a guard. The start is 0, the seed is 0, and the
- * hardware address all zeros: set the last two. */
+/* Writes what most programs want: frames of 1514 octets on Ethernet, 8 sockets, 64 neighbours, no addresses from routers,
+ * a patience of 3 s (three requests, a second apart: RFC 4861, 10), 10 s for fragments, and a guard. The start is 0, the
+ * seed is 0, and the hardware address all zeros: set the last two. */
 void iface_config_init(struct iface_config *config);
 
 /* What iface_new calls, with the version of the header that the program was built with. */
 uint32_t iface_new_for(iface *host, const struct iface_config *config, uint32_t version);
 
-/* Makes a host, which the handle owns from then on. BAD_VERSION, HAS_HOST, BAD_ARGUMENT (the medium, a checksum), NOT_UNICAST
- * (the hardware address), BAD_MTU, BAD_TIMEOUT, BAD_MOMENT (the start), NO_MEMORY. */
+/* Makes a host, which the handle owns from then on. BAD_VERSION, HAS_HOST, BAD_ARGUMENT (the medium, a checksum),
+ * NOT_UNICAST (the hardware address), BAD_MTU, BAD_TIMEOUT, BAD_MOMENT (the start), NO_MEMORY: in this order. */
 static inline uint32_t iface_new(iface *host, const struct iface_config *config) {
     return iface_new_for(host, config, IFACE_VERSION);
 }
@@ -250,7 +261,7 @@ uint32_t iface_add_address(iface *host, const struct iface_address *address, uin
 uint32_t iface_remove_address(iface *host, const struct iface_address *address, uint8_t prefix_len);
 
 /* Makes a list of at most four its own addresses, with their networks, and forgets all neighbours.
- * TABLE_FULL (before all others), BAD_ARGUMENT, NOT_UNICAST. */
+ * TABLE_FULL (a longer list), BAD_ARGUMENT, NO_HOST, NOT_UNICAST: in this order. */
 uint32_t iface_set_addresses(iface *host, const struct iface_cidr *addresses, size_t count);
 
 /* Writes the own address at a place of their list, from 0 on: those that came from routers stand there too. NOT_THERE. */
@@ -278,7 +289,8 @@ uint32_t iface_has_group(iface *host, const struct iface_address *group, uint8_t
  * A call that writes a value changes nothing of the host. */
 
 /* Sets the host's address on Ethernet, six octets: frames are sent from it from now on, and those to it are taken. Those
- * of a round that wait already are still from the one before. Own addresses and groups stay. NOT_THERE (a medium without hardware addresses), NOT_UNICAST. */
+ * of a round that wait already are still from the one before. Own addresses and groups stay.
+ * NOT_THERE (a medium without hardware addresses), NOT_UNICAST. */
 uint32_t iface_set_hardware_address(iface *host, const uint8_t *address);
 
 /* Writes the host's address on Ethernet, six octets. NOT_THERE (a medium without hardware addresses). */
@@ -370,7 +382,8 @@ uint32_t iface_icmp_open_port(iface *host, uint16_t port, const struct iface_roo
 uint32_t iface_tcp_open(iface *host, const struct iface_endpoint *local, const struct iface_endpoint *remote,
                         const struct iface_rooms *rooms, uint32_t *socket);
 
-/* Closes a socket of whatever kind: what waits in it is dropped. NO_SOCKET. */
+/* Closes a socket of whatever kind: what waits in it is dropped. Its frames that a round has sent already are still handed
+ * over by iface_next. NO_SOCKET. */
 uint32_t iface_close(iface *host, uint32_t socket);
 
 /* Sets the hop limit of the packets that a socket sends from now on, those that wait among them: 64 at first.
@@ -392,8 +405,9 @@ uint32_t iface_queues(iface *host, uint32_t socket, struct iface_queue *received
 uint32_t iface_udp_send(iface *host, uint32_t socket, const struct iface_endpoint *remote, const uint8_t *payload,
                         size_t payload_len);
 
-/* A message of ICMP: one that isn't an echo message of the address's family is dropped later.
- * BAD_ARGUMENT, BAD_ADDRESS, TOO_LONG. */
+/* A message of ICMP, over IPv4 of at most 4096 octets with its header (20), over IPv6 of at most one packet of the link
+ * with its header (40). One that isn't an echo message of the address's family is dropped later.
+ * BAD_ARGUMENT, BAD_ADDRESS (unspecified), TOO_LONG. */
 uint32_t iface_icmp_send(iface *host, uint32_t socket, const struct iface_address *remote, const uint8_t *message,
                          size_t message_len);
 
@@ -478,10 +492,10 @@ uint32_t iface_receive(iface *host, int64_t now, const uint8_t *frame, size_t fr
  * NO_MEMORY (before a round, if memory for a frame is refused). */
 uint32_t iface_next(iface *host, int64_t now, uint8_t *out, size_t room, size_t *length);
 
-/* Writes 1 if a socket may have changed by frames that were taken and rounds that were made since this was last asked, else
- * 0. It may have if a frame was taken that isn't empty, or if a round sent a packet of a socket, or dropped one as too long.
- * One that is dropped when its socket is asked for it, without a source or of a kind that the socket doesn't send, isn't
- * told of. What a socket gave up since its neighbour didn't answer is told by iface_given_up. */
+/* Writes 1 if a socket may have changed by frames that were taken and rounds that were made since this was last asked,
+ * else 0. It may have if a frame was taken that isn't empty, or if a round sent a packet of a socket, or dropped one as
+ * too long. One that is dropped when its socket is asked for it, without a source or of a kind that the socket doesn't
+ * send, isn't told of: iface_queues tells of it. What a socket gave up is told by iface_given_up. */
 uint32_t iface_sockets_changed(iface *host, uint8_t *changed);
 
 /* Writes what the host counted. */
@@ -494,9 +508,248 @@ uint32_t iface_guard_drops(iface *host, struct iface_drops *drops);
  * and the moment at which it came (RFC 5227, 2.4). NOT_THERE (no such frame came). */
 uint32_t iface_guard_conflict(iface *host, uint8_t *hardware_address, int64_t *at);
 
+/* Pins a neighbour to a hardware address, six octets, in place of the one that it is pinned to. The guard drops ARP packets and
+ * neighbour messages of it that tell another one, as long as it is on. The host learns the address from the next message that
+ * tells this one, and asks for it as for any other. BAD_ARGUMENT (the version), NOT_UNICAST (one of the two), TABLE_FULL (eight
+ * others are pinned). */
+uint32_t iface_guard_pin(iface *host, const struct iface_address *address, const uint8_t *hardware_address);
+
+/* Pins a neighbour no more. BAD_ARGUMENT, NOT_THERE (it isn't pinned). */
+uint32_t iface_guard_unpin(iface *host, const struct iface_address *address);
+
+/* Writes the hardware address that the last frame came from which the guard dropped for telling another hardware address of a
+ * pinned neighbour, and the moment at which it came. NOT_THERE (no such frame came). */
+uint32_t iface_guard_pinned_conflict(iface *host, uint8_t *hardware_address, int64_t *at);
+
 /* Writes the instant at which iface_next is to be called again, if no frame comes before and no call changes the host:
  * one that has passed, if something is due at once, and IFACE_NEVER, if nothing is due. */
 uint32_t iface_poll_at(iface *host, int64_t now, int64_t *at);
+
+/* ---- DHCP ----
+ *
+ * A client leases an IPv4 address for a host (RFC 2131), which needs no address before: port 68 is the client's. The program
+ * calls iface_dhcp_poll after each frame that it hands over, and at the instant of iface_dhcp_poll_at, and then iface_next;
+ * and iface_dhcp_apply when there is an event. A handle of a client (iface_dhcp) is kept as that of a host: set to IFACE_DHCP_NONE
+ * before its first call, not copied, and in one call at a time. It goes with the host that it was made for.
+ *
+ * Two places for sockets have to be free: one for the client's UDP socket, and one for a raw socket, which is open while a
+ * message to all servers waits to be sent. A program that calls none of these is linked without any of it by --gc-sections. */
+
+/* A handle, which owns a client or none. Its fields are the library's. */
+typedef struct iface_dhcp {
+    uint64_t tag;
+    void *at;
+} iface_dhcp;
+
+/* A handle that owns none: iface_dhcp client = IFACE_DHCP_NONE; */
+#define IFACE_DHCP_NONE {0, NULL}
+
+/* What a server leased. An address that the server didn't tell has version 0. */
+struct iface_lease {
+    struct iface_address address;
+    struct iface_address router;
+    struct iface_address server;         /* the one that leased it */
+    struct iface_address dns_servers[3]; /* of names, from the first place on */
+    uint8_t prefix_len;                  /* how many bits of the address are the network's: 32 without a mask */
+    int64_t expires_at;                  /* when it ends, unless it is renewed before; IFACE_NEVER for a lease without end */
+};
+
+/* What has become of a lease. */
+enum iface_dhcp_event {
+    IFACE_DHCP_NOTHING = 0,     /* nothing, since the last call */
+    IFACE_DHCP_CONFIGURED = 1,  /* there is a lease: a new one, or one that was renewed */
+    IFACE_DHCP_DECONFIGURED = 2 /* there is none any more: its address must not be used */
+};
+
+/* Makes a client for a host with a hardware address, which the handle owns from then on. The seed is of the numbers by which its
+ * messages are known, another for each host and each start. `known` is an address that the host had before, which the client
+ * asks for first, or IFACE_ANY.
+ * HAS_CLIENT, BAD_ARGUMENT (a version of `known` that is neither 0 nor 4), NO_HOST, NOT_THERE (a medium without hardware
+ * addresses), TABLE_FULL (no socket is left), NO_MEMORY. */
+uint32_t iface_dhcp_new(iface_dhcp *client, iface *host, uint64_t seed, const struct iface_address *known);
+
+/* Does what is due: the client takes what came to port 68, a message that is to be sent now is queued, and what has become of
+ * the lease is written. A message for which there is no room or no memory counts as lost, and is sent again later.
+ * NO_CLIENT, NO_HOST, BAD_MOMENT, NO_SOCKET (the host hasn't the client's socket). */
+uint32_t iface_dhcp_poll(iface_dhcp *client, iface *host, int64_t now, uint32_t *event);
+
+/* Writes the instant at which iface_dhcp_poll is to be called again, if nothing comes before: IFACE_NEVER only for a lease
+ * without end. NO_CLIENT. */
+uint32_t iface_dhcp_poll_at(iface_dhcp *client, int64_t *at);
+
+/* Writes the lease that the client has. NO_CLIENT, EMPTY (it has none). */
+uint32_t iface_dhcp_lease(iface_dhcp *client, struct iface_lease *lease);
+
+/* Gives the host the address of the lease with its network, and its router as a default route, after the others; in place of those
+ * that the client gave it before, and none without a lease. That forgets all neighbours, unless the lease gives the same as before:
+ * then nothing changes. Other addresses and routes stay.
+ * NO_CLIENT, NO_HOST, TABLE_FULL, NOT_UNICAST (one of all own addresses can't be one). */
+uint32_t iface_dhcp_apply(iface_dhcp *client, iface *host);
+
+/* Gives up the lease, if there is one, and begins anew, as after a link went down. The next iface_dhcp_poll tells of a lease that
+ * is gone. NO_CLIENT. */
+uint32_t iface_dhcp_reset(iface_dhcp *client);
+
+/* Frees a client: the handle owns none from then on. If the other handle owns a host, the client's sockets there are closed. What
+ * the client gave the host stays: call iface_dhcp_reset and iface_dhcp_apply before. NO_CLIENT. */
+uint32_t iface_dhcp_free(iface_dhcp *client, iface *host);
+
+/* ---- connections of TCP ----
+ *
+ * A state machine of TCP (RFC 9293) for a host: it listens, connects, sends again what was lost, and keeps what came until the program
+ * reads it. A handle (iface_streams) owns all connections of a host. It is kept as that of a host: set to IFACE_STREAMS_NONE before
+ * its first call, not copied, and in one call at a time. It goes with the host that it was made for.
+ *
+ * The program calls iface_streams_poll after each frame that it hands over, after calls that write, close or abort, and at the instant
+ * of iface_streams_poll_at; and then iface_next. Memory is taken when connections are made, and where one listens, and never later.
+ *
+ * Two raw sockets of the host for each family carry the segments. Leave these to the library: they aren't to be closed. While they
+ * are there each segment that belongs to no connection is answered by a reset, also one that comes to a socket of iface_tcp_open. A
+ * program that calls none of these is linked without any of it. */
+
+/* A handle, which owns connections or none. Its fields are the library's. */
+typedef struct iface_streams {
+    uint64_t tag;
+    void *at;
+} iface_streams;
+
+/* A handle that owns none: iface_streams tcp = IFACE_STREAMS_NONE; */
+#define IFACE_STREAMS_NONE {0, NULL}
+
+/* How connections are to be made: iface_streams_config_init fills it in, but for the two secrets. */
+struct iface_streams_config {
+    uint8_t number_key[32];    /* a secret of random octets, by which initial numbers can't be guessed (RFC 6528) */
+    uint64_t table_key[2];     /* another one, by which nobody chooses ends that are slow to find */
+    uint64_t keep_alive;       /* how long nothing arrives before a peer is probed; 0 for never: 0 */
+    uint64_t timeout;          /* how long what was sent may stay unacknowledged; 0 for twelve tries: 0 */
+    uint64_t ack_delay;        /* how long an acknowledgement of octets in order may wait: 10,000 */
+    uint64_t shortest_timeout; /* the shortest time after which something is sent again: 200,000 */
+    uint64_t time_wait;        /* how long TIME-WAIT lasts: 60,000,000. All of these are in microseconds */
+    uint32_t places;           /* how many connections there are at most, from 1 to 2^30: 16 */
+    uint32_t send_room;        /* how many octets each may hold that aren't acknowledged, at most 2^30: 16,384 */
+    uint32_t receive_room;     /* how many octets each may hold that aren't read, at most 2^30: 16,384 */
+    uint32_t packets;          /* how many packets wait between the connections and the host, each way and family: 32 */
+    uint32_t packet_octets;    /* how many octets they have together: 49,152 */
+    uint32_t far_octets;       /* how many octets packets have together that wait for peers that haven't answered, of which
+                                  at most 16 do: 4,096 */
+    uint8_t ipv4;              /* not 0: over IPv4: 1 */
+    uint8_t ipv6;              /* not 0: over IPv6: 1 */
+    uint8_t nagle;             /* not 0: short segments wait while something is unacknowledged: 1 */
+    uint8_t congestion_control; /* not 0: a congestion window narrows what is sent: 1 */
+};
+
+/* The name of a connection, which may be copied. Once the program has released it, it names nothing. */
+struct iface_stream {
+    size_t place;
+    uint64_t generation;
+};
+
+/* The states of a connection (RFC 9293, 3.3.2). From IFACE_CLOSE_WAIT on the peer's end came: what came before can still be read, and
+ * nothing more comes. */
+enum iface_stream_state {
+    IFACE_CLOSED = 0, /* it is gone; what came before can still be read */
+    IFACE_LISTEN = 1, /* no connection is ever in it: a listener is something else */
+    IFACE_SYN_SENT = 2,
+    IFACE_SYN_RECEIVED = 3,
+    IFACE_ESTABLISHED = 4,
+    IFACE_FIN_WAIT_1 = 5,
+    IFACE_FIN_WAIT_2 = 6,
+    IFACE_CLOSE_WAIT = 7,
+    IFACE_CLOSING = 8,
+    IFACE_LAST_ACK = 9,
+    IFACE_TIME_WAIT = 10
+};
+
+/* Why a connection ended before both sides had closed. */
+enum iface_stream_ending {
+    IFACE_NOT_CUT = 0,   /* it didn't */
+    IFACE_BY_PEER = 1,   /* the peer sent a reset */
+    IFACE_REFUSED = 2,   /* the peer answered the SYN by a reset */
+    IFACE_TIMED_OUT = 3, /* what was sent stayed unacknowledged, or the peer didn't answer probes */
+    IFACE_ABORTED = 4    /* the program aborted, or the own address is gone */
+};
+
+/* Writes what most programs want: the values in the comments above, and zeros for the two secrets, which the program sets. */
+void iface_streams_config_init(struct iface_streams_config *config);
+
+/* Makes connections for a host, which the handle owns from then on, and opens two raw sockets of the host for each family. Segments
+ * are as long as the link carries: 40 octets less than its longest packet over IPv4, 60 over IPv6.
+ * HAS_STREAMS, BAD_ARGUMENT (a number that is out of range, or neither family), NO_HOST, TABLE_FULL (the host has no places for
+ * the sockets), NO_MEMORY. */
+uint32_t iface_streams_new(iface_streams *tcp, iface *host, const struct iface_streams_config *config);
+
+/* Does what is due: the connections take what came, and what they send is queued. NO_STREAMS, NO_HOST, BAD_MOMENT. */
+uint32_t iface_streams_poll(iface_streams *tcp, iface *host, int64_t now);
+
+/* Writes the instant at which iface_streams_poll is to be called again, if nothing comes before and no call changes a connection:
+ * one that has passed, if something is due at once, and IFACE_NEVER, if nothing is due. NO_STREAMS. */
+uint32_t iface_streams_poll_at(iface_streams *tcp, int64_t *at);
+
+/* Frees all connections without a word to their peers: the handle owns none from then on. If the other handle owns a host, their
+ * sockets there are closed. NO_STREAMS. */
+uint32_t iface_streams_free(iface_streams *tcp, iface *host);
+
+/* All calls below answer NO_STREAMS if the handle owns none. */
+
+/* Listens at a port of one local address; of any, if the version of `local` is 0 as in IFACE_ANY, or its address 0.0.0.0 or ::. At
+ * most `backlog` handshakes are under way, and as many connections wait to be accepted; 0 counts as 1. Writes the listener's number,
+ * from 0 on. Of listeners at one port the first one gets the connections.
+ * BAD_ARGUMENT, BAD_PORT, BAD_ADDRESS (not unicast), NO_MEMORY. */
+uint32_t iface_stream_listen(iface_streams *tcp, const struct iface_endpoint *local, uint32_t backlog, size_t *listener);
+
+/* Takes the connection of a listener that waits longest, and writes its name. EMPTY (none waits, or there is no such listener). */
+uint32_t iface_stream_accept(iface_streams *tcp, size_t listener, struct iface_stream *stream);
+
+/* Opens a connection to a peer, from a port of one own address; or of the one that iface_source_for writes, if that of `local` is
+ * none. Writes its name. The next iface_streams_poll sends the SYN, and iface_stream_state tells what becomes of it. An address of
+ * `local` that the host doesn't have ends it then, as if aborted.
+ * BAD_ARGUMENT, NO_STREAMS, NO_HOST, BAD_MOMENT, BAD_PORT (also the peer's), NOT_THERE (no own address of this family), BAD_ADDRESS
+ * (one that isn't unicast, or they are of two families), IN_USE (choose another port), TABLE_FULL (each place has a connection). */
+uint32_t iface_stream_connect(iface_streams *tcp, iface *host, int64_t now, const struct iface_endpoint *local,
+                              const struct iface_endpoint *remote, struct iface_stream *stream);
+
+/* All calls below answer NO_SOCKET if the name names no connection. */
+
+/* Queues the first octets, as many as there is room for, and writes how many: 0 once the program closed, or the connection is gone. */
+uint32_t iface_stream_send(iface_streams *tcp, const struct iface_stream *stream, const uint8_t *octets, size_t length,
+                           size_t *count);
+
+/* Takes the octets that came, in order and as many as there is room for, and writes how many: 0 where none came, and where no more
+ * come, which iface_stream_state tells apart. */
+uint32_t iface_stream_receive(iface_streams *tcp, const struct iface_stream *stream, uint8_t *out, size_t room,
+                              size_t *count);
+
+/* Writes what the call above does, and leaves the octets there. */
+uint32_t iface_stream_peek(iface_streams *tcp, const struct iface_stream *stream, uint8_t *out, size_t room, size_t *count);
+
+/* Closes: the end follows what was written. The program may still read. One whose handshake isn't complete is gone. */
+uint32_t iface_stream_close(iface_streams *tcp, const struct iface_stream *stream);
+
+/* Aborts: the connection is gone, and a peer that knows of it gets a reset. */
+uint32_t iface_stream_abort(iface_streams *tcp, const struct iface_stream *stream);
+
+/* Lets go of a connection: its name names nothing from then on. It is aborted if the peer may still send; else it ends by itself. So
+ * a program that closes reads until the end before it releases. Each connection is to be released, also one that is gone. */
+uint32_t iface_stream_release(iface_streams *tcp, const struct iface_stream *stream);
+
+/* Writes the state, of enum iface_stream_state. */
+uint32_t iface_stream_state(iface_streams *tcp, const struct iface_stream *stream, uint32_t *state);
+
+/* Writes why it ended before both sides had closed, of enum iface_stream_ending. */
+uint32_t iface_stream_ending(iface_streams *tcp, const struct iface_stream *stream, uint32_t *ending);
+
+/* Writes the two ends: the own one, and the peer's. NOT_THERE (it has none any more). */
+uint32_t iface_stream_ends(iface_streams *tcp, const struct iface_stream *stream, struct iface_endpoint *local,
+                           struct iface_endpoint *remote);
+
+/* Writes how many octets iface_stream_send takes now, and how many iface_stream_receive writes. */
+uint32_t iface_stream_rooms(iface_streams *tcp, const struct iface_stream *stream, size_t *writable, size_t *readable);
+
+/* Each of these sets what the field of its name in the configuration says, for one connection from now on. */
+uint32_t iface_stream_set_nagle(iface_streams *tcp, const struct iface_stream *stream, uint8_t on);
+uint32_t iface_stream_set_ack_delay(iface_streams *tcp, const struct iface_stream *stream, uint64_t micros);
+uint32_t iface_stream_set_keep_alive(iface_streams *tcp, const struct iface_stream *stream, uint64_t micros);
+uint32_t iface_stream_set_timeout(iface_streams *tcp, const struct iface_stream *stream, uint64_t micros);
 
 /* ---- the library ---- */
 
@@ -515,11 +768,14 @@ const char *iface_strerror(uint32_t code);
 
 #if defined(__STDC_VERSION__) && __STDC_VERSION__ >= 201112L
 _Static_assert(sizeof(struct iface_address) == 17 && sizeof(struct iface_endpoint) == 20, "as the library lays them out");
-_Static_assert(sizeof(struct iface_config) == 120 && sizeof(iface) == 16, "as the library lays them out");
+_Static_assert(sizeof(struct iface_config) == 128 && sizeof(iface) == 16, "as the library lays them out");
 _Static_assert(sizeof(struct iface_cidr) == 18 && sizeof(struct iface_counts) == 32, "as the library lays them out");
 _Static_assert(sizeof(struct iface_queue) == 20 && sizeof(struct iface_checksums) == 5, "as the library lays them out");
-_Static_assert(sizeof(struct iface_rate) == 8 && sizeof(struct iface_guard) == 56, "as the library lays them out");
-_Static_assert(sizeof(struct iface_drops) == 88, "as the library lays them out");
+_Static_assert(sizeof(struct iface_rate) == 8 && sizeof(struct iface_guard) == 60, "as the library lays them out");
+_Static_assert(sizeof(struct iface_drops) == 96, "as the library lays them out");
+_Static_assert(sizeof(struct iface_lease) == 112 && sizeof(iface_dhcp) == 16, "as the library lays them out");
+_Static_assert(sizeof(struct iface_streams_config) == 120 && sizeof(iface_streams) == 16, "as the library lays them out");
+_Static_assert(sizeof(struct iface_stream) == 16, "as the library lays them out");
 _Static_assert(sizeof(struct iface_rooms) == 16 && sizeof(struct iface_segment) == 32, "as the library lays them out");
 #endif
 

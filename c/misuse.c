@@ -39,6 +39,7 @@ static void fill_in_good(void) {
     iface_config_init(&good);
     wants("usual frames", good.frame_len == 1514 && good.medium == IFACE_ETHERNET && good.sockets == 8 && good.slaac == 0, 1);
     wants("no bound of bursts", good.burst, 0);
+    wants("usual neighbours", good.neighbors, 64);
     wants("usual patience", good.patience, 3000000);
     wants("usual timeout", good.reassembly_timeout, 10000000);
     wants("usual start", (uint64_t)good.start, 0);
@@ -101,6 +102,9 @@ static void refuses_without_host(void) {
     wants("counters", iface_counters(&host, &counters), IFACE_NO_HOST);
     wants("drops", iface_guard_drops(&host, &drops), IFACE_NO_HOST);
     wants("conflict", iface_guard_conflict(&host, hardware, &at), IFACE_NO_HOST);
+    wants("pinned conflict", iface_guard_pinned_conflict(&host, hardware, &at), IFACE_NO_HOST);
+    wants("pin", iface_guard_pin(&host, &a, hardware), IFACE_NO_HOST);
+    wants("unpin", iface_guard_unpin(&host, &a), IFACE_NO_HOST);
     wants("neighbour", iface_neighbor_at(&host, 0, &b, hardware, &at), IFACE_NO_HOST);
     wants("queues", iface_queues(&host, 0, &received, &to_send), IFACE_NO_HOST);
     wants("nothing written", counters.no_memory == 77 && drops.reset == 77 && b.octets[3] == 9 && received.first == 77 && to_send.first == 78, 1);
@@ -418,12 +422,12 @@ static void refuses_frames(iface *host) {
 
 /* What the library says of itself, and of each code. */
 static void tells_of_itself(void) {
-    const char *unknown = iface_strerror(IFACE_BAD_VERSION + 1);
+    const char *unknown = iface_strerror(IFACE_IN_USE + 1);
     wants("version", iface_version(), IFACE_VERSION);
     wants("name", strncmp(iface_build(), "fumitorygate 0.14.0 (", 21) == 0, 1);
     wants("a number that is no code", strcmp(unknown, "unknown code") == 0, 1);
     wants("the greatest number", strcmp(iface_strerror(UINT32_MAX), unknown) == 0, 1);
-    for (uint32_t a = 0; a <= IFACE_BAD_VERSION; a++) {
+    for (uint32_t a = 0; a <= IFACE_IN_USE; a++) {
         wants("a code", strcmp(iface_strerror(a), unknown) != 0, 1);
         for (uint32_t b = 0; b < a; b++) wants("two codes", strcmp(iface_strerror(a), iface_strerror(b)) != 0, 1);
     }

@@ -8,6 +8,7 @@
  */
 #define _XOPEN_SOURCE 600
 #include "iface.h"
+#include "lease_reply.h"
 
 #include <stdbool.h>
 #include <stdio.h>
@@ -108,6 +109,13 @@ static struct iface_cidr list[4];
 static struct iface_queue received, to_send;
 static int64_t now = 1000000, at;
 static size_t length, given, list_length;
+static iface_dhcp client = IFACE_DHCP_NONE;
+static struct iface_lease lease;
+static iface_streams tcp = IFACE_STREAMS_NONE;
+static struct iface_streams_config streams_config;
+static struct iface_stream stream;
+static struct iface_endpoint local;
+static size_t listener, writable;
 
 #define CALLS(each) \
     each(config_init, (iface_config_init(&config), IFACE_OK)) \
@@ -167,7 +175,39 @@ static size_t length, given, list_length;
     each(counters, iface_counters(&host, &counters)) \
     each(guard_drops, iface_guard_drops(&host, &drops)) \
     each(guard_conflict, iface_guard_conflict(&host, hardware, &at)) \
-    each(poll_at, iface_poll_at(&host, now, &at))
+    each(guard_pinned_conflict, iface_guard_pinned_conflict(&host, hardware, &at)) \
+    each(guard_pin, iface_guard_pin(&host, &address, hardware)) \
+    each(guard_unpin, iface_guard_unpin(&host, &address)) \
+    each(poll_at, iface_poll_at(&host, now, &at)) \
+    each(dhcp_new, iface_dhcp_new(&client, &host, 1, &address)) \
+    each(dhcp_poll, iface_dhcp_poll(&client, &host, now, &number)) \
+    each(dhcp_poll_at, iface_dhcp_poll_at(&client, &at)) \
+    each(dhcp_lease, iface_dhcp_lease(&client, &lease)) \
+    each(dhcp_apply, iface_dhcp_apply(&client, &host)) \
+    each(dhcp_reset, iface_dhcp_reset(&client)) \
+    each(dhcp_free, iface_dhcp_free(&client, &host)) \
+    each(streams_config_init, (iface_streams_config_init(&streams_config), IFACE_OK)) \
+    each(streams_new, iface_streams_new(&tcp, &host, &streams_config)) \
+    each(streams_poll, iface_streams_poll(&tcp, &host, now)) \
+    each(streams_poll_at, iface_streams_poll_at(&tcp, &at)) \
+    each(streams_free, iface_streams_free(&tcp, &host)) \
+    each(stream_listen, iface_stream_listen(&tcp, &local, number, &listener)) \
+    each(stream_accept, iface_stream_accept(&tcp, listener, &stream)) \
+    each(stream_connect, iface_stream_connect(&tcp, &host, now, &local, &end, &stream)) \
+    each(stream_send, iface_stream_send(&tcp, &stream, payload, given, &length)) \
+    each(stream_receive, iface_stream_receive(&tcp, &stream, out, sizeof out, &length)) \
+    each(stream_peek, iface_stream_peek(&tcp, &stream, out, sizeof out, &length)) \
+    each(stream_close, iface_stream_close(&tcp, &stream)) \
+    each(stream_abort, iface_stream_abort(&tcp, &stream)) \
+    each(stream_release, iface_stream_release(&tcp, &stream)) \
+    each(stream_state, iface_stream_state(&tcp, &stream, &number)) \
+    each(stream_ending, iface_stream_ending(&tcp, &stream, &number)) \
+    each(stream_ends, iface_stream_ends(&tcp, &stream, &local, &end)) \
+    each(stream_rooms, iface_stream_rooms(&tcp, &stream, &writable, &length)) \
+    each(stream_set_nagle, iface_stream_set_nagle(&tcp, &stream, flag)) \
+    each(stream_set_ack_delay, iface_stream_set_ack_delay(&tcp, &stream, count)) \
+    each(stream_set_keep_alive, iface_stream_set_keep_alive(&tcp, &stream, count)) \
+    each(stream_set_timeout, iface_stream_set_timeout(&tcp, &stream, count))
 
 #define NUMBER(name, expression) CALL_##name,
 #define FUNCTION(name, expression) static void do_##name(void) { code = (expression); }
@@ -384,13 +424,90 @@ static void turn(void) {
     memcpy(payload, address.version == 4 ? "\10\0\0\0\0\52\0\1" : "\200\0\0\0\0\52\0\1", 8), MAKE(icmp_send);
     for (int i = 0; i < 40 && MAKE(next) == IFACE_OK && length > 0; i++) {}
     MUST(poll_at), MUST(given_up_count), MUST(sockets_changed), MUST(counters), MUST(guard_drops), MAKE(guard_conflict);
+    MAKE(guard_pinned_conflict), MAKE(guard_pin), MAKE(guard_unpin);
     socket_number = number = turns++ % 4, MUST(queues), MAKE(neighbor_at);
     socket_number = 0, MAKE(waiting), MAKE(given_up);
+}
+
+/* The client does what is due, and what it sends is answered by a message of a type. */
+static void lease_step(uint8_t type) {
+    MUST(dhcp_poll), MUST(dhcp_poll_at);
+    memset(out, 0, AT_CLIENT + 6);
+    MUST(next);
+    given = lease_reply(frame, out, type, 50, 120), MUST(receive);
+}
+
+/* A host without an address leases one, renews it, and gives it up. */
+static void take_leases(void) {
+    MUST(config_init);
+    config.hardware_address[0] = 2, config.hardware_address[5] = 1;
+    MUST(new_for);
+    address.version = 0, MUST(dhcp_new);
+    lease_step(OFFER), lease_step(ACK);
+    MUST(dhcp_poll), MUST(dhcp_lease), MUST(dhcp_apply);
+    now = at, now += 60000000, MUST(dhcp_poll), MUST(next);
+    now += 55000000, lease_step(NAK);
+    MUST(dhcp_poll), MUST(dhcp_apply), MUST(next);
+    MUST(dhcp_reset), MUST(dhcp_free), MUST(free);
+}
+
+/* Another host with connections, to which the host of the calls speaks. Its own calls aren't counted. */
+static iface peer_host = IFACE_NONE;
+static iface_streams peer_tcp = IFACE_STREAMS_NONE;
+
+/* Segments go both ways, until none is left. */
+static void exchange_segments(void) {
+    size_t n;
+    do {
+        MUST(streams_poll), MUST(streams_poll_at), iface_streams_poll(&peer_tcp, &peer_host, now);
+        MUST(next);
+        if ((writable = length)) iface_receive(&peer_host, now, out, length, frame, sizeof frame, &n);
+        iface_next(&peer_host, now, frame, sizeof frame, &given);
+        if (given) MUST(receive);
+    } while (writable || given);
+}
+
+/* Octets go both ways by a connection, whose other side has a name of its own. */
+static void exchange_octets(const struct iface_stream *theirs) {
+    static uint8_t came[4096];
+    size_t n;
+    for (int i = 0; i < 20; i++, now += 1000) {
+        given = word() % sizeof came, MUST(stream_send), MUST(stream_rooms), MUST(stream_state), MUST(stream_ending);
+        iface_stream_send(&peer_tcp, theirs, payload, word() % sizeof came, &n);
+        exchange_segments();
+        MUST(stream_peek), MUST(stream_receive);
+        iface_stream_receive(&peer_tcp, theirs, came, sizeof came, &n);
+        exchange_segments();
+    }
+    MUST(stream_set_nagle), MUST(stream_set_ack_delay), MUST(stream_set_keep_alive), MUST(stream_set_timeout), MUST(stream_ends);
+}
+
+/* A host with connections of TCP: a peer comes, then the host connects to it. */
+static void speak_tcp(void) {
+    static const struct iface_address own[] = {{4, {10, 0, 0, 1}}, {4, {10, 0, 0, 2}}};
+    struct iface_endpoint to = {own[0], 7}, from = {IFACE_ANY, 4000};
+    struct iface_stream theirs;
+    MUST(config_init), config.medium = IFACE_IP, config.frame_len = 1500;
+    MUST(new_for), iface_new(&peer_host, &config);
+    prefix_len = 24, address = own[0], MUST(add_address), iface_add_address(&peer_host, &own[1], 24);
+    MUST(streams_config_init), streams_config.places = 2, streams_config.packet_octets = 16384, MUST(streams_new), iface_streams_new(&peer_tcp, &peer_host, &streams_config);
+    local = (struct iface_endpoint){IFACE_ANY, 7}, number = 4, MUST(stream_listen);
+    iface_stream_connect(&peer_tcp, &peer_host, now, &from, &to, &theirs);
+    exchange_segments(), MUST(stream_accept), exchange_octets(&theirs);
+    iface_stream_close(&peer_tcp, &theirs), exchange_segments(), MUST(stream_close), exchange_segments(), MUST(stream_release);
+    iface_stream_listen(&peer_tcp, &to, 4, &listener), iface_stream_listen(&peer_tcp, &from, 4, &listener);
+    local.port = 5000, end = (struct iface_endpoint){own[1], 4000}, local.address.version = 0, MUST(stream_connect);
+    exchange_segments(), iface_stream_accept(&peer_tcp, listener, &theirs), exchange_octets(&theirs);
+    MUST(stream_abort), exchange_segments(), MUST(stream_release);
+    iface_streams_free(&peer_tcp, &peer_host), iface_free(&peer_host);
+    MUST(streams_free), MUST(free);
 }
 
 int main(void) {
     int wrong = 0;
     taken_by_none = used_by(do_nothing);
+    take_leases();
+    speak_tcp();
     for (uint8_t medium = 0; medium < 2; medium++) {
         set_up(medium);
         for (int i = 0; i < 5000; i++) {

@@ -84,7 +84,7 @@ sleep 2 # until the kernel sends again; the service solicits every 4 s
 try "$folder/tap_peer" router
 stop
 
-# TCP over segments: the kernel's own connects, sends 100,000 octets at once, and gets them back; then it ends.
+# TCP, over segments and over connections: the kernel's own connects, sends 100,000 octets at once, and gets them back; then it ends.
 sends_back() {
     local sent got
     sent=$(head -c 75000 /dev/urandom | base64 -w 0)
@@ -94,11 +94,13 @@ sends_back() {
     exec 3>&-
     [ "$got" = "$sent" ]
 }
-start "$folder/tcp_echo" tap0 60
-try sends_back 192.168.69.7
-try sends_back 192.168.69.7
-try sends_back fd69::7
-stop
+for program in segment_echo tcp_echo; do
+    start "$folder/$program" tap0 60
+    try sends_back 192.168.69.7
+    try sends_back 192.168.69.7
+    try sends_back fd69::7
+    stop
+done
 
 # A neighbour that answers, and one that doesn't.
 try "$folder/ping" tap0 192.168.69.4/24 192.168.69.100 -c 3 -i 0.2

@@ -18,10 +18,17 @@ TYPES = {
     "struct iface_counts": "iface_counts", "struct iface_queue": "iface_queue",
     "struct iface_checksums": "iface_checksums", "struct iface_rooms": "iface_rooms", "struct iface_segment": "iface_segment",
     "struct iface_rate": "iface_rate", "struct iface_guard": "iface_guard", "struct iface_drops": "iface_drops",
+    "iface_dhcp": "iface_dhcp", "struct iface_lease": "iface_lease",
+    "iface_streams": "iface_streams", "struct iface_streams_config": "iface_streams_config",
+    "struct iface_stream": "iface_stream",
 }
+# The enums whose numbers calls write as words. The others are octets.
+WORDS = {"iface_code", "iface_stream_state", "iface_stream_ending"}
 # IFACE_ROOMS isn't translated: `host::Rooms::new` makes the same.
 DEFINED = {"IFACE_H", "IFACE_FRAME_ROOM", "IFACE_LAST_MOMENT", "IFACE_NEVER", "IFACE_NONE", "IFACE_VERSION", "IFACE_ANY",
-           "IFACE_ROOMS"}
+           "IFACE_ROOMS", "IFACE_DHCP_NONE", "IFACE_STREAMS_NONE"}
+# The handles, and what each owns.
+HANDLES = [("iface", "host"), ("iface_dhcp", "client"), ("iface_streams", "connections")]
 RESULTS = {"uint32_t ": " -> u32", "void ": "", "const char *": " -> *const c_char"}
 HEAD = """//! `c/iface.h`, declared: made by `make_sys.py`, with the comments of the header.
 //!
@@ -144,14 +151,15 @@ def constants(header):
     """The enums and numbers."""
     out = []
     for name, body in re.findall(r"enum (\w+) \{(.*?)\};", header, flags=re.S):
-        kind = "u32" if name == "iface_code" else "u8"
+        kind = "u32" if name in WORDS else "u8"
         for one in re.finditer(r"(\w+) = (\d+),?\s*(/\*.*?\*/)?", body, flags=re.S):
             out += docs(one[3]) if one[3] else [f"/// `{name}`."]
             out += [f"pub const {one[1]}: {kind} = {one[2]};"]
         out.append("")
     room = re.search(r"#define IFACE_FRAME_ROOM (\d+)\n", header)[1]
     last = re.search(r"#define IFACE_LAST_MOMENT \(\(int64_t\)1 << (\d+)\)\n", header)[1]
-    assert "#define IFACE_NEVER INT64_MAX\n" in header and "#define IFACE_NONE {0, NULL}\n" in header
+    assert "#define IFACE_NEVER INT64_MAX\n" in header
+    assert all(f"#define {name.upper()}_NONE {{0, NULL}}\n" in header for name, _ in HANDLES)
     out += ["/// The room that `iface_receive` and `iface_next` need for a frame, in octets.",
             f"pub const IFACE_FRAME_ROOM: usize = {room};",
             "/// The last moment, in microseconds.", f"pub const IFACE_LAST_MOMENT: i64 = 1 << {last};",
@@ -179,9 +187,9 @@ def structures(header):
                 out += docs(one[2], "    ") if one[2] else [f"    /// `{field}`."]
             out.append(f"    {'' if is_handle else 'pub '}{field}: {kind},")
         out += ["}", ""]
-    out += ["impl iface {", "    /// A handle that owns no host.",
-            "    pub const NONE: iface = iface {", "        tag: 0,", "        at: core::ptr::null_mut(),", "    };",
-            "}", ""]
+    for name, owned in HANDLES:
+        out += [f"impl {name} {{", f"    /// A handle that owns no {owned}.", f"    pub const NONE: {name} = {name} {{",
+                "        tag: 0,", "        at: core::ptr::null_mut(),", "    };", "}", ""]
     sizes = re.findall(r"sizeof\((?:struct )?(\w+)\) == (\d+)", header)
     assert sorted(name for name, _ in sizes) == sorted(names) and len(names) == header.count("struct ") - len(
         re.findall(r"struct \w+ [*&]?\w+|struct \w+\)|\(struct iface\)", header)), "a structure that it didn't read"

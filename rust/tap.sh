@@ -1,12 +1,12 @@
 #!/bin/bash
-# Runs ping, discover, server, multicast and slaac on TAP devices, and trace on one of a pair of interfaces, in a network namespace
-# of its own, against Linux's stack. It changes nothing outside that namespace, and ends by itself after at most three
-# minutes.
+# Runs ping, discover, server, client, httpclient, multicast, slaac and dhcp_client on TAP devices, and trace on one of a pair of
+# interfaces, in a network namespace of its own, against Linux's stack. It changes nothing outside that namespace, and ends by
+# itself after at most three minutes.
 #
 #   tap.sh FOLDER     the folder of the built examples, of Linux
 #
 # It needs: root (for the namespace and the device), unshare (util-linux), ip (iproute2), ping (iputils), python3,
-# /dev/net/tun.
+# /dev/net/tun; dhcp_client is tried where there is dnsmasq too.
 set -eu
 folder=$(realpath "$1")
 here=$(dirname "$(realpath "$0")")
@@ -28,7 +28,8 @@ fi
 
 scratch=$(mktemp -d)
 running=
-trap 'kill $running 2>/dev/null || true; rm -rf "$scratch"' EXIT
+server=
+trap 'kill $running $server 2>/dev/null || true; rm -rf "$scratch"' EXIT
 ip link set lo up
 ip tuntap add dev tap0 mode tap
 ip addr add 192.168.69.100/24 dev tap0
@@ -80,6 +81,24 @@ try python3 "$here/tap_peer.py" reversed
 finish 'udp:6969 recv data: 4000 octets from 192.168.69.100'
 
 ip neigh flush dev tap0
+start server 15
+try python3 "$here/tap_peer.py" streams
+finish 'tcp:6969 send greeting' 'tcp:6970 connected' 'tcp:6970 disconnected'
+
+# A peer in Python for a client of the crate.
+asks() {
+    ip neigh flush dev tap0
+    python3 "$here/tap_peer.py" "$1" &
+    running=$!
+    sleep 1
+    timeout 20 "${@:2}" >"$scratch/output" || status=1
+}
+asks lines "$folder/client" tap0 192.168.69.100 7000
+finish 'connected' 'send data: "eerht' 'disconnected'
+asks page "$folder/httpclient" tap0 192.168.69.100 http://192.168.69.100:8080/page
+finish 'HTTP/1.1 200 OK' 'line 4999'
+
+ip neigh flush dev tap0
 start multicast 6
 try python3 "$here/tap_peer.py" groups
 finish 'to 224.0.0.37' 'MembershipQuery' 'ff15::25'
@@ -91,6 +110,25 @@ try python3 "$here/tap_peer.py" router
 ip -6 addr add 2001:db8:77::100/64 dev tap0 nodad
 try ping -c 3 -i 0.2 2001:db8:77::ff:fe00:1
 finish '2001:db8:77::ff:fe00:1/64'
+
+if command -v dnsmasq >/dev/null; then
+    ip neigh flush dev tap0
+    dnsmasq -k -C /dev/null -p 0 -i tap0 --bind-interfaces --dhcp-range=192.168.69.50,192.168.69.59,120s --dhcp-authoritative --no-ping \
+        --dhcp-option=option:dns-server,192.168.69.100,192.168.69.101 "--dhcp-leasefile=$scratch/leases" --pid-file= \
+        --log-facility=- >"$scratch/server" 2>&1 &
+    server=$!
+    start dhcp_client 12
+    for _ in $(seq 90); do # a first message that comes before the link is there is sent again after 4 s
+        grep -q '^IP address' "$scratch/output" && break
+        sleep 0.1
+    done
+    try ping -c 3 -i 0.2 "$(sed -n 's|^IP address: *\(.*\)/24$|\1|p' "$scratch/output")"
+    finish 'DHCP config acquired' 'IP address: *192.168.69.5[0-9]/24' 'gateway: 192.168.69.100' 'DNS server 1: *192.168.69.101'
+    kill "$server"
+    wait "$server" || true
+else
+    echo 'no dnsmasq: dhcp_client was not tried' >&2
+fi
 
 ip link add peer0 type veth peer name raw0
 ip addr add 192.168.70.100/24 dev peer0

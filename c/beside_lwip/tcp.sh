@@ -1,8 +1,9 @@
 #!/bin/sh
-# Prints the instructions of TCP's work in lwIP, by tcp_bench.c under callgrind: what its functions take between the call and
+# Prints the instructions of TCP's work, by tcp_bench.c under callgrind: what the functions of a host take between the call and
 # the return, without the program that calls them and the peer. Each is the difference of two runs, divided by the rounds.
 #
-#   tcp.sh SOURCE                 the unpacked source of lwIP 2.1.3, as of `apt-get source lwip` on Debian 12
+#   tcp.sh own                    this library's, as `make -C c` built it
+#   tcp.sh SOURCE                 lwIP's: the unpacked source of lwIP 2.1.3, as of `apt-get source lwip` on Debian 12
 #   tcp.sh SOURCE build FOLDER    just builds into a folder: tcp_bench; tcp_echo, which is a stand-in for ../tcp.sh; tcp_script,
 #                                 which prints the frames and calls of tcp_bench
 #
@@ -19,9 +20,13 @@ build() { # build PROGRAM FLAG.. -- FILE..
     ${CC:-cc} -O3 -g -march=x86-64-v2 -w -DLWIP_TCP=1 -I"$here" -I"$source/src/include" "$@" "$source"/src/core/*.c \
         "$source"/src/core/ipv4/*.c "$source"/src/core/ipv6/*.c "$source/src/netif/ethernet.c" -o "$work/$program"
 }
-build tcp_bench -DLWIP_IPV6=0 "$here/tcp_bench.c" "$here/tcp_lwip.c"
-${CC:-cc} -O2 "$here/tcp_bench.c" "$here/tcp_script.c" -o "$work/tcp_script"
-build tcp_echo -DLWIP_IPV6=1 -DTCP_WND=65535 "$here/tcp_echo.c"
+if [ "$source" = own ]; then
+    ${CC:-cc} -O3 -g -march=x86-64-v2 "$here/tcp_bench.c" "$here/tcp_iface.c" "$here/../build/libiface.a" -o "$work/tcp_bench"
+else
+    build tcp_bench -DLWIP_IPV6=0 "$here/tcp_bench.c" "$here/tcp_lwip.c"
+    ${CC:-cc} -O2 "$here/tcp_bench.c" "$here/tcp_script.c" -o "$work/tcp_script"
+    build tcp_echo -DLWIP_IPV6=1 -DTCP_WND=65535 "$here/tcp_echo.c"
+fi
 [ $# = 1 ] || exit 0
 
 count() {

@@ -120,16 +120,18 @@ static inline void send_frame(int tap, const uint8_t *frame, size_t length) {
     if (length > 0 && write(tap, frame, length) != (ssize_t)length) perror("write");
 }
 
-/* Sends all that a host has to send, and writes when it has to be asked again. */
-static inline void send_all(iface *host, int tap, int64_t *at) {
+/* Sends all that a host has to send, and writes when it has to be asked again. How many frames it sent. */
+static inline unsigned send_all(iface *host, int tap, int64_t *at) {
     static uint8_t out[IFACE_FRAME_ROOM];
     int64_t now = now_micros();
     size_t length;
     uint32_t code;
-    while ((code = iface_next(host, now, out, sizeof out, &length)) == IFACE_OK && length > 0)
+    unsigned frames = 0;
+    for (; (code = iface_next(host, now, out, sizeof out, &length)) == IFACE_OK && length > 0; frames++)
         send_frame(tap, out, length);
     if (code == IFACE_OK) must("poll_at", iface_poll_at(host, now, at));
     else *at = now + 10000; /* no memory for a frame: again in a hundredth of a second */
+    return frames;
 }
 
 /* Takes a frame, if there is one, and sends the response. Whether there was one. */

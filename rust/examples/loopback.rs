@@ -1,20 +1,19 @@
-//! As smoltcp's `loopback`, by UDP: a client and a server, two sockets of one interface, over a device to which each
-//! frame comes that it sends. The client sends datagrams of several lengths, in fragments where they are long, and the
-//! server sends each back.
-use fumitorygate::iface::{Config, Interface, PollResult, SocketSet};
+//! smoltcp's `loopback`: a client and a server of TCP, two sockets of one interface, over a device to which each frame comes
+//! that it sends.
+use core::str;
+use fumitorygate::iface::{Config, Interface, SocketSet};
 use fumitorygate::phy::{Loopback, Medium};
-use fumitorygate::socket::udp;
+use fumitorygate::socket::tcp;
 use fumitorygate::time::{Duration, Instant};
 use fumitorygate::wire::{EthernetAddress, IpAddress, IpCidr};
 
 fn main() {
+    let mut clock = Instant::ZERO;
     let mut device = Loopback::new(Medium::Ethernet);
 
     // Create interface
-    let mut config = Config::new(EthernetAddress([0x02, 0x00, 0x00, 0x00, 0x00, 0x01]).into());
-    // What it sends comes back to it, and a guard drops packets from an own address.
-    config.guard = None;
-    let mut iface = Interface::new(config, &mut device, Instant::ZERO).unwrap();
+    let config = Config::new(EthernetAddress([0x02, 0x00, 0x00, 0x00, 0x00, 0x01]).into());
+    let mut iface = Interface::new(config, &mut device, clock).unwrap();
     iface
         .update_ip_addrs(|ip_addrs| {
             ip_addrs.push(IpCidr::new(IpAddress::v4(127, 0, 0, 1), 8)).unwrap();
@@ -22,38 +21,65 @@ fn main() {
         .unwrap();
 
     // Create sockets
-    let buffer = udp::PacketBuffer::with_capacity(4, 16384);
-    let mut server_socket = udp::Socket::new(buffer, buffer);
-    server_socket.bind(1234).unwrap();
-    let mut client_socket = udp::Socket::new(buffer, buffer);
-    client_socket.bind(65000).unwrap();
+    let server_socket = {
+        let tcp_rx_buffer = tcp::SocketBuffer::new(vec![0; 1024]);
+        let tcp_tx_buffer = tcp::SocketBuffer::new(vec![0; 1024]);
+        tcp::Socket::new(tcp_rx_buffer, tcp_tx_buffer)
+    };
+
+    let client_socket = {
+        let tcp_rx_buffer = tcp::SocketBuffer::new(vec![0; 1024]);
+        let tcp_tx_buffer = tcp::SocketBuffer::new(vec![0; 1024]);
+        tcp::Socket::new(tcp_rx_buffer, tcp_tx_buffer)
+    };
+
     let mut sockets = SocketSet::new(&iface);
     let server_handle = sockets.add(server_socket);
     let client_handle = sockets.add(client_socket);
 
-    let mut clock = Instant::ZERO;
-    for length in [0, 1, 1000, 1472, 1473, 4068] {
-        let payload: Vec<u8> = (0..length).map(|place| (place % 251) as u8).collect();
-        let socket = sockets.get_mut::<udp::Socket>(client_handle);
-        socket.send_slice(&payload, (IpAddress::v4(127, 0, 0, 1), 1234)).unwrap();
+    let mut did_listen = false;
+    let mut did_connect = false;
+    let mut done = false;
+    while !done && clock < Instant::from_millis(10_000) {
+        iface.poll(clock, &mut device, &mut sockets);
 
-        let end = clock + Duration::from_secs(10);
-        let echoed = loop {
-            // Until no socket changes any more.
-            while iface.poll(clock, &mut device, &mut sockets) != PollResult::None {}
-            let socket = sockets.get_mut::<udp::Socket>(server_handle);
-            while let Ok((data, client)) = socket.recv() {
-                let data = data.to_vec();
-                socket.send_slice(&data, client).unwrap();
+        let socket = sockets.get_mut::<tcp::Socket>(server_handle);
+        if !socket.is_active() && !socket.is_listening() && !did_listen {
+            println!("listening");
+            socket.listen(1234).unwrap();
+            did_listen = true;
+        }
+
+        if socket.can_recv() {
+            println!("got {:?}", socket.recv(|buffer| (buffer.len(), str::from_utf8(buffer).unwrap())));
+            socket.close();
+            done = true;
+        }
+
+        let socket = sockets.get_mut::<tcp::Socket>(client_handle);
+        let cx = iface.context();
+        if !socket.is_open() && !did_connect {
+            println!("connecting");
+            socket.connect(cx, (IpAddress::v4(127, 0, 0, 1), 1234), 65000).unwrap();
+            did_connect = true;
+        }
+
+        if socket.can_send() {
+            println!("sending");
+            socket.send_slice(b"0123456789abcdef").unwrap();
+            socket.close();
+        }
+
+        match iface.poll_delay(clock, &sockets) {
+            Some(Duration::ZERO) => println!("resuming"),
+            Some(delay) => {
+                println!("sleeping for {delay}");
+                clock += delay
             }
-            if let Ok((data, _)) = sockets.get_mut::<udp::Socket>(client_handle).recv() {
-                break data.to_vec();
-            }
-            assert!(clock < end, "no echo of {length} octets");
-            let delay = iface.poll_delay(clock, &sockets);
-            clock += delay.unwrap_or(Duration::from_millis(1)).max(Duration::from_millis(1));
-        };
-        assert_eq!(echoed, payload);
-        println!("{length} octets: echoed at {clock}");
+            None => clock += Duration::from_millis(1),
+        }
     }
+
+    assert!(done, "this is taking too long, bailing out");
+    println!("done");
 }

@@ -38,7 +38,8 @@ fn micros(time: Duration) -> u32 {
 #[derive(Clone, Copy, Debug, PartialEq, Eq)]
 #[non_exhaustive]
 pub struct Guard {
-    /// Whether what claims an own address is dropped (RFC 5227 2.4), or comes from one.
+    /// Whether what claims an own address for another hardware address than the own one is dropped (RFC 5227 2.4), or comes from
+    /// one by another.
     pub own_addresses: bool,
     /// Whether datagrams of UDP are dropped that come from port 7, 13, 17 or 19, and go to a port below 1024.
     pub loops: bool,
@@ -58,6 +59,8 @@ pub struct Guard {
     pub errors: Option<Rate>,
     /// Resets of TCP.
     pub resets: Option<Rate>,
+    /// How many times as long an error may be as the frame that it answers: three by the usual guard. `None` sets no bound.
+    pub longest_error: Option<u32>,
 }
 
 impl Guard {
@@ -74,6 +77,7 @@ impl Guard {
         own_addresses: 0,
         loops: 0,
         fragments: 0,
+        longest_error: 0,
     };
 
     pub(crate) fn to_c(self) -> sys::iface_guard {
@@ -89,6 +93,7 @@ impl Guard {
             own_addresses: u8::from(self.own_addresses),
             loops: u8::from(self.loops),
             fragments: u8::from(self.fragments),
+            longest_error: self.longest_error.unwrap_or(0),
         }
     }
 
@@ -104,6 +109,7 @@ impl Guard {
             echo_replies: Rate::from_c(guard.echo_replies),
             errors: Rate::from_c(guard.errors),
             resets: Rate::from_c(guard.resets),
+            longest_error: (guard.longest_error != 0).then_some(guard.longest_error),
         })
     }
 }
@@ -117,6 +123,8 @@ pub struct Drops {
     pub own_address: u64,
     /// Packets from an own address.
     pub own_source: u64,
+    /// Messages that tell another hardware address of a pinned neighbour.
+    pub pinned: u64,
     /// Messages of neighbours that aren't expected.
     pub new_neighbor: u64,
     /// Packets for whose answer the host would have to ask.
@@ -142,6 +150,7 @@ impl Drops {
         Drops {
             own_address: drops.own_address,
             own_source: drops.own_source,
+            pinned: drops.pinned,
             new_neighbor: drops.new_neighbor,
             discovery: drops.discovery,
             query: drops.query,
@@ -155,7 +164,7 @@ impl Drops {
     }
 }
 
-/// Who claimed an own address (RFC 5227 2.4).
+/// Who claimed an own address (RFC 5227 2.4), or one that is pinned.
 #[derive(Clone, Copy, Debug, PartialEq, Eq)]
 pub struct Conflict {
     /// The hardware address that the frame came from.

@@ -1,4 +1,5 @@
-//! The library's calls, as safe methods. Nothing else of this crate calls it.
+//! The library's calls, as safe methods: those for connections of TCP are in `host/streams.rs`. Nothing else of this crate
+//! calls it.
 //!
 //! What `iface.h` asks of its caller, and what keeps it here:
 //!
@@ -20,6 +21,10 @@ use crate::wire::{
 };
 use core::fmt;
 
+mod dhcp;
+
+pub use dhcp::{Dhcp, Lease, LeaseEvent};
+
 /// The octets of the longest frame.
 pub const FRAME_ROOM: usize = sys::IFACE_FRAME_ROOM;
 
@@ -30,7 +35,8 @@ pub type Frame = [u8; FRAME_ROOM];
 #[derive(Clone, Copy, Debug, PartialEq, Eq)]
 #[non_exhaustive]
 pub enum Error {
-    /// A hardware address that isn't of the device's medium, or a hop limit of 0.
+    /// A hardware address that isn't of the device's medium, a hop limit of 0, or a setting of connections that is out of
+    /// range.
     BadArgument,
     /// The allocator refused.
     NoMemory,
@@ -40,12 +46,12 @@ pub enum Error {
     NotUnicast,
     /// A destination that is unspecified, an address that is no group's, or a socket's own that is a group's.
     BadAddress,
-    /// No such address or route, or no hardware addresses.
+    /// No such address or route, no own address, no ends of a connection, or no hardware addresses.
     NotThere,
-    /// Four addresses, four routes or eight groups are there, or all sockets are open; a list of more than four
-    /// addresses.
+    /// Four addresses, four routes or eight groups are there, all sockets are open, or each place has a connection; a list
+    /// of more than four addresses.
     TableFull,
-    /// No socket of this kind is open by this number.
+    /// No socket of this kind is open by this number, or no connection has this name.
     NoSocket,
     /// Port 0.
     BadPort,
@@ -53,12 +59,16 @@ pub enum Error {
     TooLong,
     /// The socket's queue has no room for the packet: frames that are sent make some.
     QueueFull,
-    /// No packet came.
+    /// No packet came, or no connection waits.
     Empty,
     /// The packet that came is longer than the buffer. It stays.
     NoRoom,
     /// A timeout for fragments that is zero, or longer than a day.
     BadTimeout,
+    /// A connection of TCP has these ends.
+    InUse,
+    /// There are no secrets for connections of TCP: none are set, and without the feature `std` there is no source of them.
+    NoSecrets,
     /// The library isn't of the header that this crate was made from, so it makes no host. `fresh.sh` tries it.
     OtherVersion {
         /// The version of the header that this crate was made from: `IFACE_VERSION`.
@@ -74,22 +84,26 @@ pub enum Error {
 impl fmt::Display for Error {
     fn fmt(&self, f: &mut fmt::Formatter<'_>) -> fmt::Result {
         f.write_str(match *self {
-            Error::BadArgument => "the hardware address isn't of the device's medium, or the hop limit is 0",
+            Error::BadArgument => {
+                "the hardware address isn't of the device's medium, the hop limit is 0, or a setting is out of range"
+            }
             Error::NoMemory => "no memory",
             Error::BadMtu => "frames of this length are not supported",
             Error::NotUnicast => "the address is not unicast",
             Error::BadAddress => {
                 "the address is unspecified, no group's where one is wanted, or a socket's own and a group's"
             }
-            Error::NotThere => "no such address or route, or no hardware addresses",
+            Error::NotThere => "no such address, route or ends, or no hardware addresses",
             Error::TableFull => "the table is full",
-            Error::NoSocket => "no such socket is open",
+            Error::NoSocket => "no such socket or connection is open",
             Error::BadPort => "the port is 0",
             Error::TooLong => "the packet is too long to be sent",
             Error::QueueFull => "the queue is full",
-            Error::Empty => "no packet came",
+            Error::Empty => "no packet or connection came",
             Error::NoRoom => "the buffer is shorter than the packet",
             Error::BadTimeout => "the timeout is zero, or longer than a day",
+            Error::InUse => "a connection has these ends",
+            Error::NoSecrets => "there are no secrets for connections",
             Error::OtherVersion { own, library: Some(library) } => {
                 return write!(f, "the crate is made for {}, and the library is {}", Version(own), Version(library));
             }
@@ -135,6 +149,7 @@ fn refusal(code: u32) -> Error {
         sys::IFACE_EMPTY => Error::Empty,
         sys::IFACE_NO_ROOM => Error::NoRoom,
         sys::IFACE_BAD_TIMEOUT => Error::BadTimeout,
+        sys::IFACE_IN_USE => Error::InUse,
         sys::IFACE_BAD_VERSION => Error::OtherVersion { own: sys::IFACE_VERSION, library: library_version() },
         other => Error::Other(other),
     }
@@ -234,6 +249,9 @@ pub struct Settings {
     pub slaac: bool,
     /// How many sockets may be open at once. Memory for their places is taken at once.
     pub sockets: u32,
+    /// How many neighbours it knows at once, of both versions together, in memory that is taken at once. 0 is four,
+    /// without such memory. A new neighbour replaces the one whose instant is the first.
+    pub neighbors: u32,
     /// How long a packet waits for a neighbour that doesn't answer, before it is given up. Zero is for ever: then one
     /// such packet stops its socket.
     pub patience: Duration,
@@ -252,15 +270,15 @@ pub struct Settings {
 
 /// A configuration, and room behind it for the longer one of another library: that is refused only when a host is made.
 #[repr(C)]
-struct Configured {
-    config: sys::iface_config,
+struct Configured<C> {
+    config: C,
     room: [u64; 50],
 }
 
 impl Settings {
-    /// What `iface_config_init` writes: frames of 1514 octets, 8 sockets, no addresses from routers, a patience of
-    /// three seconds, ten seconds for fragments, the start [`Instant::ZERO`], all checksums its own, the seed 0, and a
-    /// guard.
+    /// What `iface_config_init` writes: frames of 1514 octets, 8 sockets, 64 neighbours, no addresses from routers,
+    /// a patience of three seconds, ten seconds for fragments, the start [`Instant::ZERO`], all checksums its own, the
+    /// seed 0, and a guard.
     pub fn new(hardware_addr: HardwareAddress) -> Settings {
         let config = sys::iface_config {
             seed: 0,
@@ -269,6 +287,7 @@ impl Settings {
             start: 0,
             frame_len: 0,
             sockets: 0,
+            neighbors: 0,
             burst: 0,
             hardware_address: [0; 6],
             medium: 0,
@@ -287,6 +306,7 @@ impl Settings {
             frame_len: config.frame_len,
             slaac: config.slaac != 0,
             sockets: config.sockets,
+            neighbors: config.neighbors,
             patience: Duration::from_micros(config.patience),
             reassembly_timeout: Duration::from_micros(config.reassembly_timeout),
             start: Instant::from_micros_const(config.start),
@@ -308,6 +328,7 @@ impl Settings {
             start: self.start.total_micros(),
             frame_len: self.frame_len,
             sockets: self.sockets,
+            neighbors: self.neighbors,
             burst: self.burst.unwrap_or(0),
             hardware_address,
             medium,
@@ -693,6 +714,9 @@ macro_rules! call {
     };
 }
 
+mod streams;
+pub use streams::{Secrets, Stream, StreamEnding, StreamSettings, StreamState, Streams};
+
 impl Host {
     /// Makes a host.
     ///
@@ -935,8 +959,8 @@ impl Host {
         Some(from_c(&source))
     }
 
-    /// The neighbour at an index of their list: at most four stand there, by rising instants, those whose instant has
-    /// passed too. `None` beyond the last one, and without hardware addresses.
+    /// The neighbour at an index of their list: at most [`Settings::neighbors`] stand there, by rising instants, those
+    /// whose instant has passed too. `None` beyond the last one, and without hardware addresses.
     #[inline]
     pub fn neighbor_at(&mut self, index: u32) -> Option<Neighbor> {
         let (mut address, mut octets, mut until) = (NO_ADDRESS, [0; 6], 0);
@@ -1298,6 +1322,7 @@ impl Host {
         let mut drops = sys::iface_drops {
             own_address: 0,
             own_source: 0,
+            pinned: 0,
             new_neighbor: 0,
             discovery: 0,
             query: 0,
@@ -1321,6 +1346,35 @@ impl Host {
         Some(Conflict { hardware_addr: EthernetAddress(octets), at: Instant::from_micros_const(at) })
     }
 
+    /// Pins a neighbour to a hardware address, in place of the one that it is pinned to. The guard drops ARP packets and
+    /// neighbour messages of it that tell another one. The host learns the address from the next message that tells this
+    /// one, and asks for it as for any other.
+    ///
+    /// # Errors
+    /// [`Error::NotUnicast`] if one of the two isn't unicast, [`Error::TableFull`] if eight others are pinned.
+    #[inline]
+    pub fn guard_pin(&mut self, addr: IpAddress, hardware_addr: EthernetAddress) -> Result<(), Error> {
+        call!(self.iface_guard_pin(&to_c(&addr), hardware_addr.0.as_ptr()))
+    }
+
+    /// Pins a neighbour no more.
+    ///
+    /// # Errors
+    /// [`Error::NotThere`] if it isn't pinned.
+    #[inline]
+    pub fn guard_unpin(&mut self, addr: IpAddress) -> Result<(), Error> {
+        call!(self.iface_guard_unpin(&to_c(&addr)))
+    }
+
+    /// Who sent the last frame that its guard dropped for telling another hardware address of a pinned neighbour, if there
+    /// was one.
+    #[inline]
+    pub fn guard_pinned_conflict(&mut self) -> Option<Conflict> {
+        let (mut octets, mut at) = ([0; 6], 0);
+        call!(self.iface_guard_pinned_conflict(octets.as_mut_ptr(), &mut at)).ok()?;
+        Some(Conflict { hardware_addr: EthernetAddress(octets), at: Instant::from_micros_const(at) })
+    }
+
     /// The instant at which [`next`](Host::next) is to be called again, if no frame comes before and no call changes
     /// the host. One that has passed, if something is due at once. `None`, if nothing is.
     #[inline]
@@ -1336,12 +1390,14 @@ mod tests {
     use super::{Error, refusal};
     use crate::sys;
 
-    /// Of the header's codes three can't come of what this crate passes: it has a host or none, and its instants are
-    /// moments.
+    /// Of the header's codes seven can't come of what this crate passes: it has a host or none, connections or none, no
+    /// client, and its instants are moments.
     #[test]
     fn each_code_has_its_error() {
-        let others = [sys::IFACE_NO_HOST, sys::IFACE_HAS_HOST, sys::IFACE_BAD_MOMENT];
-        for code in 1..=sys::IFACE_BAD_VERSION {
+        let of_hosts = [sys::IFACE_NO_HOST, sys::IFACE_HAS_HOST, sys::IFACE_BAD_MOMENT];
+        let of_clients = [sys::IFACE_NO_CLIENT, sys::IFACE_HAS_CLIENT];
+        let others = [&of_hosts[..], &of_clients, &[sys::IFACE_NO_STREAMS, sys::IFACE_HAS_STREAMS]].concat();
+        for code in 1..=sys::IFACE_IN_USE {
             assert_eq!(refusal(code) == Error::Other(code), others.contains(&code));
         }
         let library = if cfg!(feature = "rust-heap") { None } else { Some(sys::IFACE_VERSION) };

@@ -29,7 +29,8 @@ pub mod socket;
 pub use checksum::{Checksum, ChecksumCapabilities};
 pub use guard::{Conflict, Drops, Guard, Rate};
 pub use host::{
-    Counters, Error, FRAME_ROOM, Frame, Host, Neighbor, Queue, Queues, Room, Rooms, Route, Segment, Settings,
+    Counters, Dhcp, Error, FRAME_ROOM, Frame, Host, Lease, LeaseEvent, Neighbor, Queue, Queues, Room, Rooms, Route,
+    Secrets, Segment, Settings, Stream, StreamEnding, StreamSettings, StreamState, Streams,
 };
 
 #[doc = include_str!("../API.md")]

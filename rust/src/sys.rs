@@ -2,7 +2,7 @@
 //!
 //! Calling any of it is `unsafe`: the header says what the caller keeps. [`Host`](crate::Host) keeps it.
 //!
-//! Sum of the header: 0x7d8b6501a8ed4416
+//! Sum of the header: 0x23a8f1b30caf3b07
 #![allow(non_camel_case_types)]
 
 use core::ffi::{c_char, c_void};
@@ -29,7 +29,7 @@ pub const IFACE_BAD_ADDRESS: u32 = 8;
 pub const IFACE_NOT_THERE: u32 = 9;
 /// four addresses, four routes or eight groups are there, or all sockets are open; a list of more than four addresses
 pub const IFACE_TABLE_FULL: u32 = 10;
-/// no socket of this kind is open by this number
+/// no socket of this kind is open by this number; no connection has this name
 pub const IFACE_NO_SOCKET: u32 = 11;
 /// a port that is 0
 pub const IFACE_BAD_PORT: u32 = 12;
@@ -37,7 +37,7 @@ pub const IFACE_BAD_PORT: u32 = 12;
 pub const IFACE_TOO_LONG: u32 = 13;
 /// the socket's queue has no room for the packet: `iface_next` makes some, unless the packet is longer than the whole queue
 pub const IFACE_QUEUE_FULL: u32 = 14;
-/// no packet came; the socket doesn't wait; no packet was given up
+/// no packet came; the socket doesn't wait; no packet was given up; no connection waits
 pub const IFACE_EMPTY: u32 = 15;
 /// the room for a frame is shorter than `IFACE_FRAME_ROOM`, that for a packet than the packet
 pub const IFACE_NO_ROOM: u32 = 16;
@@ -45,6 +45,16 @@ pub const IFACE_NO_ROOM: u32 = 16;
 pub const IFACE_BAD_TIMEOUT: u32 = 17;
 /// `iface_new`: the library isn't of this header's version
 pub const IFACE_BAD_VERSION: u32 = 18;
+/// the handle owns no client of DHCP
+pub const IFACE_NO_CLIENT: u32 = 19;
+/// `iface_dhcp_new`: the handle owns a client already
+pub const IFACE_HAS_CLIENT: u32 = 20;
+/// the handle owns no connections of TCP
+pub const IFACE_NO_STREAMS: u32 = 21;
+/// `iface_streams_new`: the handle owns connections already
+pub const IFACE_HAS_STREAMS: u32 = 22;
+/// `iface_stream_connect`: a connection has these ends
+pub const IFACE_IN_USE: u32 = 23;
 
 /// `iface_control`.
 pub const IFACE_TCP_DATA: u8 = 0;
@@ -71,6 +81,47 @@ pub const IFACE_COMPUTED: u8 = 2;
 /// neither
 pub const IFACE_NEITHER: u8 = 3;
 
+/// nothing, since the last call
+pub const IFACE_DHCP_NOTHING: u8 = 0;
+/// there is a lease: a new one, or one that was renewed
+pub const IFACE_DHCP_CONFIGURED: u8 = 1;
+/// there is none any more: its address must not be used
+pub const IFACE_DHCP_DECONFIGURED: u8 = 2;
+
+/// it is gone; what came before can still be read
+pub const IFACE_CLOSED: u32 = 0;
+/// no connection is ever in it: a listener is something else
+pub const IFACE_LISTEN: u32 = 1;
+/// `iface_stream_state`.
+pub const IFACE_SYN_SENT: u32 = 2;
+/// `iface_stream_state`.
+pub const IFACE_SYN_RECEIVED: u32 = 3;
+/// `iface_stream_state`.
+pub const IFACE_ESTABLISHED: u32 = 4;
+/// `iface_stream_state`.
+pub const IFACE_FIN_WAIT_1: u32 = 5;
+/// `iface_stream_state`.
+pub const IFACE_FIN_WAIT_2: u32 = 6;
+/// `iface_stream_state`.
+pub const IFACE_CLOSE_WAIT: u32 = 7;
+/// `iface_stream_state`.
+pub const IFACE_CLOSING: u32 = 8;
+/// `iface_stream_state`.
+pub const IFACE_LAST_ACK: u32 = 9;
+/// `iface_stream_state`.
+pub const IFACE_TIME_WAIT: u32 = 10;
+
+/// it didn't
+pub const IFACE_NOT_CUT: u32 = 0;
+/// the peer sent a reset
+pub const IFACE_BY_PEER: u32 = 1;
+/// the peer answered the SYN by a reset
+pub const IFACE_REFUSED: u32 = 2;
+/// what was sent stayed unacknowledged, or the peer didn't answer probes
+pub const IFACE_TIMED_OUT: u32 = 3;
+/// the program aborted, or the own address is gone
+pub const IFACE_ABORTED: u32 = 4;
+
 /// The room that `iface_receive` and `iface_next` need for a frame, in octets.
 pub const IFACE_FRAME_ROOM: usize = 1514;
 /// The last moment, in microseconds.
@@ -78,7 +129,7 @@ pub const IFACE_LAST_MOMENT: i64 = 1 << 62;
 /// The instant that stands for none.
 pub const IFACE_NEVER: i64 = i64::MAX;
 /// The version of the header.
-pub const IFACE_VERSION: u32 = 0x000e0004;
+pub const IFACE_VERSION: u32 = 0x000e0005;
 /// Any address, for the end at which a socket listens.
 pub const IFACE_ANY: iface_address = iface_address { version: 0, octets: [0; 16] };
 
@@ -214,12 +265,14 @@ pub struct iface_guard {
     pub routers: u32,
     /// 0: there is no guard, as without hardware addresses: 1
     pub on: u8,
-    /// not 0: drops what claims an own address (RFC 5227, 2.4), or comes from one: 1
+    /// not 0: drops what claims an own address for another hardware address than the own one (RFC 5227, 2.4), or comes from one by another: 1
     pub own_addresses: u8,
     /// not 0: drops datagrams of UDP from port 7, 13, 17 or 19 to a port below 1024: 1
     pub loops: u8,
     /// not 0: drops fragments: 0
     pub fragments: u8,
+    /// an error may be so many times as long as the frame that it answers; 0 sets no bound: 3
+    pub longest_error: u32,
 }
 
 /// How a host is to be made: `iface_config_init` fills it in.
@@ -238,6 +291,8 @@ pub struct iface_config {
     pub frame_len: u32,
     /// how many may be open at once; memory for their places is taken at once
     pub sockets: u32,
+    /// how many neighbours it knows at once, of both versions together, in memory that is taken at once; 0 is four, without such memory. A new one replaces the one that ends first
+    pub neighbors: u32,
     /// how many frames the link takes one after the other: the window in a segment of TCP is at most what so many carry; 0 sets no bound
     pub burst: u32,
     /// on Ethernet; else it isn't read
@@ -256,7 +311,7 @@ pub struct iface_config {
 #[repr(C)]
 #[derive(Clone, Copy, Debug)]
 pub struct iface_counts {
-    /// frames that `iface_receive` took
+    /// frames that `iface_receive` took, without those that the guard dropped
     pub frames_in: u64,
     /// frames that `iface_receive` and `iface_next` wrote
     pub frames_out: u64,
@@ -274,6 +329,8 @@ pub struct iface_drops {
     pub own_address: u64,
     /// packets from an own address
     pub own_source: u64,
+    /// messages that tell another hardware address of a pinned neighbour
+    pub pinned: u64,
     /// by the rate neighbors
     pub new_neighbor: u64,
     /// by the rate discoveries
@@ -294,6 +351,90 @@ pub struct iface_drops {
     pub reset: u64,
 }
 
+/// A handle, which owns a client or none. Its fields are the library's.
+#[repr(C)]
+#[derive(Debug)]
+pub struct iface_dhcp {
+    tag: u64,
+    at: *mut c_void,
+}
+
+/// What a server leased. An address that the server didn't tell has version 0.
+#[repr(C)]
+#[derive(Clone, Copy, Debug)]
+pub struct iface_lease {
+    /// `address`.
+    pub address: iface_address,
+    /// `router`.
+    pub router: iface_address,
+    /// the one that leased it
+    pub server: iface_address,
+    /// of names, from the first place on
+    pub dns_servers: [iface_address; 3],
+    /// how many bits of the address are the network's: 32 without a mask
+    pub prefix_len: u8,
+    /// when it ends, unless it is renewed before; `IFACE_NEVER` for a lease without end
+    pub expires_at: i64,
+}
+
+/// A handle, which owns connections or none. Its fields are the library's.
+#[repr(C)]
+#[derive(Debug)]
+pub struct iface_streams {
+    tag: u64,
+    at: *mut c_void,
+}
+
+/// How connections are to be made: `iface_streams_config_init` fills it in, but for the two secrets.
+#[repr(C)]
+#[derive(Clone, Copy, Debug)]
+pub struct iface_streams_config {
+    /// a secret of random octets, by which initial numbers can't be guessed (RFC 6528)
+    pub number_key: [u8; 32],
+    /// another one, by which nobody chooses ends that are slow to find
+    pub table_key: [u64; 2],
+    /// how long nothing arrives before a peer is probed; 0 for never: 0
+    pub keep_alive: u64,
+    /// how long what was sent may stay unacknowledged; 0 for twelve tries: 0
+    pub timeout: u64,
+    /// how long an acknowledgement of octets in order may wait: 10,000
+    pub ack_delay: u64,
+    /// the shortest time after which something is sent again: 200,000
+    pub shortest_timeout: u64,
+    /// how long TIME-WAIT lasts: 60,000,000. All of these are in microseconds
+    pub time_wait: u64,
+    /// how many connections there are at most, from 1 to 2^30: 16
+    pub places: u32,
+    /// how many octets each may hold that aren't acknowledged, at most 2^30: 16,384
+    pub send_room: u32,
+    /// how many octets each may hold that aren't read, at most 2^30: 16,384
+    pub receive_room: u32,
+    /// how many packets wait between the connections and the host, each way and family: 32
+    pub packets: u32,
+    /// how many octets they have together: 49,152
+    pub packet_octets: u32,
+    /// how many octets packets have together that wait for peers that haven't answered, of which at most 16 do: 4,096
+    pub far_octets: u32,
+    /// not 0: over IPv4: 1
+    pub ipv4: u8,
+    /// not 0: over IPv6: 1
+    pub ipv6: u8,
+    /// not 0: short segments wait while something is unacknowledged: 1
+    pub nagle: u8,
+    /// not 0: a congestion window narrows what is sent: 1
+    pub congestion_control: u8,
+}
+
+/// The name of a connection, which may be copied. Once the program has released it, it names nothing.
+#[repr(C)]
+#[derive(Clone, Copy, Debug)]
+pub struct iface_stream {
+    /// `place`.
+    pub place: usize,
+    /// `generation`.
+    pub generation: u64,
+}
+
 impl iface {
     /// A handle that owns no host.
     pub const NONE: iface = iface {
@@ -302,22 +443,43 @@ impl iface {
     };
 }
 
+impl iface_dhcp {
+    /// A handle that owns no client.
+    pub const NONE: iface_dhcp = iface_dhcp {
+        tag: 0,
+        at: core::ptr::null_mut(),
+    };
+}
+
+impl iface_streams {
+    /// A handle that owns no connections.
+    pub const NONE: iface_streams = iface_streams {
+        tag: 0,
+        at: core::ptr::null_mut(),
+    };
+}
+
 const _: () = assert!(size_of::<iface_address>() == 17);
 const _: () = assert!(size_of::<iface_endpoint>() == 20);
-const _: () = assert!(size_of::<iface_config>() == 120);
+const _: () = assert!(size_of::<iface_config>() == 128);
 const _: () = assert!(size_of::<iface>() == 16);
 const _: () = assert!(size_of::<iface_cidr>() == 18);
 const _: () = assert!(size_of::<iface_counts>() == 32);
 const _: () = assert!(size_of::<iface_queue>() == 20);
 const _: () = assert!(size_of::<iface_checksums>() == 5);
 const _: () = assert!(size_of::<iface_rate>() == 8);
-const _: () = assert!(size_of::<iface_guard>() == 56);
-const _: () = assert!(size_of::<iface_drops>() == 88);
+const _: () = assert!(size_of::<iface_guard>() == 60);
+const _: () = assert!(size_of::<iface_drops>() == 96);
+const _: () = assert!(size_of::<iface_lease>() == 112);
+const _: () = assert!(size_of::<iface_dhcp>() == 16);
+const _: () = assert!(size_of::<iface_streams_config>() == 120);
+const _: () = assert!(size_of::<iface_streams>() == 16);
+const _: () = assert!(size_of::<iface_stream>() == 16);
 const _: () = assert!(size_of::<iface_rooms>() == 16);
 const _: () = assert!(size_of::<iface_segment>() == 32);
 
 unsafe extern "C" {
-    /// Writes what most programs want: frames of 1514 octets on Ethernet, 8 sockets, no addresses from routers, a patience of 3 s (three requests, a second apart: RFC 4861, 10), 10 s for fragments, and a guard. The start is 0, the seed is 0, and the hardware address all zeros: set the last two.
+    /// Writes what most programs want: frames of 1514 octets on Ethernet, 8 sockets, 64 neighbours, no addresses from routers, a patience of 3 s (three requests, a second apart: RFC 4861, 10), 10 s for fragments, and a guard. The start is 0, the seed is 0, and the hardware address all zeros: set the last two.
     pub fn iface_config_init(config: *mut iface_config);
     /// What `iface_new` calls, with the version of the header that the program was built with.
     pub fn iface_new_for(host: *mut iface, config: *const iface_config, version: u32) -> u32;
@@ -327,7 +489,7 @@ unsafe extern "C" {
     pub fn iface_add_address(host: *mut iface, address: *const iface_address, prefix_len: u8) -> u32;
     /// Takes out the first own address that is this one with this prefix, and forgets all neighbours. BAD_ARGUMENT, NOT_THERE.
     pub fn iface_remove_address(host: *mut iface, address: *const iface_address, prefix_len: u8) -> u32;
-    /// Makes a list of at most four its own addresses, with their networks, and forgets all neighbours. TABLE_FULL (before all others), BAD_ARGUMENT, NOT_UNICAST.
+    /// Makes a list of at most four its own addresses, with their networks, and forgets all neighbours. TABLE_FULL (a longer list), BAD_ARGUMENT, NO_HOST, NOT_UNICAST: in this order.
     pub fn iface_set_addresses(host: *mut iface, addresses: *const iface_cidr, count: usize) -> u32;
     /// Writes the own address at a place of their list, from 0 on: those that came from routers stand there too. NOT_THERE.
     pub fn iface_address_at(host: *mut iface, place: u32, address: *mut iface_address, prefix_len: *mut u8) -> u32;
@@ -377,7 +539,7 @@ unsafe extern "C" {
     pub fn iface_icmp_open_port(host: *mut iface, port: u16, rooms: *const iface_rooms, socket: *mut u32) -> u32;
     /// Segments of TCP (RFC 9293) at a port of one address, or of any, as for UDP; from one end alone, or from each one if the version of remote is 0 as in `IFACE_ANY`. The library hands segments in and out, and keeps no connection: it computes and verifies checksums, and answers by a reset what no socket takes. Of the sockets that are for a segment the one with the least number gets it: open one for one end before one for each. BAD_PORT (also the remote one), BAD_ADDRESS (also an unspecified remote one).
     pub fn iface_tcp_open(host: *mut iface, local: *const iface_endpoint, remote: *const iface_endpoint, rooms: *const iface_rooms, socket: *mut u32) -> u32;
-    /// Closes a socket of whatever kind: what waits in it is dropped. NO_SOCKET.
+    /// Closes a socket of whatever kind: what waits in it is dropped. Its frames that a round has sent already are still handed over by `iface_next`. NO_SOCKET.
     pub fn iface_close(host: *mut iface, socket: u32) -> u32;
     /// Sets the hop limit of the packets that a socket sends from now on, those that wait among them: 64 at first. BAD_ARGUMENT (0), NO_SOCKET (also for a raw one, whose packets have their own headers).
     pub fn iface_set_hop_limit(host: *mut iface, socket: u32, hop_limit: u8) -> u32;
@@ -387,7 +549,7 @@ unsafe extern "C" {
     pub fn iface_queues(host: *mut iface, socket: u32, received: *mut iface_queue, to_send: *mut iface_queue) -> u32;
     /// A datagram with this payload: over IPv4 of at most 4096 octets with its headers (28), in pieces if the link's packets are shorter, over IPv6 of at most one packet of the link with its headers (48). BAD_ARGUMENT, BAD_PORT, BAD_ADDRESS (unspecified), TOO_LONG.
     pub fn iface_udp_send(host: *mut iface, socket: u32, remote: *const iface_endpoint, payload: *const u8, payload_len: usize) -> u32;
-    /// A message of ICMP: one that isn't an echo message of the address's family is dropped later. BAD_ARGUMENT, BAD_ADDRESS, TOO_LONG.
+    /// A message of ICMP, over IPv4 of at most 4096 octets with its header (20), over IPv6 of at most one packet of the link with its header (40). One that isn't an echo message of the address's family is dropped later. BAD_ARGUMENT, BAD_ADDRESS (unspecified), TOO_LONG.
     pub fn iface_icmp_send(host: *mut iface, socket: u32, remote: *const iface_address, message: *const u8, message_len: usize) -> u32;
     /// A packet with its header, which is written anew: one that isn't of the socket's version and protocol, or is too long to be sent, is dropped later.
     pub fn iface_raw_send(host: *mut iface, socket: u32, packet: *const u8, packet_len: usize) -> u32;
@@ -425,7 +587,7 @@ unsafe extern "C" {
     ///
     /// Frames are sent in rounds: in a round what has ended is dropped, routers are told of groups, and each socket that has something to send sends one packet, in the order of their numbers. A packet that goes in pieces is begun when no piece of another one is left, so sockets take turns with such packets. The frames of a round wait in the library until they are asked for, one a call; a call that finds none makes the next round. So no socket is passed over, however seldom frames are asked for. Call it until `*length` is 0, and then ask `iface_poll_at`. NO_MEMORY (before a round, if memory for a frame is refused).
     pub fn iface_next(host: *mut iface, now: i64, out: *mut u8, room: usize, length: *mut usize) -> u32;
-    /// Writes 1 if a socket may have changed by frames that were taken and rounds that were made since this was last asked, else 0. It may have if a frame was taken that isn't empty, or if a round sent a packet of a socket, or dropped one as too long. One that is dropped when its socket is asked for it, without a source or of a kind that the socket doesn't send, isn't told of. What a socket gave up since its neighbour didn't answer is told by `iface_given_up`.
+    /// Writes 1 if a socket may have changed by frames that were taken and rounds that were made since this was last asked, else 0. It may have if a frame was taken that isn't empty, or if a round sent a packet of a socket, or dropped one as too long. One that is dropped when its socket is asked for it, without a source or of a kind that the socket doesn't send, isn't told of: `iface_queues` tells of it. What a socket gave up is told by `iface_given_up`.
     pub fn iface_sockets_changed(host: *mut iface, changed: *mut u8) -> u32;
     /// Writes what the host counted.
     pub fn iface_counters(host: *mut iface, counters: *mut iface_counts) -> u32;
@@ -433,8 +595,72 @@ unsafe extern "C" {
     pub fn iface_guard_drops(host: *mut iface, drops: *mut iface_drops) -> u32;
     /// Writes the hardware address that the last frame came from which the guard dropped as claiming an own address, six octets, and the moment at which it came (RFC 5227, 2.4). NOT_THERE (no such frame came).
     pub fn iface_guard_conflict(host: *mut iface, hardware_address: *mut u8, at: *mut i64) -> u32;
+    /// Pins a neighbour to a hardware address, six octets, in place of the one that it is pinned to. The guard drops ARP packets and neighbour messages of it that tell another one, as long as it is on. The host learns the address from the next message that tells this one, and asks for it as for any other. BAD_ARGUMENT (the version), NOT_UNICAST (one of the two), TABLE_FULL (eight others are pinned).
+    pub fn iface_guard_pin(host: *mut iface, address: *const iface_address, hardware_address: *const u8) -> u32;
+    /// Pins a neighbour no more. BAD_ARGUMENT, NOT_THERE (it isn't pinned).
+    pub fn iface_guard_unpin(host: *mut iface, address: *const iface_address) -> u32;
+    /// Writes the hardware address that the last frame came from which the guard dropped for telling another hardware address of a pinned neighbour, and the moment at which it came. NOT_THERE (no such frame came).
+    pub fn iface_guard_pinned_conflict(host: *mut iface, hardware_address: *mut u8, at: *mut i64) -> u32;
     /// Writes the instant at which `iface_next` is to be called again, if no frame comes before and no call changes the host: one that has passed, if something is due at once, and `IFACE_NEVER`, if nothing is due.
     pub fn iface_poll_at(host: *mut iface, now: i64, at: *mut i64) -> u32;
+    /// Makes a client for a host with a hardware address, which the handle owns from then on. The seed is of the numbers by which its messages are known, another for each host and each start. known is an address that the host had before, which the client asks for first, or `IFACE_ANY`. HAS_CLIENT, BAD_ARGUMENT (a version of known that is neither 0 nor 4), NO_HOST, NOT_THERE (a medium without hardware addresses), TABLE_FULL (no socket is left), NO_MEMORY.
+    pub fn iface_dhcp_new(client: *mut iface_dhcp, host: *mut iface, seed: u64, known: *const iface_address) -> u32;
+    /// Does what is due: the client takes what came to port 68, a message that is to be sent now is queued, and what has become of the lease is written. A message for which there is no room or no memory counts as lost, and is sent again later. NO_CLIENT, NO_HOST, BAD_MOMENT, NO_SOCKET (the host hasn't the client's socket).
+    pub fn iface_dhcp_poll(client: *mut iface_dhcp, host: *mut iface, now: i64, event: *mut u32) -> u32;
+    /// Writes the instant at which `iface_dhcp_poll` is to be called again, if nothing comes before: `IFACE_NEVER` only for a lease without end. NO_CLIENT.
+    pub fn iface_dhcp_poll_at(client: *mut iface_dhcp, at: *mut i64) -> u32;
+    /// Writes the lease that the client has. NO_CLIENT, EMPTY (it has none).
+    pub fn iface_dhcp_lease(client: *mut iface_dhcp, lease: *mut iface_lease) -> u32;
+    /// Gives the host the address of the lease with its network, and its router as a default route, after the others; in place of those that the client gave it before, and none without a lease. That forgets all neighbours, unless the lease gives the same as before: then nothing changes. Other addresses and routes stay. NO_CLIENT, NO_HOST, TABLE_FULL, NOT_UNICAST (one of all own addresses can't be one).
+    pub fn iface_dhcp_apply(client: *mut iface_dhcp, host: *mut iface) -> u32;
+    /// Gives up the lease, if there is one, and begins anew, as after a link went down. The next `iface_dhcp_poll` tells of a lease that is gone. NO_CLIENT.
+    pub fn iface_dhcp_reset(client: *mut iface_dhcp) -> u32;
+    /// Frees a client: the handle owns none from then on. If the other handle owns a host, the client's sockets there are closed. What the client gave the host stays: call `iface_dhcp_reset` and `iface_dhcp_apply` before. NO_CLIENT.
+    pub fn iface_dhcp_free(client: *mut iface_dhcp, host: *mut iface) -> u32;
+    /// Writes what most programs want: the values in the comments above, and zeros for the two secrets, which the program sets.
+    pub fn iface_streams_config_init(config: *mut iface_streams_config);
+    /// Makes connections for a host, which the handle owns from then on, and opens two raw sockets of the host for each family. Segments are as long as the link carries: 40 octets less than its longest packet over IPv4, 60 over IPv6. HAS_STREAMS, BAD_ARGUMENT (a number that is out of range, or neither family), NO_HOST, TABLE_FULL (the host has no places for the sockets), NO_MEMORY.
+    pub fn iface_streams_new(tcp: *mut iface_streams, host: *mut iface, config: *const iface_streams_config) -> u32;
+    /// Does what is due: the connections take what came, and what they send is queued. NO_STREAMS, NO_HOST, BAD_MOMENT.
+    pub fn iface_streams_poll(tcp: *mut iface_streams, host: *mut iface, now: i64) -> u32;
+    /// Writes the instant at which `iface_streams_poll` is to be called again, if nothing comes before and no call changes a connection: one that has passed, if something is due at once, and `IFACE_NEVER`, if nothing is due. NO_STREAMS.
+    pub fn iface_streams_poll_at(tcp: *mut iface_streams, at: *mut i64) -> u32;
+    /// Frees all connections without a word to their peers: the handle owns none from then on. If the other handle owns a host, their sockets there are closed. NO_STREAMS.
+    pub fn iface_streams_free(tcp: *mut iface_streams, host: *mut iface) -> u32;
+    /// Listens at a port of one local address; of any, if the version of local is 0 as in `IFACE_ANY`, or its address 0.0.0.0 or ::. At most backlog handshakes are under way, and as many connections wait to be accepted; 0 counts as 1. Writes the listener's number, from 0 on. Of listeners at one port the first one gets the connections. BAD_ARGUMENT, BAD_PORT, BAD_ADDRESS (not unicast), NO_MEMORY.
+    pub fn iface_stream_listen(tcp: *mut iface_streams, local: *const iface_endpoint, backlog: u32, listener: *mut usize) -> u32;
+    /// Takes the connection of a listener that waits longest, and writes its name. EMPTY (none waits, or there is no such listener).
+    pub fn iface_stream_accept(tcp: *mut iface_streams, listener: usize, stream: *mut iface_stream) -> u32;
+    /// Opens a connection to a peer, from a port of one own address; or of the one that `iface_source_for` writes, if that of local is none. Writes its name. The next `iface_streams_poll` sends the SYN, and `iface_stream_state` tells what becomes of it. An address of local that the host doesn't have ends it then, as if aborted. BAD_ARGUMENT, NO_STREAMS, NO_HOST, BAD_MOMENT, BAD_PORT (also the peer's), NOT_THERE (no own address of this family), BAD_ADDRESS (one that isn't unicast, or they are of two families), IN_USE (choose another port), TABLE_FULL (each place has a connection).
+    pub fn iface_stream_connect(tcp: *mut iface_streams, host: *mut iface, now: i64, local: *const iface_endpoint, remote: *const iface_endpoint, stream: *mut iface_stream) -> u32;
+    /// Queues the first octets, as many as there is room for, and writes how many: 0 once the program closed, or the connection is gone.
+    pub fn iface_stream_send(tcp: *mut iface_streams, stream: *const iface_stream, octets: *const u8, length: usize, count: *mut usize) -> u32;
+    /// Takes the octets that came, in order and as many as there is room for, and writes how many: 0 where none came, and where no more come, which `iface_stream_state` tells apart.
+    pub fn iface_stream_receive(tcp: *mut iface_streams, stream: *const iface_stream, out: *mut u8, room: usize, count: *mut usize) -> u32;
+    /// Writes what the call above does, and leaves the octets there.
+    pub fn iface_stream_peek(tcp: *mut iface_streams, stream: *const iface_stream, out: *mut u8, room: usize, count: *mut usize) -> u32;
+    /// Closes: the end follows what was written. The program may still read. One whose handshake isn't complete is gone.
+    pub fn iface_stream_close(tcp: *mut iface_streams, stream: *const iface_stream) -> u32;
+    /// Aborts: the connection is gone, and a peer that knows of it gets a reset.
+    pub fn iface_stream_abort(tcp: *mut iface_streams, stream: *const iface_stream) -> u32;
+    /// Lets go of a connection: its name names nothing from then on. It is aborted if the peer may still send; else it ends by itself. So a program that closes reads until the end before it releases. Each connection is to be released, also one that is gone.
+    pub fn iface_stream_release(tcp: *mut iface_streams, stream: *const iface_stream) -> u32;
+    /// Writes the state, of enum `iface_stream_state`.
+    pub fn iface_stream_state(tcp: *mut iface_streams, stream: *const iface_stream, state: *mut u32) -> u32;
+    /// Writes why it ended before both sides had closed, of enum `iface_stream_ending`.
+    pub fn iface_stream_ending(tcp: *mut iface_streams, stream: *const iface_stream, ending: *mut u32) -> u32;
+    /// Writes the two ends: the own one, and the peer's. NOT_THERE (it has none any more).
+    pub fn iface_stream_ends(tcp: *mut iface_streams, stream: *const iface_stream, local: *mut iface_endpoint, remote: *mut iface_endpoint) -> u32;
+    /// Writes how many octets `iface_stream_send` takes now, and how many `iface_stream_receive` writes.
+    pub fn iface_stream_rooms(tcp: *mut iface_streams, stream: *const iface_stream, writable: *mut usize, readable: *mut usize) -> u32;
+    /// Each of these sets what the field of its name in the configuration says, for one connection from now on.
+    pub fn iface_stream_set_nagle(tcp: *mut iface_streams, stream: *const iface_stream, on: u8) -> u32;
+    /// Each of these sets what the field of its name in the configuration says, for one connection from now on.
+    pub fn iface_stream_set_ack_delay(tcp: *mut iface_streams, stream: *const iface_stream, micros: u64) -> u32;
+    /// Each of these sets what the field of its name in the configuration says, for one connection from now on.
+    pub fn iface_stream_set_keep_alive(tcp: *mut iface_streams, stream: *const iface_stream, micros: u64) -> u32;
+    /// Each of these sets what the field of its name in the configuration says, for one connection from now on.
+    pub fn iface_stream_set_timeout(tcp: *mut iface_streams, stream: *const iface_stream, micros: u64) -> u32;
     /// The version of the header that the library was built with.
     pub fn iface_version() -> u32;
     /// The library's name, version and commit, as "fumitorygate 0.14.0 (8e6aa25f6c2d)".
@@ -443,7 +669,7 @@ unsafe extern "C" {
     pub fn iface_strerror(code: u32) -> *const c_char;
 }
 
-/// Makes a host, which the handle owns from then on. BAD_VERSION, HAS_HOST, BAD_ARGUMENT (the medium, a checksum), NOT_UNICAST (the hardware address), BAD_MTU, BAD_TIMEOUT, BAD_MOMENT (the start), NO_MEMORY.
+/// Makes a host, which the handle owns from then on. BAD_VERSION, HAS_HOST, BAD_ARGUMENT (the medium, a checksum), NOT_UNICAST (the hardware address), BAD_MTU, BAD_TIMEOUT, BAD_MOMENT (the start), NO_MEMORY: in this order.
 ///
 /// # Safety
 /// As each call of the header.

@@ -2,13 +2,16 @@
 //! from `docs/C.md`.
 mod common;
 
+use common::dhcp::{ACK, DISCOVER, LEASED, NAK, OFFER, REQUEST, SERVER, option, reply};
 use common::{Node, OWN, Seen, advertisement, arp, ethernet, ipv4, millis, settings, tcp4, udp4, udp6};
 use fumitorygate::time::{Duration, Instant};
 use fumitorygate::wire::{
     EthernetAddress, HardwareAddress, IpAddress, IpCidr, IpEndpoint, IpListenEndpoint, IpProtocol, IpVersion,
     Ipv4Address, Ipv6Address, TcpControl, TcpSeqNumber,
 };
-use fumitorygate::{Checksum, ChecksumCapabilities, Error, FRAME_ROOM, Host, Room, Rooms, Route, Segment, Settings};
+use fumitorygate::{
+    Checksum, ChecksumCapabilities, Dhcp, Error, FRAME_ROOM, Host, LeaseEvent, Room, Rooms, Route, Segment, Settings,
+};
 
 const SELF: Ipv4Address = Ipv4Address::new(192, 168, 69, 1);
 const CIDR: IpCidr = IpCidr::new(IpAddress::v4(192, 168, 69, 1), 24);
@@ -38,6 +41,7 @@ fn the_settings_are_those_of_the_table() {
     assert_eq!(settings.reassembly_timeout, Duration::from_micros(10_000_000));
     assert_eq!(settings.frame_len, 1514);
     assert_eq!(settings.sockets, 8);
+    assert_eq!(settings.neighbors, 64);
     assert_eq!(settings.start, Instant::ZERO);
     assert!(!settings.slaac);
     assert_eq!(settings.burst, None);
@@ -147,7 +151,9 @@ fn a_neighbor_is_replaced() {
 /// smoltcp: `neighbor`, `test_evict`, for four places: the entry that would end first makes room.
 #[test]
 fn the_neighbor_that_ends_first_makes_room() {
-    let mut node = Node::new(&[CIDR]);
+    let mut few = settings();
+    few.neighbors = 4;
+    let mut node = Node::of(&few, &[CIDR]);
     for (last, at) in [(11, 100), (12, 50), (13, 200), (15, 400)] {
         fill(&mut node, last, neighbor(last).1, millis(at));
     }
@@ -500,7 +506,9 @@ fn the_source_is_the_one_of_the_rfc() {
 /// smoltcp: `neighbor`, `test_evict`: an entry lasts a minute, and the one that would end first makes room.
 #[test]
 fn neighbors_are_read_by_rising_ends() {
-    let mut node = Node::new(&[CIDR]);
+    let mut few = settings();
+    few.neighbors = 0;
+    let mut node = Node::of(&few, &[CIDR]);
     let known = |node: &mut Node| {
         (0..)
             .map_while(|index| node.host.neighbor_at(index))
@@ -519,6 +527,23 @@ fn neighbors_are_read_by_rising_ends() {
     assert_eq!(known(&mut node), []);
     let mut without = Host::new(&Settings::new(HardwareAddress::Ip)).unwrap();
     assert_eq!(without.neighbor_at(0), None);
+}
+
+/// `docs/C.md`, The configuration: as many are known as there is room for, of both versions together.
+#[test]
+fn as_many_neighbors_are_known_as_there_is_room_for() {
+    for room in [0, 1, 5, 64, 200] {
+        let mut with_room = settings();
+        (with_room.neighbors, with_room.guard) = (room, None);
+        let mut node = Node::of(&with_room, &[CIDR]);
+        for last in 2..=250 {
+            fill(&mut node, last, neighbor(last).1, millis(last.into()));
+        }
+        let known: Vec<_> = (0..).map_while(|index| node.host.neighbor_at(index)).collect();
+        let first = 251 - if room == 0 { 4 } else { u8::try_from(room).unwrap() };
+        let addresses: Vec<IpAddress> = (first..=250).map(|last| neighbor(last).0.into()).collect();
+        assert_eq!(known.iter().map(|known| known.protocol_addr).collect::<Vec<_>>(), addresses);
+    }
 }
 
 /// Where a header has its time to live (RFC 791, 3.1), or hop limit (RFC 8200, 3): behind that of Ethernet.
@@ -812,4 +837,87 @@ fn a_host_goes_to_another_thread() {
         let reply = host.receive(Instant::ZERO, &asked, &mut out).unwrap().unwrap();
         assert_eq!(reply[28..32], own.octets());
     }
+}
+
+/// Polls a client after a frame, and returns the frame that is sent, if one is, and what became of the lease.
+fn polled(
+    client: &mut Dhcp,
+    node: &mut Node,
+    now: Instant,
+    frame: Option<&[u8]>,
+) -> (Option<Vec<u8>>, Option<LeaseEvent>) {
+    if let Some(frame) = frame {
+        assert_eq!(node.take(now, frame), None);
+    }
+    let event = client.poll(&mut node.host, now).unwrap();
+    let mut sent = node.frames(now);
+    assert!(sent.len() < 2);
+    (sent.pop(), event)
+}
+
+/// RFC 2131, 3.1, 3.2 and 4.4: a known address that is refused, then a lease, and its end; `docs/C.md`, An IPv4 address by DHCP.
+#[test]
+fn a_client_leases_an_address() {
+    let mut node = Node::new(&[]);
+    let now = Instant::from_secs(5);
+    let mut client = Dhcp::new(&mut node.host, 42, Some(neighbor(7).0)).unwrap();
+    assert_eq!((client.poll_at(), client.lease()), (Some(Instant::ZERO), None));
+    let asked = polled(&mut client, &mut node, now, None).0.unwrap();
+    assert_eq!((option(&asked, 53), option(&asked, 50)), (Some(&[REQUEST][..]), Some(&[192, 168, 69, 7][..])));
+    let refused = reply(&asked, NAK, Ipv4Address::UNSPECIFIED);
+    let (asked, event) = polled(&mut client, &mut node, now, Some(&refused));
+    let asked = asked.unwrap();
+    assert_eq!((option(&asked, 53), event), (Some(&[DISCOVER][..]), None));
+    // Two requests are three seconds apart (`docs/SERVICES.md`).
+    assert_eq!(polled(&mut client, &mut node, now, Some(&reply(&asked, OFFER, LEASED))), (None, None));
+    assert_eq!(client.poll_at(), Some(now + Duration::from_secs(3)));
+    let now = now + Duration::from_secs(3);
+    let asked = polled(&mut client, &mut node, now, None).0.unwrap();
+    assert_eq!(option(&asked, 53), Some(&[REQUEST][..]));
+    let ack = reply(&asked, ACK, LEASED);
+    assert_eq!(polled(&mut client, &mut node, now, Some(&ack)), (None, Some(LeaseEvent::Configured)));
+    let lease = client.lease().unwrap();
+    assert_eq!((lease.address.to_string().as_str(), lease.server), ("192.168.69.50/24", SERVER));
+    assert_eq!((lease.router, lease.expires_at), (Some(SELF), Some(now + Duration::from_secs(120))));
+    assert_eq!(lease.dns_servers, [Some(neighbor(2).0), Some(neighbor(3).0), None]);
+    assert_eq!(node.host.address_at(0), None);
+    client.apply(&mut node.host).unwrap();
+    assert_eq!(node.host.address_at(0), Some(IpCidr::Ipv4(lease.address)));
+    assert_eq!(node.host.route_at(0), Some(Route::new_ipv4_gateway(SELF)));
+    assert_eq!(client.poll_at(), Some(now + Duration::from_secs(60)));
+    client.reset();
+    assert_eq!(polled(&mut client, &mut node, now + Duration::from_secs(1), None).1, Some(LeaseEvent::Deconfigured));
+    client.apply(&mut node.host).unwrap();
+    assert_eq!((node.host.address_at(0), node.host.route_at(0), client.lease()), (None, None, None));
+    client.free(&mut node.host);
+    assert_eq!(node.host.queues(0), Err(Error::NoSocket));
+}
+
+/// `iface.h`: why a client isn't made, isn't polled, and its lease isn't applied.
+#[test]
+fn a_client_is_refused_with_its_reason() {
+    let mut bare = Host::new(&Settings::new(HardwareAddress::Ip)).unwrap();
+    assert_eq!(Dhcp::new(&mut bare, 1, None).map(|_| ()), Err(Error::NotThere));
+    let mut few = settings();
+    few.sockets = 2;
+    let mut node = Node::of(&few, &[]);
+    let others = [7, 8].map(|port: u16| node.host.udp_open(port.into(), Rooms::new(1, 64)).unwrap());
+    assert_eq!(Dhcp::new(&mut node.host, 1, None).map(|_| ()), Err(Error::TableFull));
+    for socket in others {
+        node.host.close(socket).unwrap();
+    }
+    let mut client = Dhcp::new(&mut node.host, 1, None).unwrap();
+    assert_eq!(client.poll(&mut bare, Instant::ZERO), Err(Error::NoSocket));
+    let now = Instant::from_secs(5);
+    let asked = polled(&mut client, &mut node, now, None).0.unwrap();
+    let asked = polled(&mut client, &mut node, now, Some(&reply(&asked, OFFER, LEASED))).0.unwrap();
+    assert_eq!(polled(&mut client, &mut node, now, Some(&reply(&asked, ACK, LEASED))).1, Some(LeaseEvent::Configured));
+    for last in 1..5 {
+        node.host.add_address(IpCidr::new(neighbor(last).0.into(), 24)).unwrap();
+    }
+    assert_eq!(client.apply(&mut node.host), Err(Error::TableFull));
+    assert_eq!(node.host.address_at(3), Some(IpCidr::new(neighbor(4).0.into(), 24)));
+    // Dropped, it leaves its socket open.
+    drop(client);
+    assert!(node.host.queues(0).is_ok());
 }

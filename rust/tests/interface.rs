@@ -71,8 +71,38 @@ fn a_guard_tells_of_conflicts() {
         assert_eq!(iface.guard_drops().own_address, u64::from(is_on));
         let conflict = Conflict { hardware_addr: EthernetAddress([2, 0, 0, 0, 0, 66]), at: now };
         assert_eq!(iface.guard_conflict(), is_on.then_some(conflict));
-        assert_eq!(iface.neighbors().iter().count(), usize::from(!is_on));
+        assert_eq!(iface.neighbors().len(), usize::from(!is_on));
     }
+}
+
+/// `docs/C.md`, A guard: of a pinned neighbour messages are taken that tell its hardware address, and no others.
+#[test]
+fn a_pinned_neighbor_stays() {
+    let pinned = EthernetAddress(PEER_LINK);
+    let other = [2, 0, 0, 0, 0, 66];
+    let mut device = MemoryDevice::new(Medium::Ethernet, 1514);
+    let config = Config::new(HardwareAddress::Ethernet(EthernetAddress(OWN)));
+    assert_eq!(config.guard.unwrap().longest_error, Some(3));
+    let mut iface = Interface::new(config, &mut device, Instant::ZERO).unwrap();
+    iface.update_ip_addrs(|list| list.push(IpCidr::new(SELF.into(), 24)).unwrap()).unwrap();
+    let mut sockets = SocketSet::new(&iface);
+    assert_eq!(iface.guard_unpin(PEER), Err(Error::NotThere));
+    assert_eq!(iface.guard_pin(PEER, EthernetAddress([3, 0, 0, 0, 0, 2])), Err(Error::NotUnicast));
+    iface.guard_pin(PEER, pinned).unwrap();
+    assert_eq!(iface.guard_pinned_conflict(), None);
+    let now = Instant::from_secs(5);
+    device.incoming.push_back(arp(2, other, PEER, OWN, SELF));
+    iface.poll(now, &mut device, &mut sockets);
+    assert_eq!((iface.neighbors().len(), iface.guard_drops().pinned), (0, 1));
+    let conflict = Conflict { hardware_addr: EthernetAddress(other), at: now };
+    assert_eq!(iface.guard_pinned_conflict(), Some(conflict));
+    device.incoming.push_back(arp(2, pinned.0, PEER, OWN, SELF));
+    iface.poll(now, &mut device, &mut sockets);
+    assert_eq!(iface.neighbors().len(), 1);
+    iface.guard_unpin(PEER).unwrap();
+    device.incoming.push_back(arp(2, other, PEER, OWN, SELF));
+    iface.poll(now, &mut device, &mut sockets);
+    assert_eq!(iface.guard_drops().pinned, 1);
 }
 
 #[test]

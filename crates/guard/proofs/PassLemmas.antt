@@ -1,18 +1,36 @@
 -- What nobody named passes a guard.
-use Rattle.std.proofs.Common.{◌≡◌, ◌≤◌, ℕ, Bool, true, false, refl, inl, inr, arith, List, length, pos}
-use Rattle.std.specs.Prelude.{◌⊎◌, ◌≢◌, is_none, is_some, Option, not, ◌||◌, ◌&&◌, ◌==◌, nat_lt, Some, None, if◌then◌else◌}
+use Rattle.std.proofs.Common.{◌≡◌, ◌≤◌, ◌+◌, ◌*◌, ◌%◌, ◌∙◌, ap, sym, ℕ, zero, suc, ℤ, Bool, true, false, refl, inl, inr, arith, List, [], ◌∷◌, length, pos}
+use Rattle.std.specs.Prelude.{◌⊎◌, ◌≢◌, is_none, is_some, Option, not, ◌||◌, ◌&&◌, ◌==◌, nat_lt, slice_get, Some, None, if◌then◌else◌}
+use Rattle.std.specs.List.{list_any}
 use Rattle.std.proofs.lemmas.Bool.Decides.{nat_tests}
 use Rattle.wire_base.specs.Octets.{u16_at}
+use Rattle.ipv6_wire.specs.Ipv6Packet.{address_at}
 use Rattle.token_bucket.specs.declared.bucket.Bucket.{Bucket}
+use Rattle.ip_address.specs.Ip.{is_unspecified}
+use Rattle.ip_address.specs.EthernetAddress.{is_same as is_same_hardware}
+use Rattle.ip_address.specs.declared.cidr.IpCidr.{IpCidr}
+use Rattle.ip_address.specs.declared.ethernet_address.EthernetAddress.{EthernetAddress}
+use Rattle.ip_address.specs.declared.hardware.HardwareAddress.{HardwareAddress}
+use Rattle.ip_address.specs.declared.ip.IpAddress.{IpAddress}
+use Rattle.ip_address.specs.declared.ip.IpAddress.TheVariants.{Ipv4, Ipv6}
+use Rattle.socket_base.specs.Source.{is_same}
+use Rattle.iface_tables.specs.Neighbor.{Neighbors}
 use Rattle.guard.specs.declared.guard.Guard.{Guard}
 use Rattle.guard.specs.declared.guard.Reason.{Reason}
 use Rattle.guard.specs.declared.guard.Reason.TheVariants as reason
 use Rattle.guard.specs.declared.kind.Kind.{Kind}
 use Rattle.guard.specs.declared.kind.Kind.TheVariants.{Arp, Query, Packet, Other}
-use Rattle.guard.specs.Kind.{ipv4_at, is_igmp_query, kind_of, kind_of_ipv6, octet_at, sort_of_ipv4}
-use Rattle.guard.specs.Guard.{after_passing, asks_for, first_of, is_plain, refusal_of, has_room, is_expected, is_known, is_near, is_own, reason_unless, was_asked}
-use Rattle.ip_address.specs.Ip.{is_unspecified}
-use Rattle.guard.specs.Laws.{Arrival, KnownArpPass, KnownPass, after, passes}
+use Rattle.guard.specs.declared.kind.Sort.{Sort}
+use Rattle.guard.specs.declared.kind.Sort.TheVariants.{Fragment, Loop, Transport, Plain}
+use Rattle.guard.specs.declared.pins.Pinned.{Pinned}
+use Rattle.guard.specs.Kind.{ipv4_at, is_igmp_query, is_loop, is_transport, kind_at, kind_of, kind_of_ipv4, kind_of_ipv6, message_of}
+use Rattle.guard.specs.Kind.{octet_at, packet_to, sort_of_ipv4, sort_of_ipv6, target_at}
+use Rattle.guard.specs.Claim.{comes_back, hardware_at, is_from_host, tells_only}
+use Rattle.guard.specs.Pins.{forbids, is_forbidden}
+use Rattle.guard.specs.Guard.{after_judged, after_judging, after_kind, asks_for, asks_nobody, first_of, is_ordinary, is_ordinary_sort}
+use Rattle.guard.specs.Guard.{is_plain, is_returned, is_stolen, is_usual, judged, reason_of, reason_of_kind, refusal_of, refusal_of_claim}
+use Rattle.guard.specs.Guard.{refusal_of_packet, has_room, is_expected, is_known, is_near, is_own, reason_unless, was_asked}
+use Rattle.guard.specs.Laws.{Arrival, KnownArpPass, KnownPass, LoopsEnd, OwnAddressesStay, PinnedStay, after, passes}
 
 -- the one that four tests choose
 chosen : {A : Type 0} (short arp ip query : Bool) (a b c d e : A) → short ≡ false → arp ≡ false → ip ≡ true → query ≡ false →
@@ -43,23 +61,37 @@ needs_none true true true false (inr (inl e)) = absurd cc
 needs_none true true true false (inr (inr (inl e))) = absurd cc
 needs_none true true true false (inr (inr (inr e))) = absurd cc
 
-plain_passes : (keeps own needs token : Bool) (refused : Option Reason) → refused ≡ None → own ≡ false → needs ≡ true →
-    (g : Guard) (d : Bucket) (why other : Reason) →
-    (is_none (if keeps && own then Some why else first_of refused (if needs then None else reason_unless token other)) ≡ true)
-    × ((if ((keeps && own) || is_some refused) || needs then g else record g { discoveries = d }) ≡ g)
-plain_passes true own needs token refused r o n g d why other = rw (r, o, n) (refl, refl)
-plain_passes false own needs token refused r o n g d why other = rw (r, n) (refl, refl)
+-- what isn't refused, and is free, passes and takes nothing
+free_passes : (refusal : Option Reason) (free : Bool) → refusal ≡ None → free ≡ true → (now : ℕ) (b : Bucket) (why : Reason) →
+    (is_none (judged refusal free now b why) ≡ true) × (after_judged refusal free now b ≡ b)
+free_passes refusal free r f now b why = rw (r, f) (refl, refl)
+
+-- a message of the host, or one that claims nothing of it, isn't stolen
+not_stolen : (keeps claimed mine : Bool) → (claimed ≡ false) ⊎ (mine ≡ true) → (keeps && claimed && not mine) ≡ false
+not_stolen false claimed mine or = refl
+not_stolen true false mine or = refl
+not_stolen true true true or = refl
+not_stolen true true false (inl e) = absurd cc
+not_stolen true true false (inr e) = absurd cc
+
+refused_by_none : (stolen : Bool) (other : Option Reason) (why : Reason) → stolen ≡ false → other ≡ None →
+    first_of (if stolen then Some why else None) other ≡ None
+refused_by_none stolen other why s o = rw (s, o) refl
 
 pub known_passes : KnownPass
 known_passes a g long type other free own or =
     let sender = ipv4_at a.frame 26 in
     let target = ipv4_at a.frame 30 in
     let sort = sort_of_ipv4 a.frame in
-    let needs : (not (asks_for sender target sort a.own) || is_known a.known sender (pos a.at)) ≡ true = needs_none (is_plain sort)
+    let needs : asks_nobody (pos a.at) sender target sort a.own a.known ≡ true = needs_none (is_plain sort)
     (is_near a.own sender) (is_own a.own target) (is_known a.known sender (pos a.at)) or in
-    rw (kind_is a.frame long type other) (plain_passes g.keeps_own_addresses (is_own a.own sender)
-    (not (asks_for sender target sort a.own) || is_known a.known sender (pos a.at)) (has_room a.at g.discoveries) (refusal_of sort g)
-    free own needs g (after_passing a.at g.discoveries) reason.OwnSource reason.Discovery)
+    let refusal : refusal_of_packet sender sort a.hardware a.frame a.own g ≡ None =
+    refused_by_none (is_stolen (is_own a.own sender) (comes_back a.hardware a.frame) g)
+    (refusal_of (is_returned sender a.hardware a.frame a.own) sort g) reason.OwnSource
+    (not_stolen g.keeps_own_addresses (is_own a.own sender) (comes_back a.hardware a.frame) own) free in
+    let passes = free_passes (refusal_of_packet sender sort a.hardware a.frame a.own g)
+    (asks_nobody (pos a.at) sender target sort a.own a.known) refusal needs a.at g.discoveries reason.Discovery in
+    rw (kind_is a.frame long type other) (passes.0, ap (λ (b : Bucket). record g { discoveries = b }) passes.1)
 
 -- likewise an ARP packet
 arp_is : (frame : List ℕ) → 42 ≤ length frame → u16_at frame 12 ≡ 0x0806 → kind_of frame ≡ Arp (ipv4_at frame 28) (ipv4_at frame 38)
@@ -78,23 +110,224 @@ needs_no_token true true or = refl
 needs_no_token true false (inl e) = absurd cc
 needs_no_token true false (inr e) = absurd cc
 
-arp_passes : (keeps own needs token : Bool) → own ≡ false → needs ≡ true → (g : Guard) (d : Bucket) (why other : Reason) →
-    (is_none (if keeps && own then Some why else if needs then None else reason_unless token other) ≡ true)
-    × ((if (keeps && own) || needs then g else record g { neighbors = d }) ≡ g)
-arp_passes true own needs token o n g d why other = rw (o, n) (refl, refl)
-arp_passes false own needs token o n g d why other = rw n (refl, refl)
-
 pub known_arp_passes : KnownArpPass
-known_arp_passes a g long type own or =
+known_arp_passes a g long type own pinned or =
     let sender = ipv4_at a.frame 28 in
     let target = ipv4_at a.frame 38 in
-    let needs : (not (is_own a.own target) || is_expected (pos a.at) sender a.known g) ≡ true = needs_no_token (is_own a.own target)
+    let needs : is_usual (pos a.at) sender target a.own a.known g ≡ true = needs_no_token (is_own a.own target)
     (is_expected (pos a.at) sender a.known g) (by or) in
-    rw (arp_is a.frame long type) (arp_passes g.keeps_own_addresses (is_own a.own sender)
-    (not (is_own a.own target) || is_expected (pos a.at) sender a.known g) (has_room a.at g.neighbors) own needs g
-    (after_passing a.at g.neighbors) reason.OwnAddress reason.NewNeighbor) where
+    let none : (if is_forbidden sender a.frame g.pins then Some reason.Pinned else None) ≡ None = rw pinned refl in
+    let refusal : refusal_of_claim (is_own a.own sender) sender a.hardware a.frame g ≡ None =
+    refused_by_none (is_stolen (is_own a.own sender) (is_from_host a.hardware a.frame) g)
+    (if is_forbidden sender a.frame g.pins then Some reason.Pinned else None) reason.OwnAddress
+    (not_stolen g.keeps_own_addresses (is_own a.own sender) (is_from_host a.hardware a.frame) own) none in
+    let passes = free_passes (refusal_of_claim (is_own a.own sender) sender a.hardware a.frame g)
+    (is_usual (pos a.at) sender target a.own a.known g) refusal needs a.at g.neighbors reason.NewNeighbor in
+    rw (arp_is a.frame long type) (passes.0, ap (λ (b : Bucket). record g { neighbors = b }) passes.1) where
       by : (is_known a.known (ipv4_at a.frame 28) (pos a.at) ≡ true) ⊎ (is_own a.own (ipv4_at a.frame 38) ≡ false) →
           (is_expected (pos a.at) (ipv4_at a.frame 28) a.known g ≡ true) ⊎ (is_own a.own (ipv4_at a.frame 38) ≡ false)
       by (inl e) = inl (expected_if (is_unspecified (ipv4_at a.frame 28)) (is_known a.known (ipv4_at a.frame 28) (pos a.at))
           (was_asked (pos a.at) (ipv4_at a.frame 28) g.asked) e)
       by (inr other) = inr other
+
+-- what is refused doesn't pass, and takes nothing
+refused_stays : (why : Reason) (refusal : Option Reason) (free : Bool) → refusal ≡ Some why → (now : ℕ) (b : Bucket) (other : Reason) →
+    (is_none (judged refusal free now b other) ≡ false) × (after_judged refusal free now b ≡ b)
+refused_stays why refusal free r now b other = rw r (refl, refl)
+
+stolen_by : (keeps claimed mine : Bool) → keeps ≡ true → claimed ≡ true → mine ≡ false → (other : Option Reason) (why : Reason) →
+    first_of (if keeps && claimed && not mine then Some why else None) other ≡ Some why
+stolen_by keeps claimed mine k c m other why = rw (k, c, m) refl
+
+pub own_addresses_stay : OwnAddressesStay
+own_addresses_stay a g keeps long type claimed other =
+    let sender = ipv4_at a.frame 28 in
+    let target = ipv4_at a.frame 38 in
+    let refusal : refusal_of_claim (is_own a.own sender) sender a.hardware a.frame g ≡ Some reason.OwnAddress =
+    stolen_by g.keeps_own_addresses (is_own a.own sender) (is_from_host a.hardware a.frame) keeps claimed other
+    (if is_forbidden sender a.frame g.pins then Some reason.Pinned else None) reason.OwnAddress in
+    let stays = refused_stays reason.OwnAddress (refusal_of_claim (is_own a.own sender) sender a.hardware a.frame g)
+    (is_usual (pos a.at) sender target a.own a.known g) refusal a.at g.neighbors reason.NewNeighbor in
+    rw (arp_is a.frame long type) (stays.0, ap (λ (b : Bucket). record g { neighbors = b }) stays.1)
+
+-- an address is the same as itself
+same_refl : (a : IpAddress) → is_same a a ≡ true
+same_refl (Ipv4 x) = grind (arith, nat_tests)
+same_refl (Ipv6 x) = grind (arith, nat_tests)
+
+or_true : (a b : Bool) → b ≡ true → (a || b) ≡ true
+or_true true b e = refl
+or_true false b e = e
+
+-- one entry forbids a frame, and so do all
+any_forbids : (sender : IpAddress) (frame : List ℕ) (h : EthernetAddress) (pairs : List (Option Pinned)) (k : ℕ) →
+    slice_get pairs k ≡ Some (Some (record { address = sender; hardware = h })) → tells_only h frame ≡ false →
+    list_any (forbids sender frame) pairs ≡ true
+any_forbids sender frame h [] k there other = absurd cc
+any_forbids sender frame h (p ∷ ps) zero there other =
+    let is : p ≡ Some (record { address = sender; hardware = h }) = cc in rw (is, same_refl sender, other) refl
+any_forbids sender frame h (p ∷ ps) (suc k) there other =
+    or_true (forbids sender frame p) (list_any (forbids sender frame) ps) (any_forbids sender frame h ps k there other)
+
+-- an ARP packet tells the hardware address of its sender alone
+pub tells_by_arp : (h : EthernetAddress) (frame : List ℕ) → 42 ≤ length frame → u16_at frame 12 ≡ 0x0806 →
+    tells_only h frame ≡ is_same_hardware (hardware_at frame 22) h
+tells_by_arp h frame long type =
+    let s : nat_lt (length frame) 42 ≡ false = grind (arith, nat_tests) in
+    let r : (u16_at frame 12 == 0x0806) ≡ true = rw type refl in
+    rw (s, r) refl
+
+pinned_by : (stolen forbidden : Bool) → forbidden ≡ true → (why : Reason) →
+    (r : Reason) × (first_of (if stolen then Some why else None) (if forbidden then Some reason.Pinned else None) ≡ Some r)
+pinned_by true forbidden f why = (why, refl)
+pinned_by false forbidden f why = (reason.Pinned, rw f refl)
+
+pub pinned_stay : PinnedStay
+pinned_stay a g h k long type there other =
+    let sender = ipv4_at a.frame 28 in
+    let target = ipv4_at a.frame 38 in
+    let elsewhere : tells_only h a.frame ≡ false = tells_by_arp h a.frame long type ∙ other in
+    let forbidden : is_forbidden sender a.frame g.pins ≡ true = any_forbids sender a.frame h g.pins.pairs k there elsewhere in
+    let refusal = pinned_by (is_stolen (is_own a.own sender) (is_from_host a.hardware a.frame) g) (is_forbidden sender a.frame g.pins)
+    forbidden reason.OwnAddress in
+    let stays = refused_stays refusal.0 (refusal_of_claim (is_own a.own sender) sender a.hardware a.frame g)
+    (is_usual (pos a.at) sender target a.own a.known g) refusal.1 a.at g.neighbors reason.NewNeighbor in
+    rw (arp_is a.frame long type) (stays.0, ap (λ (b : Bucket). record g { neighbors = b }) stays.1)
+
+-- a datagram that goes to and fro is refused, by its source or as such
+looping : (stolen drops returned : Bool) → drops ≡ true → returned ≡ false → (why : Reason) →
+    (r : Reason) × (first_of (if stolen then Some why else None) (if drops && not returned then Some reason.Loop else None) ≡ Some r)
+looping true drops returned d t why = (why, refl)
+looping false drops returned d t why = (reason.Loop, rw (d, t) refl)
+
+pub loops_end : LoopsEnd
+loops_end a g drops long type other sort returned =
+    let sender = ipv4_at a.frame 26 in
+    let target = ipv4_at a.frame 30 in
+    let refusal = looping (is_stolen (is_own a.own sender) (comes_back a.hardware a.frame) g) g.drops_loops
+    (is_returned sender a.hardware a.frame a.own) drops returned reason.OwnSource in
+    let stays = refused_stays refusal.0 (refusal_of_packet sender Loop a.hardware a.frame a.own g)
+    (asks_nobody (pos a.at) sender target Loop a.own a.known) refusal.1 a.at g.discoveries reason.Discovery in
+    rw (kind_is a.frame long type other) (rw sort (stays.0, ap (λ (b : Bucket). record g { discoveries = b }) stays.1))
+
+-- a datagram or a segment from another address than the host's
+transport : (now : ℤ) (sender target : IpAddress) (hardware : Option HardwareAddress) (frame : List ℕ) (own : List IpCidr)
+    (known : Neighbors) (g : Guard) → is_own own sender ≡ false →
+    (reason_of_kind now (Packet sender target Transport) hardware frame own known g ≡ None)
+    × (after_kind now (Packet sender target Transport) hardware frame own known g ≡ g)
+transport now sender target hardware frame own known g free =
+    let refusal : refusal_of_packet sender Transport hardware frame own g ≡ None =
+    refused_by_none (is_stolen (is_own own sender) (comes_back hardware frame) g) None reason.OwnSource
+    (not_stolen g.keeps_own_addresses (is_own own sender) (comes_back hardware frame) (inl free)) refl in
+    rw refusal (refl, refl)
+
+is_transport_sort : (s : Sort) → is_ordinary_sort s ≡ true → s ≡ Transport
+is_transport_sort Fragment e = absurd cc
+is_transport_sort Loop e = absurd cc
+is_transport_sort Transport e = refl
+is_transport_sort Plain e = absurd cc
+
+both : (a b : Bool) → (a && b) ≡ true → (a ≡ true) × (b ≡ true)
+both true true e = (refl, refl)
+both true false e = absurd cc
+both false b e = absurd cc
+
+not_true : (a : Bool) → not a ≡ true → a ≡ false
+not_true false e = refl
+not_true true e = absurd cc
+
+-- its protocol is UDP or TCP
+by_protocol : (fragment loop transport : Bool) →
+    (if fragment then Fragment else if loop then Loop else if transport then Transport else Plain) ≡ Transport → transport ≡ true
+by_protocol true loop transport e = absurd cc
+by_protocol false true transport e = absurd cc
+by_protocol false false true e = refl
+by_protocol false false false e = absurd cc
+
+which : (p : ℕ) (tcp udp : Bool) → (p == 6) ≡ tcp → (p == 17) ≡ udp → (tcp || udp) ≡ true → (p ≡ 6) ⊎ (p ≡ 17)
+which p true udp t u or = inl (grind (arith, nat_tests))
+which p false true t u or = inr (grind (arith, nat_tests))
+which p false false t u or = absurd cc
+
+other_protocol : (p q : ℕ) → (p ≡ 6) ⊎ (p ≡ 17) → q ≢ 6 → q ≢ 17 → p ≢ q
+other_protocol p q (inl e) six seventeen same = six (sym same ∙ e)
+other_protocol p q (inr e) six seventeen same = seventeen (sym same ∙ e)
+
+no_message : (p behind : ℕ) (len : ℕ) → p ≢ 58 → p ≢ 0 →
+    (if p == 58 then Some 54 else if (p == 0) && (behind == 58) then Some len else None) ≡ None
+no_message p behind len message options =
+    let m : (p == 58) ≡ false = grind (arith, nat_tests) in
+    let o : (p == 0) ≡ false = grind (arith, nat_tests) in
+    rw (m, o) refl
+
+chosen_v6 : {A : Type 0} (short arp ip six : Bool) (a b c d e : A) → short ≡ false → arp ≡ false → ip ≡ false → six ≡ true →
+    (if short then a else if arp then b else if ip then c else if six then d else e) ≡ d
+chosen_v6 short arp ip six a b c d e s r i x = rw (s, r, i, x) refl
+
+kind_v6 : (frame : List ℕ) → 42 ≤ length frame → u16_at frame 12 ≡ 0x86dd → kind_of frame ≡ kind_of_ipv6 frame
+kind_v6 frame long type =
+    let s : nat_lt (length frame) 42 ≡ false = grind (arith, nat_tests) in
+    let r : (u16_at frame 12 == 0x0806) ≡ false = rw type refl in
+    let i : (u16_at frame 12 == 0x0800) ≡ false = rw type refl in
+    let x : (u16_at frame 12 == 0x86dd) ≡ true = rw type refl in
+    chosen_v6 (nat_lt (length frame) 42) (u16_at frame 12 == 0x0806) (u16_at frame 12 == 0x0800) (u16_at frame 12 == 0x86dd) Other
+    (Arp (ipv4_at frame 28) (ipv4_at frame 38)) (kind_of_ipv4 frame) (kind_of_ipv6 frame) Other s r i x
+
+packet_v6 : (frame : List ℕ) (message : Option ℕ) (sort : Sort) → message ≡ None → sort ≡ Transport → sort_of_ipv6 frame ≡ sort →
+    kind_at message (Ipv6 (address_at frame 22)) frame ≡ packet_to (target_at frame 38) (Ipv6 (address_at frame 22)) Transport
+packet_v6 frame message sort m t is = rw (m, is, t) refl
+
+module _ (now : ℤ) (frame : List ℕ) (hardware : Option HardwareAddress) (own : List IpCidr) (known : Neighbors) (g : Guard) where
+  abbrev PassesAt : Kind → Type 0
+  PassesAt kind = (reason_of_kind now kind hardware frame own known g ≡ None) × (after_kind now kind hardware frame own known g ≡ g)
+
+  ordinary_v4 : 42 ≤ length frame → u16_at frame 12 ≡ 0x0800 →
+      (is_ordinary_sort (sort_of_ipv4 frame) && not (is_own own (ipv4_at frame 26))) ≡ true → PassesAt (kind_of frame)
+  ordinary_v4 long type is =
+      let parts = both (is_ordinary_sort (sort_of_ipv4 frame)) (not (is_own own (ipv4_at frame 26))) is in
+      let sort = is_transport_sort (sort_of_ipv4 frame) parts.0 in
+      let protocol = by_protocol (not (u16_at frame 20 % 0x4000 == 0)) ((octet_at frame 23 == 17) && is_loop frame (14 + octet_at frame 14 % 16 * 4))
+      (is_transport (octet_at frame 23)) sort in
+      let one = which (octet_at frame 23) (octet_at frame 23 == 6) (octet_at frame 23 == 17) refl refl protocol in
+      rw (kind_is frame long type (other_protocol (octet_at frame 23) 2 one (λ e. absurd cc) (λ e. absurd cc)))
+      (rw sort (transport now (ipv4_at frame 26) (ipv4_at frame 30) hardware frame own known g
+      (not_true (is_own own (ipv4_at frame 26)) parts.1)))
+
+  by_target : (target : Option IpAddress) (sender : IpAddress) → is_own own sender ≡ false → PassesAt (packet_to target sender Transport)
+  by_target None sender free = (refl, refl)
+  by_target (Some target) sender free = transport now sender target hardware frame own known g free
+
+  ordinary_v6 : 42 ≤ length frame → u16_at frame 12 ≡ 0x86dd →
+      (is_ordinary_sort (sort_of_ipv6 frame) && not (is_own own (Ipv6 (address_at frame 22)))) ≡ true → PassesAt (kind_of frame)
+  ordinary_v6 long type is =
+      let parts = both (is_ordinary_sort (sort_of_ipv6 frame)) (not (is_own own (Ipv6 (address_at frame 22)))) is in
+      let sort = is_transport_sort (sort_of_ipv6 frame) parts.0 in
+      let protocol = by_protocol (octet_at frame 20 == 44) ((octet_at frame 20 == 17) && is_loop frame 54) (is_transport (octet_at frame 20)) sort in
+      let one = which (octet_at frame 20) (octet_at frame 20 == 6) (octet_at frame 20 == 17) refl refl protocol in
+      let none : message_of frame ≡ None = no_message (octet_at frame 20) (octet_at frame 54) (62 + octet_at frame 55 * 8)
+      (other_protocol (octet_at frame 20) 58 one (λ e. absurd cc) (λ e. absurd cc))
+      (other_protocol (octet_at frame 20) 0 one (λ e. absurd cc) (λ e. absurd cc)) in
+      let kind : kind_of frame ≡ packet_to (target_at frame 38) (Ipv6 (address_at frame 22)) Transport =
+      kind_v6 frame long type ∙ packet_v6 frame (message_of frame) (sort_of_ipv6 frame) none sort refl in
+      rw kind (by_target (target_at frame 38) (Ipv6 (address_at frame 22)) (not_true (is_own own (Ipv6 (address_at frame 22))) parts.1))
+
+  ordinary : is_ordinary frame own ≡ true → PassesAt (kind_of frame)
+  ordinary is = by (nat_lt (length frame) 42) (u16_at frame 12 == 0x0800) (u16_at frame 12 == 0x86dd) refl refl refl is where
+    by : (short v4 v6 : Bool) → nat_lt (length frame) 42 ≡ short → (u16_at frame 12 == 0x0800) ≡ v4 → (u16_at frame 12 == 0x86dd) ≡ v6 →
+        (if short then false
+        else if v4 then is_ordinary_sort (sort_of_ipv4 frame) && not (is_own own (ipv4_at frame 26))
+        else if v6 then is_ordinary_sort (sort_of_ipv6 frame) && not (is_own own (Ipv6 (address_at frame 22)))
+        else false) ≡ true → PassesAt (kind_of frame)
+    by true v4 v6 s four six e = absurd cc
+    by false true v6 s four six e = ordinary_v4 (grind (arith, nat_tests)) (grind (arith, nat_tests)) e
+    by false false true s four six e = ordinary_v6 (grind (arith, nat_tests)) (grind (arith, nat_tests)) e
+    by false false false s four six e = absurd cc
+
+-- an ordinary frame passes, and changes nothing
+pub ordinary_reason : (now : ℤ) (frame : List ℕ) (hardware : Option HardwareAddress) (own : List IpCidr) (known : Neighbors) (g : Guard) →
+    is_ordinary frame own ≡ true → None ≡ reason_of now frame hardware own known g
+ordinary_reason now frame hardware own known g is = sym (ordinary now frame hardware own known g is).0
+
+pub ordinary_after : (now : ℤ) (frame : List ℕ) (hardware : Option HardwareAddress) (own : List IpCidr) (known : Neighbors) (g : Guard) →
+    is_ordinary frame own ≡ true → g ≡ after_judging now frame hardware own known g
+ordinary_after now frame hardware own known g is = sym (ordinary now frame hardware own known g is).1

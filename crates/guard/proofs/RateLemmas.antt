@@ -12,8 +12,8 @@ use Rattle.guard.specs.declared.guard.Reason.TheVariants as reason
 use Rattle.guard.specs.declared.kind.Kind.{Kind}
 use Rattle.guard.specs.declared.kind.Kind.TheVariants.{Arp, Neighbor, Query, Router, Packet, Other}
 use Rattle.guard.specs.Kind.{kind_of}
-use Rattle.guard.specs.Guard.{reason_of, reason_unless, after_judging, after_passing, claims, first_of, is_stolen, refusal_of}
-use Rattle.guard.specs.Guard.{is_own, asks_for, is_expected, is_known, after_router, is_heard, is_last, micros}
+use Rattle.guard.specs.Guard.{reason_of_kind, reason_unless, after_kind, after_passing, claims, first_of, refusal_of_claim, refusal_of_packet}
+use Rattle.guard.specs.Guard.{is_own, is_usual, asks_for, asks_nobody, is_expected, is_known, after_router, is_heard, is_last, micros}
 use Rattle.guard.specs.Laws.{Arrival, AreWithin, passes, after, passed, is_strange, asks, is_query, is_strange_kind, asks_kind, is_query_kind, FewNeighborsPass, FewDiscoveriesPass, FewQueriesPass}
 
 -- a bucket after a token was taken
@@ -78,102 +78,60 @@ rate_takes true token now b z h other = Unbounded (grind (arith, nat_tests)) ref
 rate_takes false true now b z h other = Passed refl h refl
 rate_takes false false now b z h other = Stayed refl refl
 
--- a neighbour's message, by what is asked of it in order
-neighbor_takes : (own expected off token : Bool) (now : ℕ) (g : Guard) → (g.neighbors.interval == 0) ≡ off →
-    has_token now g.neighbors ≡ token → (why other : Reason) → TakesToken now
-    (not expected && is_none (if own then Some why else if expected then None else reason_unless (off || token) other)) g.neighbors
-    (if own || expected then g else record g { neighbors = passing off token now g.neighbors }).neighbors
-neighbor_takes true true off token now g z h why other = Stayed refl refl
-neighbor_takes true false off token now g z h why other = Stayed refl refl
-neighbor_takes false true off token now g z h why other = Stayed refl refl
-neighbor_takes false false off token now g z h why other = rate_takes off token now g.neighbors z h other
+-- what isn't free, by what is asked of it in order
+judged_takes : (refusal : Option Reason) (strange free off token : Bool) → strange ≡ not free → (now : ℕ) (b : Bucket) →
+    (b.interval == 0) ≡ off → has_token now b ≡ token → (why : Reason) → TakesToken now
+    (strange && is_none (first_of refusal (if free then None else reason_unless (off || token) why))) b
+    (if is_some refusal || free then b else passing off token now b)
+judged_takes (Some w) strange true off token e now b z h why = rw e (Stayed refl refl)
+judged_takes (Some w) strange false off token e now b z h why = rw e (Stayed refl refl)
+judged_takes None strange true off token e now b z h why = rw e (Stayed refl refl)
+judged_takes None strange false off token e now b z h why = rw e (rate_takes off token now b z h why)
 
--- an ARP packet
-arp_takes : (own mine expected off token : Bool) (now : ℕ) (g : Guard) → (g.neighbors.interval == 0) ≡ off →
-    has_token now g.neighbors ≡ token → (why other : Reason) → TakesToken now
-    ((mine && not expected) && is_none (if own then Some why else if not mine || expected then None else reason_unless (off || token) other))
-    g.neighbors (if own || (not mine || expected) then g else record g { neighbors = passing off token now g.neighbors }).neighbors
-arp_takes true false expected off token now g z h why other = Stayed refl refl
-arp_takes false false expected off token now g z h why other = Stayed refl refl
-arp_takes true true true off token now g z h why other = Stayed refl refl
-arp_takes false true true off token now g z h why other = Stayed refl refl
-arp_takes true true false off token now g z h why other = Stayed refl refl
-arp_takes false true false off token now g z h why other = rate_takes off token now g.neighbors z h other
-
--- another rate is left as it is
-same : (test : Bool) (g h : Guard) → (rate : Guard → Bucket) → rate h ≡ rate g → rate (if test then g else h) ≡ rate g
-same true g h rate e = refl
-same false g h rate e = e
+not_free : (mine expected : Bool) → (mine && not expected) ≡ not (not mine || expected)
+not_free true true = refl
+not_free true false = refl
+not_free false expected = refl
 
 neighbor_by : (k : Kind) (a : Arrival) (g : Guard) →
-    TakesToken a.at (is_strange_kind k a g && is_none (reason_of (pos a.at) k a.own a.known g)) g.neighbors
-    (after_judging (pos a.at) k a.own a.known g).neighbors
+    TakesToken a.at (is_strange_kind k a g && is_none (reason_of_kind (pos a.at) k a.hardware a.frame a.own a.known g)) g.neighbors
+    (after_kind (pos a.at) k a.hardware a.frame a.own a.known g).neighbors
 neighbor_by (Arp sender target) a g =
-    arp_takes (is_stolen sender a.own g) (is_own a.own target) (is_expected (pos a.at) sender a.known g) (g.neighbors.interval == 0)
-    (has_token a.at g.neighbors) a.at g refl refl reason.OwnAddress reason.NewNeighbor
+    judged_takes (refusal_of_claim (is_own a.own sender) sender a.hardware a.frame g)
+    (is_own a.own target && not (is_expected (pos a.at) sender a.known g)) (is_usual (pos a.at) sender target a.own a.known g)
+    (g.neighbors.interval == 0) (has_token a.at g.neighbors)
+    (not_free (is_own a.own target) (is_expected (pos a.at) sender a.known g)) a.at g.neighbors refl refl reason.NewNeighbor
 neighbor_by (Neighbor sender target) a g =
-    neighbor_takes (claims sender target a.own g) (is_expected (pos a.at) sender a.known g) (g.neighbors.interval == 0)
-    (has_token a.at g.neighbors) a.at g refl refl reason.OwnAddress reason.NewNeighbor
+    judged_takes (refusal_of_claim (claims sender target a.own) sender a.hardware a.frame g)
+    (not (is_expected (pos a.at) sender a.known g)) (is_expected (pos a.at) sender a.known g)
+    (g.neighbors.interval == 0) (has_token a.at g.neighbors) refl a.at g.neighbors refl refl reason.NewNeighbor
 neighbor_by Query a g = Stayed refl refl
 neighbor_by (Router sender) a g = Stayed refl (same_rates (pos a.at) sender g (λ h. h.neighbors) (λ n. refl))
-neighbor_by (Packet sender target sort) a g =
-    Stayed refl (same ((is_stolen sender a.own g || is_some (refusal_of sort g)) || (not (asks_for sender target sort a.own) || is_known a.known sender (pos a.at)))
-    g (record g { discoveries = after_passing a.at g.discoveries }) (λ h. h.neighbors) refl)
+neighbor_by (Packet sender target sort) a g = Stayed refl refl
 neighbor_by Other a g = Stayed refl refl
 
--- a packet
-packet_takes : (own : Bool) (refused : Option Reason) (near expected off token : Bool) (now : ℕ) (g : Guard) →
-    (g.discoveries.interval == 0) ≡ off → has_token now g.discoveries ≡ token → (why other : Reason) → TakesToken now
-    ((near && not expected) && is_none (if own then Some why
-    else first_of refused (if not near || expected then None else reason_unless (off || token) other))) g.discoveries
-    (if (own || is_some refused) || (not near || expected) then g
-    else record g { discoveries = passing off token now g.discoveries }).discoveries
-packet_takes own refused false expected off token now g z h why other = Stayed refl (by own refused) where
-  by : (o : Bool) (r : Option Reason) →
-      (if (o || is_some r) || true then g else record g { discoveries = passing off token now g.discoveries }).discoveries ≡ g.discoveries
-  by true r = refl
-  by false (Some w) = refl
-  by false None = refl
-packet_takes own refused true true off token now g z h why other = Stayed refl (by own refused) where
-  by : (o : Bool) (r : Option Reason) →
-      (if (o || is_some r) || true then g else record g { discoveries = passing off token now g.discoveries }).discoveries ≡ g.discoveries
-  by true r = refl
-  by false (Some w) = refl
-  by false None = refl
-packet_takes true refused true false off token now g z h why other = Stayed refl refl
-packet_takes false (Some w) true false off token now g z h why other = Stayed refl refl
-packet_takes false None true false off token now g z h why other = rate_takes off token now g.discoveries z h other
-
 packet_by : (k : Kind) (a : Arrival) (g : Guard) →
-    TakesToken a.at (asks_kind k a g && is_none (reason_of (pos a.at) k a.own a.known g)) g.discoveries
-    (after_judging (pos a.at) k a.own a.known g).discoveries
-packet_by (Arp sender target) a g =
-    Stayed refl (same (is_stolen sender a.own g || (not (is_own a.own target) || is_expected (pos a.at) sender a.known g))
-    g (record g { neighbors = after_passing a.at g.neighbors }) (λ h. h.discoveries) refl)
-packet_by (Neighbor sender target) a g =
-    Stayed refl (same (claims sender target a.own g || is_expected (pos a.at) sender a.known g)
-    g (record g { neighbors = after_passing a.at g.neighbors }) (λ h. h.discoveries) refl)
+    TakesToken a.at (asks_kind k a g && is_none (reason_of_kind (pos a.at) k a.hardware a.frame a.own a.known g)) g.discoveries
+    (after_kind (pos a.at) k a.hardware a.frame a.own a.known g).discoveries
+packet_by (Arp sender target) a g = Stayed refl refl
+packet_by (Neighbor sender target) a g = Stayed refl refl
 packet_by Query a g = Stayed refl refl
 packet_by (Router sender) a g = Stayed refl (same_rates (pos a.at) sender g (λ h. h.discoveries) (λ n. refl))
 packet_by (Packet sender target sort) a g =
-    packet_takes (is_stolen sender a.own g) (refusal_of sort g) (asks_for sender target sort a.own) (is_known a.known sender (pos a.at))
-    (g.discoveries.interval == 0) (has_token a.at g.discoveries) a.at g refl refl reason.OwnSource reason.Discovery
+    judged_takes (refusal_of_packet sender sort a.hardware a.frame a.own g)
+    (asks_for sender target sort a.own && not (is_known a.known sender (pos a.at)))
+    (asks_nobody (pos a.at) sender target sort a.own a.known) (g.discoveries.interval == 0) (has_token a.at g.discoveries)
+    (not_free (asks_for sender target sort a.own) (is_known a.known sender (pos a.at))) a.at g.discoveries refl refl reason.Discovery
 packet_by Other a g = Stayed refl refl
 
 query_by : (k : Kind) (a : Arrival) (g : Guard) →
-    TakesToken a.at (is_query_kind k && is_none (reason_of (pos a.at) k a.own a.known g)) g.queries
-    (after_judging (pos a.at) k a.own a.known g).queries
-query_by (Arp sender target) a g =
-    Stayed refl (same (is_stolen sender a.own g || (not (is_own a.own target) || is_expected (pos a.at) sender a.known g))
-    g (record g { neighbors = after_passing a.at g.neighbors }) (λ h. h.queries) refl)
-query_by (Neighbor sender target) a g =
-    Stayed refl (same (claims sender target a.own g || is_expected (pos a.at) sender a.known g)
-    g (record g { neighbors = after_passing a.at g.neighbors }) (λ h. h.queries) refl)
+    TakesToken a.at (is_query_kind k && is_none (reason_of_kind (pos a.at) k a.hardware a.frame a.own a.known g)) g.queries
+    (after_kind (pos a.at) k a.hardware a.frame a.own a.known g).queries
+query_by (Arp sender target) a g = Stayed refl refl
+query_by (Neighbor sender target) a g = Stayed refl refl
 query_by Query a g = rate_takes (g.queries.interval == 0) (has_token a.at g.queries) a.at g.queries refl refl reason.Query
 query_by (Router sender) a g = Stayed refl (same_rates (pos a.at) sender g (λ h. h.queries) (λ n. refl))
-query_by (Packet sender target sort) a g =
-    Stayed refl (same ((is_stolen sender a.own g || is_some (refusal_of sort g)) || (not (asks_for sender target sort a.own) || is_known a.known sender (pos a.at)))
-    g (record g { discoveries = after_passing a.at g.discoveries }) (λ h. h.queries) refl)
+query_by (Packet sender target sort) a g = Stayed refl refl
 query_by Other a g = Stayed refl refl
 
 pub few_neighbors : FewNeighborsPass

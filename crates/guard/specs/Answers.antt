@@ -1,5 +1,5 @@
 -- Which answers to strangers' frames a host may send.
-use Rattle.std.specs.Prelude.{ℕ, ◌+◌, ◌*◌, ◌/◌, ◌%◌, nat_lt, ◌==◌, ◌||◌, List, length, Option, Some, None, if◌then◌else◌}
+use Rattle.std.specs.Prelude.{ℕ, ◌+◌, ◌*◌, ◌/◌, ◌%◌, nat_lt, ◌==◌, ◌||◌, ◌&&◌, not, Bool, List, length, Option, Some, None, if◌then◌else◌}
 use Rattle.wire_base.specs.Octets.{u16_at}
 use Rattle.guard.specs.declared.answers.Answer.{Answer}
 use Rattle.guard.specs.declared.answers.Answer.TheVariants.{EchoReply, Error, Reset}
@@ -7,12 +7,13 @@ use Rattle.guard.specs.declared.answers.Answers.{Answers}
 use Rattle.guard.specs.Kind.{octet_at, message_of}
 use Rattle.guard.specs.Guard.{reason_unless, has_room, after_passing}
 
--- a hundred in a second, and ten at once
+-- a hundred in a second, and ten at once; errors at most three times as long as what they answer
 abbrev pub new_answers : Answers
 new_answers = record {
   echo_replies = record { interval = 10000; depth = 10; full_at = 0 };
   errors = record { interval = 10000; depth = 10; full_at = 0 };
   resets = record { interval = 10000; depth = 10; full_at = 0 };
+  longest_error = 3;
 }
 
 -- the flag RST of a segment (RFC 9293 3.1)
@@ -53,15 +54,21 @@ answer_of frame =
     else if u16_at frame 12 == 0x86dd then answer_of_ipv6 frame
     else None
 
--- what may not be sent; none: it may
-abbrev pub refused : ℕ → Option Answer → Answers → Option Answer
-refused now None g = None
-refused now (Some EchoReply) g = reason_unless (has_room now g.echo_replies) EchoReply
-refused now (Some Error) g = reason_unless (has_room now g.errors) Error
-refused now (Some Reset) g = reason_unless (has_room now g.resets) Reset
+-- an error is longer than so many times what it answers, in octets; 0 bounds nothing
+abbrev pub is_too_long : (answered len times : ℕ) → Bool
+is_too_long answered len times = not (times == 0) && nat_lt (answered * times) len
 
-abbrev pub after_answer : ℕ → Option Answer → Answers → Answers
-after_answer now None g = g
-after_answer now (Some EchoReply) g = record g { echo_replies = after_passing now g.echo_replies }
-after_answer now (Some Error) g = record g { errors = after_passing now g.errors }
-after_answer now (Some Reset) g = record g { resets = after_passing now g.resets }
+-- what may not be sent of so many octets, to answer a frame of so many; none: it may
+abbrev pub refused : ℕ → Option Answer → (answered len : ℕ) → Answers → Option Answer
+refused now None answered len g = None
+refused now (Some EchoReply) answered len g = reason_unless (has_room now g.echo_replies) EchoReply
+refused now (Some Error) answered len g =
+    if is_too_long answered len g.longest_error then Some Error else reason_unless (has_room now g.errors) Error
+refused now (Some Reset) answered len g = reason_unless (has_room now g.resets) Reset
+
+abbrev pub after_answer : ℕ → Option Answer → (answered len : ℕ) → Answers → Answers
+after_answer now None answered len g = g
+after_answer now (Some EchoReply) answered len g = record g { echo_replies = after_passing now g.echo_replies }
+after_answer now (Some Error) answered len g =
+    if is_too_long answered len g.longest_error then g else record g { errors = after_passing now g.errors }
+after_answer now (Some Reset) answered len g = record g { resets = after_passing now g.resets }

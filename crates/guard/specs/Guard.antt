@@ -1,10 +1,11 @@
 -- Which frames a host gets to see.
-use Rattle.std.specs.Prelude.{ℕ, ◌+◌, ◌==◌, ◌&&◌, ◌||◌, not, nat_le, is_some, Bool, true, false, ℤ, pos, negsuc, List, Option, Some, None, if◌then◌else◌}
+use Rattle.std.specs.Prelude.{ℕ, ◌+◌, ◌==◌, ◌&&◌, ◌||◌, not, nat_le, nat_lt, is_some, length, Bool, true, false, ℤ, pos, negsuc, List, Option, Some, None, if◌then◌else◌}
 use Rattle.std.specs.List.{list_any}
 use Rattle.ip_address.specs.Cidr.{address_of, contains}
 use Rattle.ip_address.specs.Ip.{is_unicast, is_unspecified}
 use Rattle.ip_address.specs.declared.ip.IpAddress.{IpAddress}
 use Rattle.ip_address.specs.declared.cidr.IpCidr.{IpCidr}
+use Rattle.ip_address.specs.declared.hardware.HardwareAddress.{HardwareAddress}
 use Rattle.socket_base.specs.Source.{is_same}
 use Rattle.iface_tables.specs.Neighbor.{Neighbors, answer_of, is_found}
 use Rattle.token_bucket.specs.Bucket.{has_token, after_take}
@@ -17,6 +18,12 @@ use Rattle.guard.specs.declared.guard.Noted.{Noted}
 use Rattle.guard.specs.declared.guard.Guard.{Guard}
 use Rattle.guard.specs.declared.guard.Reason.{Reason}
 use Rattle.guard.specs.declared.guard.Reason.TheVariants as reason
+use Rattle.guard.specs.Claim.{comes_back, is_from_host}
+use Rattle.guard.specs.Kind.{ipv4_at, kind_of, sort_of_ipv4, sort_of_ipv6}
+use Rattle.wire_base.specs.Octets.{u16_at}
+use Rattle.ipv6_wire.specs.Ipv6Packet.{address_at}
+use Rattle.ip_address.specs.declared.ip.IpAddress.TheVariants.{Ipv6}
+use Rattle.guard.specs.Pins.{is_forbidden, no_pins}
 
 -- the microseconds of an instant; 0 before the origin
 abbrev pub micros : ℤ → ℕ
@@ -33,6 +40,7 @@ new_guard = record {
   discoveries = record { interval = 2000000; depth = 1; full_at = 0 };
   queries = record { interval = 1000000; depth = 1; full_at = 0 };
   router_time = 60000000;
+  pins = no_pins;
   asked = None;
   router = None;
 }
@@ -88,20 +96,41 @@ after_router now a g =
     if is_last a g.router || not (is_heard now a g.router_time g.router) then g
     else record g { router = Some (record { address = a; at = micros now }) }
 
--- why a packet is dropped by what it is
-abbrev pub refusal_of : Sort → Guard → Option Reason
-refusal_of Fragment g = if g.drops_fragments then Some reason.Fragment else None
-refusal_of Loop g = if g.drops_loops then Some reason.Loop else None
-refusal_of Transport g = None
-refusal_of Plain g = None
+-- why a packet is dropped by what it is; what the host itself sent may come back
+abbrev pub refusal_of : (returned : Bool) → Sort → Guard → Option Reason
+refusal_of returned Fragment g = if g.drops_fragments then Some reason.Fragment else None
+refusal_of returned Loop g = if g.drops_loops && not returned then Some reason.Loop else None
+refusal_of returned Transport g = None
+refusal_of returned Plain g = None
+
+-- the first of two reasons, if there is one
+abbrev pub first_of : Option Reason → Option Reason → Option Reason
+first_of None other = other
+first_of (Some why) other = Some why
+
+-- a message claims an own address, and isn't the host's own
+abbrev pub is_stolen : (claimed mine : Bool) → Guard → Bool
+is_stolen claimed mine g = g.keeps_own_addresses && claimed && not mine
+
+-- or it tells another hardware address of a pinned neighbour than is pinned
+abbrev pub refusal_of_claim : (claimed : Bool) → (sender : IpAddress) → Option HardwareAddress → List ℕ → Guard → Option Reason
+refusal_of_claim claimed sender hardware frame g =
+    first_of (if is_stolen claimed (is_from_host hardware frame) g then Some reason.OwnAddress else None)
+    (if is_forbidden sender frame g.pins then Some reason.Pinned else None)
 
 -- a neighbour's message claims an own address
-abbrev pub claims : (sender : IpAddress) (target : Option IpAddress) → List IpCidr → Guard → Bool
-claims sender target own g = g.keeps_own_addresses && (is_own own sender || is_one_own own target)
+abbrev pub claims : (sender : IpAddress) (target : Option IpAddress) → List IpCidr → Bool
+claims sender target own = is_own own sender || is_one_own own target
 
--- an ARP packet claims an own address, or a packet comes from one
-abbrev pub is_stolen : IpAddress → List IpCidr → Guard → Bool
-is_stolen sender own g = g.keeps_own_addresses && is_own own sender
+-- the host itself sent a packet, which came back: from an own address, and from the own hardware address
+abbrev pub is_returned : (sender : IpAddress) → Option HardwareAddress → List ℕ → List IpCidr → Bool
+is_returned sender hardware frame own = is_own own sender && comes_back hardware frame
+
+-- why a packet is dropped by its source, or by what it is
+abbrev pub refusal_of_packet : (sender : IpAddress) → Sort → Option HardwareAddress → List ℕ → List IpCidr → Guard → Option Reason
+refusal_of_packet sender sort hardware frame own g =
+    first_of (if is_stolen (is_own own sender) (comes_back hardware frame) g then Some reason.OwnSource else None)
+    (refusal_of (is_returned sender hardware frame own) sort g)
 
 -- neither a fragment, nor of UDP or TCP: what the host itself answers
 abbrev pub is_plain : Sort → Bool
@@ -114,44 +143,75 @@ is_plain Plain = true
 abbrev pub asks_for : (sender target : IpAddress) → Sort → List IpCidr → Bool
 asks_for sender target sort own = is_plain sort && is_near own sender && is_own own target
 
--- the first of two reasons, if there is one
-abbrev pub first_of : Option Reason → Option Reason → Option Reason
-first_of None other = other
-first_of (Some why) other = Some why
+-- an ARP packet asks for another host, or is of somebody who is expected
+abbrev pub is_usual : ℤ → (sender target : IpAddress) → List IpCidr → Neighbors → Guard → Bool
+is_usual now sender target own known g = not (is_own own target) || is_expected now sender known g
+
+-- the host need not ask for the sender of a packet
+abbrev pub asks_nobody : ℤ → (sender target : IpAddress) → Sort → List IpCidr → Neighbors → Bool
+asks_nobody now sender target sort own known = not (asks_for sender target sort own) || is_known known sender now
+
+-- what is refused; or is free, or beyond a rate
+abbrev pub judged : (refusal : Option Reason) (free : Bool) → (now : ℕ) → Bucket → Reason → Option Reason
+judged refusal free now rate why = first_of refusal (if free then None else reason_unless (has_room now rate) why)
 
 -- why the host doesn't get to see a frame of a kind; none: it does
-abbrev pub reason_of : ℤ → Kind → List IpCidr → Neighbors → Guard → Option Reason
-reason_of now (Arp sender target) own known g =
-    if is_stolen sender own g then Some reason.OwnAddress
-    else if not (is_own own target) || is_expected now sender known g then None
-    else reason_unless (has_room (micros now) g.neighbors) reason.NewNeighbor
-reason_of now (Neighbor sender target) own known g =
-    if claims sender target own g then Some reason.OwnAddress
-    else if is_expected now sender known g then None
-    else reason_unless (has_room (micros now) g.neighbors) reason.NewNeighbor
-reason_of now Query own known g = reason_unless (has_room (micros now) g.queries) reason.Query
-reason_of now (Router sender) own known g = reason_of_router now sender g
-reason_of now (Packet sender target sort) own known g =
-    if is_stolen sender own g then Some reason.OwnSource
-    else first_of (refusal_of sort g)
-    (if not (asks_for sender target sort own) || is_known known sender now then None
-    else reason_unless (has_room (micros now) g.discoveries) reason.Discovery)
-reason_of now Other own known g = None
+abbrev pub reason_of_kind : ℤ → Kind → Option HardwareAddress → List ℕ → List IpCidr → Neighbors → Guard → Option Reason
+reason_of_kind now (Arp sender target) hardware frame own known g =
+    judged (refusal_of_claim (is_own own sender) sender hardware frame g) (is_usual now sender target own known g)
+    (micros now) g.neighbors reason.NewNeighbor
+reason_of_kind now (Neighbor sender target) hardware frame own known g =
+    judged (refusal_of_claim (claims sender target own) sender hardware frame g) (is_expected now sender known g)
+    (micros now) g.neighbors reason.NewNeighbor
+reason_of_kind now Query hardware frame own known g = reason_unless (has_room (micros now) g.queries) reason.Query
+reason_of_kind now (Router sender) hardware frame own known g = reason_of_router now sender g
+reason_of_kind now (Packet sender target sort) hardware frame own known g =
+    judged (refusal_of_packet sender sort hardware frame own g) (asks_nobody now sender target sort own known)
+    (micros now) g.discoveries reason.Discovery
+reason_of_kind now Other hardware frame own known g = None
 
--- each frame that a rate is about takes a token, if there is one
-abbrev pub after_judging : ℤ → Kind → List IpCidr → Neighbors → Guard → Guard
-after_judging now (Arp sender target) own known g =
-    if is_stolen sender own g || (not (is_own own target) || is_expected now sender known g) then g
-    else record g { neighbors = after_passing (micros now) g.neighbors }
-after_judging now (Neighbor sender target) own known g =
-    if claims sender target own g || is_expected now sender known g then g
-    else record g { neighbors = after_passing (micros now) g.neighbors }
-after_judging now Query own known g = record g { queries = after_passing (micros now) g.queries }
-after_judging now (Router sender) own known g = after_router now sender g
-after_judging now (Packet sender target sort) own known g =
-    if (is_stolen sender own g || is_some (refusal_of sort g)) || (not (asks_for sender target sort own) || is_known known sender now) then g
-    else record g { discoveries = after_passing (micros now) g.discoveries }
-after_judging now Other own known g = g
+-- of a frame
+abbrev pub reason_of : ℤ → List ℕ → Option HardwareAddress → List IpCidr → Neighbors → Guard → Option Reason
+reason_of now frame hardware own known g = reason_of_kind now (kind_of frame) hardware frame own known g
+
+-- a frame that a rate is about takes a token, if there is one
+abbrev pub after_judged : (refusal : Option Reason) (free : Bool) → (now : ℕ) → Bucket → Bucket
+after_judged refusal free now rate = if is_some refusal || free then rate else after_passing now rate
+
+abbrev pub after_kind : ℤ → Kind → Option HardwareAddress → List ℕ → List IpCidr → Neighbors → Guard → Guard
+after_kind now (Arp sender target) hardware frame own known g = record g {
+  neighbors = after_judged (refusal_of_claim (is_own own sender) sender hardware frame g)
+      (is_usual now sender target own known g) (micros now) g.neighbors;
+}
+after_kind now (Neighbor sender target) hardware frame own known g = record g {
+  neighbors = after_judged (refusal_of_claim (claims sender target own) sender hardware frame g) (is_expected now sender known g)
+      (micros now) g.neighbors;
+}
+after_kind now Query hardware frame own known g = record g { queries = after_passing (micros now) g.queries }
+after_kind now (Router sender) hardware frame own known g = after_router now sender g
+after_kind now (Packet sender target sort) hardware frame own known g = record g {
+  discoveries = after_judged (refusal_of_packet sender sort hardware frame own g) (asks_nobody now sender target sort own known)
+      (micros now) g.discoveries;
+}
+after_kind now Other hardware frame own known g = g
+
+abbrev pub after_judging : ℤ → List ℕ → Option HardwareAddress → List IpCidr → Neighbors → Guard → Guard
+after_judging now frame hardware own known g = after_kind now (kind_of frame) hardware frame own known g
+
+-- a datagram of UDP or a segment of TCP, of which nothing is asked but who sent it
+abbrev pub is_ordinary_sort : Sort → Bool
+is_ordinary_sort Fragment = false
+is_ordinary_sort Loop = false
+is_ordinary_sort Transport = true
+is_ordinary_sort Plain = false
+
+-- one from an address that isn't the host's
+abbrev pub is_ordinary : List ℕ → List IpCidr → Bool
+is_ordinary frame own =
+    if nat_lt (length frame) 42 then false
+    else if u16_at frame 12 == 0x0800 then is_ordinary_sort (sort_of_ipv4 frame) && not (is_own own (ipv4_at frame 26))
+    else if u16_at frame 12 == 0x86dd then is_ordinary_sort (sort_of_ipv6 frame) && not (is_own own (Ipv6 (address_at frame 22)))
+    else false
 
 -- a request for a hardware address was sent, or another frame
 abbrev pub after_asking : ℤ → Option IpAddress → Guard → Guard

@@ -1,6 +1,9 @@
 -- What a guard promises, whatever frames come.
-use Rattle.std.specs.Prelude.{◌≡◌, ℕ, suc, ◌+◌, ◌-◌, ◌*◌, ◌≤◌, ◌&&◌, not, Bool, true, false, pos, List, [], ◌∷◌, is_none, if◌then◌else◌, ◌≢◌, ◌<◌, ◌⊎◌, length, Some, None, ◌==◌}
+use Rattle.std.specs.Prelude.{◌≡◌, ℕ, suc, ◌+◌, ◌-◌, ◌*◌, ◌≤◌, ◌&&◌, not, Bool, true, false, pos, List, [], ◌∷◌, is_none, if◌then◌else◌, ◌≢◌, ◌<◌, ◌⊎◌, length, Option, slice_get, Some, None, ◌==◌}
+use Rattle.ip_address.specs.EthernetAddress.{is_same as is_same_hardware}
 use Rattle.ip_address.specs.declared.cidr.IpCidr.{IpCidr}
+use Rattle.ip_address.specs.declared.ethernet_address.EthernetAddress.{EthernetAddress}
+use Rattle.ip_address.specs.declared.hardware.HardwareAddress.{HardwareAddress}
 use Rattle.iface_tables.specs.Neighbor.{Neighbors}
 use Rattle.guard.specs.declared.guard.Guard.{Guard}
 use Rattle.guard.specs.declared.kind.Kind.{Kind}
@@ -11,20 +14,24 @@ use Rattle.ip_address.specs.declared.ip.IpAddress.{IpAddress}
 use Rattle.socket_base.specs.Source.{is_same}
 use Rattle.guard.specs.declared.guard.Reason.TheVariants as reason
 use Rattle.guard.specs.Kind.{kind_of, octet_at, ipv4_at, sort_of_ipv4}
-use Rattle.guard.specs.Guard.{reason_of, after_judging, asks_for, is_plain, refusal_of, is_expected, is_near, is_own, is_known, is_last, is_heard, reason_of_router, after_router}
+use Rattle.guard.specs.Claim.{comes_back, hardware_at, is_from_host}
+use Rattle.guard.specs.Pins.{is_forbidden}
+use Rattle.guard.specs.Guard.{reason_of, after_judging, asks_for, is_plain, is_returned, refusal_of, is_expected, is_near, is_own}
+use Rattle.guard.specs.Guard.{is_known, is_last, is_heard, reason_of_router, after_router}
 
--- a frame that comes to a host: when, with what octets, and what addresses and neighbours the host has then
+-- a frame that comes to a host: when, with what octets, and what hardware address, addresses and neighbours the host has then
 pub record Arrival : Type 0 where
   pub at : ℕ
   pub frame : List ℕ
+  pub hardware : Option HardwareAddress
   pub own : List IpCidr
   pub known : Neighbors
 
 abbrev pub passes : Arrival → Guard → Bool
-passes a g = is_none (reason_of (pos a.at) (kind_of a.frame) a.own a.known g)
+passes a g = is_none (reason_of (pos a.at) a.frame a.hardware a.own a.known g)
 
 abbrev pub after : Arrival → Guard → Guard
-after a g = after_judging (pos a.at) (kind_of a.frame) a.own a.known g
+after a g = after_judging (pos a.at) a.frame a.hardware a.own a.known g
 
 -- it is an ARP packet for an own address or a neighbour message, of somebody that the host doesn't expect
 abbrev pub is_strange_kind : Kind → Arrival → Guard → Bool
@@ -97,32 +104,45 @@ OthersPass =
     (passes a g ≡ true) × (after a g ≡ g)
 
 -- A packet of IPv4 but for IGMP that is of no sort which the guard drops passes, and changes nothing, if its source isn't an own
--- address and is known, or isn't in an own network; or if it goes to no own address, as one to a group; or if it is of UDP or TCP
+-- address, or it comes from the own hardware address, and its source is known, or isn't in an own network; or if it goes to no own
+-- address, as one to a group; or if it is of UDP or TCP
 abbrev pub KnownPass : Type 0
 KnownPass =
     (a : Arrival) (g : Guard) → 42 ≤ length a.frame → u16_at a.frame 12 ≡ 0x0800 → octet_at a.frame 23 ≢ 2 →
-    refusal_of (sort_of_ipv4 a.frame) g ≡ None → is_own a.own (ipv4_at a.frame 26) ≡ false →
+    refusal_of (is_returned (ipv4_at a.frame 26) a.hardware a.frame a.own) (sort_of_ipv4 a.frame) g ≡ None →
+    (is_own a.own (ipv4_at a.frame 26) ≡ false) ⊎ (comes_back a.hardware a.frame ≡ true) →
     (is_known a.known (ipv4_at a.frame 26) (pos a.at) ≡ true) ⊎ (is_near a.own (ipv4_at a.frame 26) ≡ false)
     ⊎ (is_own a.own (ipv4_at a.frame 30) ≡ false) ⊎ (is_plain (sort_of_ipv4 a.frame) ≡ false) →
     (passes a g ≡ true) × (after a g ≡ g)
 
--- An ARP packet of a known neighbour, or for another address, passes, and changes nothing, if it doesn't claim an own address
+-- An ARP packet of a known neighbour, or for another address, passes, and changes nothing, if it claims neither an own address, but
+-- from the own hardware address, nor a pinned one from another than that one's
 abbrev pub KnownArpPass : Type 0
 KnownArpPass =
-    (a : Arrival) (g : Guard) → 42 ≤ length a.frame → u16_at a.frame 12 ≡ 0x0806 → is_own a.own (ipv4_at a.frame 28) ≡ false →
+    (a : Arrival) (g : Guard) → 42 ≤ length a.frame → u16_at a.frame 12 ≡ 0x0806 →
+    (is_own a.own (ipv4_at a.frame 28) ≡ false) ⊎ (is_from_host a.hardware a.frame ≡ true) →
+    is_forbidden (ipv4_at a.frame 28) a.frame g.pins ≡ false →
     (is_known a.known (ipv4_at a.frame 28) (pos a.at) ≡ true) ⊎ (is_own a.own (ipv4_at a.frame 38) ≡ false) → (passes a g ≡ true) × (after a g ≡ g)
 
--- An ARP packet that claims an own address doesn't pass a guard that keeps these
+-- An ARP packet that claims an own address doesn't pass a guard that keeps these, unless it comes from the own hardware address and
+-- tells that one
 abbrev pub OwnAddressesStay : Type 0
 OwnAddressesStay =
     (a : Arrival) (g : Guard) → g.keeps_own_addresses ≡ true → 42 ≤ length a.frame → u16_at a.frame 12 ≡ 0x0806 → is_own a.own (ipv4_at a.frame 28) ≡ true →
-    (passes a g ≡ false) × (after a g ≡ g)
+    is_from_host a.hardware a.frame ≡ false → (passes a g ≡ false) × (after a g ≡ g)
 
--- A datagram of IPv4 that could go to and fro for ever doesn't pass a guard that drops these
+-- An ARP packet of a pinned neighbour doesn't pass, unless it tells the hardware address that the neighbour is pinned to
+abbrev pub PinnedStay : Type 0
+PinnedStay =
+    (a : Arrival) (g : Guard) (h : EthernetAddress) (k : ℕ) → 42 ≤ length a.frame → u16_at a.frame 12 ≡ 0x0806 →
+    slice_get g.pins.pairs k ≡ Some (Some (record { address = ipv4_at a.frame 28; hardware = h })) →
+    is_same_hardware (hardware_at a.frame 22) h ≡ false → (passes a g ≡ false) × (after a g ≡ g)
+
+-- A datagram of IPv4 that could go to and fro for ever doesn't pass a guard that drops these, unless the host itself sent it
 abbrev pub LoopsEnd : Type 0
 LoopsEnd =
     (a : Arrival) (g : Guard) → g.drops_loops ≡ true → 42 ≤ length a.frame → u16_at a.frame 12 ≡ 0x0800 → octet_at a.frame 23 ≢ 2 →
-    sort_of_ipv4 a.frame ≡ Loop → (passes a g ≡ false) × (after a g ≡ g)
+    sort_of_ipv4 a.frame ≡ Loop → is_returned (ipv4_at a.frame 26) a.hardware a.frame a.own ≡ false → (passes a g ≡ false) × (after a g ≡ g)
 
 -- After a router's advertisement passed, that of another one doesn't for the time between two
 abbrev pub RoutersStay : Type 0

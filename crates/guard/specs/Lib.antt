@@ -1,4 +1,6 @@
 pub mod Kind
+pub mod Claim
+pub mod Pins
 pub mod Guard
 pub mod Answers
 pub mod Laws

@@ -1,7 +1,9 @@
 -- A guard on its post: what it drops is counted by the reason, and who claims an own address is told.
-use Rattle.std.specs.Prelude.{ℕ, ◌+◌, ◌-◌, ◌^◌, ◌==◌, ℤ, is_none, Bool, true, List, [], ◌∷◌, Option, Some, None, if◌then◌else◌}
+use Rattle.std.specs.Prelude.{ℕ, ◌+◌, ◌-◌, ◌^◌, ◌==◌, ℤ, is_none, Bool, true, List, length, Option, Some, None, if◌then◌else◌}
 use Rattle.ip_address.specs.declared.ethernet_address.EthernetAddress.{EthernetAddress}
 use Rattle.ip_address.specs.declared.cidr.IpCidr.{IpCidr}
+use Rattle.ip_address.specs.declared.ip.IpAddress.{IpAddress}
+use Rattle.ip_address.specs.declared.hardware.HardwareAddress.{HardwareAddress}
 use Rattle.iface_tables.specs.Neighbor.{Neighbors}
 use Rattle.guard.specs.declared.answers.Answer.{Answer}
 use Rattle.guard.specs.declared.answers.Answer.TheVariants.{EchoReply, Error, Reset}
@@ -12,7 +14,9 @@ use Rattle.guard.specs.declared.watch.Counts.{Counts}
 use Rattle.guard.specs.declared.watch.Watch.{Watch}
 use Rattle.guard.specs.Answers.{after_answer, answer_of, new_answers, refused}
 use Rattle.guard.specs.Guard.{after_asking, after_judging, micros, new_guard, reason_of}
-use Rattle.guard.specs.Kind.{asked_in, kind_of, octet_at}
+use Rattle.guard.specs.Kind.{asked_in}
+use Rattle.guard.specs.Claim.{hardware_at}
+use Rattle.guard.specs.Pins as pins
 
 -- one more, up to the greatest number of 64 bits
 abbrev pub one_more : ℕ → ℕ
@@ -22,6 +26,7 @@ abbrev pub no_drops : Counts
 no_drops = record {
   own_address = 0;
   own_source = 0;
+  pinned = 0;
   new_neighbor = 0;
   discovery = 0;
   query = 0;
@@ -34,12 +39,13 @@ no_drops = record {
 }
 
 abbrev pub new_watch : Watch
-new_watch = record { is_on = true; guard = new_guard; answers = new_answers; counts = no_drops; conflict = None }
+new_watch = record { is_on = true; guard = new_guard; answers = new_answers; counts = no_drops; conflict = None; pinned_conflict = None }
 
 -- a frame was dropped
 abbrev pub after_drop : Reason → Counts → Counts
 after_drop reason.OwnAddress c = record c { own_address = one_more c.own_address }
 after_drop reason.OwnSource c = record c { own_source = one_more c.own_source }
+after_drop reason.Pinned c = record c { pinned = one_more c.pinned }
 after_drop reason.NewNeighbor c = record c { new_neighbor = one_more c.new_neighbor }
 after_drop reason.Discovery c = record c { discovery = one_more c.discovery }
 after_drop reason.Query c = record c { query = one_more c.query }
@@ -53,64 +59,75 @@ after_holding EchoReply c = record c { echo_reply = one_more c.echo_reply }
 after_holding Error c = record c { error = one_more c.error }
 after_holding Reset c = record c { reset = one_more c.reset }
 
--- the hardware address that a frame came from
-abbrev pub source_of : List ℕ → EthernetAddress
-source_of frame = record {
-  0 = octet_at frame 6 ∷ octet_at frame 7 ∷ octet_at frame 8 ∷ octet_at frame 9 ∷ octet_at frame 10 ∷ octet_at frame 11 ∷ [];
-}
+-- from which hardware address a frame came, and when
+abbrev pub conflict_by : ℤ → List ℕ → Conflict
+conflict_by now frame = record { hardware = hardware_at frame 6; at = now }
 
 -- who claimed an own address last (RFC 5227 2.4)
 abbrev pub conflict_after : ℤ → List ℕ → Reason → Option Conflict → Option Conflict
-conflict_after now frame reason.OwnAddress c = Some (record { hardware = source_of frame; at = now })
-conflict_after now frame reason.OwnSource c = c
-conflict_after now frame reason.NewNeighbor c = c
-conflict_after now frame reason.Discovery c = c
-conflict_after now frame reason.Query c = c
-conflict_after now frame reason.Router c = c
-conflict_after now frame reason.Fragment c = c
-conflict_after now frame reason.Loop c = c
+conflict_after now frame reason.OwnAddress c = Some (conflict_by now frame)
+conflict_after now frame other c = c
+
+-- who claimed a pinned address last
+abbrev pub pinned_conflict_after : ℤ → List ℕ → Reason → Option Conflict → Option Conflict
+pinned_conflict_after now frame reason.Pinned c = Some (conflict_by now frame)
+pinned_conflict_after now frame other c = c
 
 -- a frame was dropped for a reason
 abbrev pub after_report : ℤ → List ℕ → Reason → Watch → Watch
-after_report now frame why w =
-    record w { counts = after_drop why w.counts; conflict = conflict_after now frame why w.conflict }
+after_report now frame why w = record w {
+  counts = after_drop why w.counts;
+  conflict = conflict_after now frame why w.conflict;
+  pinned_conflict = pinned_conflict_after now frame why w.pinned_conflict;
+}
 
 abbrev pub after_reason : ℤ → List ℕ → Option Reason → Watch → Watch
 after_reason now frame None w = w
 after_reason now frame (Some why) w = after_report now frame why w
 
 -- why the host doesn't get to see a frame
-abbrev pub reason_for : ℤ → List ℕ → List IpCidr → Neighbors → Watch → Option Reason
-reason_for now frame own known w = if w.is_on then reason_of now (kind_of frame) own known w.guard else None
+abbrev pub reason_for : ℤ → List ℕ → Option HardwareAddress → List IpCidr → Neighbors → Watch → Option Reason
+reason_for now frame hardware own known w = if w.is_on then reason_of now frame hardware own known w.guard else None
 
-abbrev pub admits : ℤ → List ℕ → List IpCidr → Neighbors → Watch → Bool
-admits now frame own known w = is_none (reason_for now frame own known w)
+abbrev pub admits : ℤ → List ℕ → Option HardwareAddress → List IpCidr → Neighbors → Watch → Bool
+admits now frame hardware own known w = is_none (reason_for now frame hardware own known w)
 
-abbrev pub with_judging : ℤ → List ℕ → List IpCidr → Neighbors → Watch → Watch
-with_judging now frame own known w = record w { guard = after_judging now (kind_of frame) own known w.guard }
+abbrev pub with_judging : ℤ → List ℕ → Option HardwareAddress → List IpCidr → Neighbors → Watch → Watch
+with_judging now frame hardware own known w = record w { guard = after_judging now frame hardware own known w.guard }
 
-abbrev pub after_arrival : ℤ → List ℕ → List IpCidr → Neighbors → Watch → Watch
-after_arrival now frame own known w =
-    if w.is_on then after_reason now frame (reason_of now (kind_of frame) own known w.guard) (with_judging now frame own known w) else w
+abbrev pub after_arrival : ℤ → List ℕ → Option HardwareAddress → List IpCidr → Neighbors → Watch → Watch
+after_arrival now frame hardware own known w =
+    if w.is_on then after_reason now frame (reason_of now frame hardware own known w.guard)
+    (with_judging now frame hardware own known w) else w
 
--- why an answer is held back
-abbrev pub lets_go : ℤ → List ℕ → Watch → Bool
-lets_go now frame w = if w.is_on then is_none (refused (micros now) (answer_of frame) w.answers) else true
+-- why an answer to a frame of so many octets is held back
+abbrev pub refused_by : ℤ → List ℕ → (answered : ℕ) → Watch → Option Answer
+refused_by now frame answered w = refused (micros now) (answer_of frame) answered (length frame) w.answers
+
+abbrev pub lets_go : ℤ → List ℕ → (answered : ℕ) → Watch → Bool
+lets_go now frame answered w = if w.is_on then is_none (refused_by now frame answered w) else true
 
 abbrev pub after_refusal : Option Answer → Counts → Counts
 after_refusal None c = c
 after_refusal (Some answer) c = after_holding answer c
 
 -- a frame in response was sent, or held back
-abbrev pub after_response : ℤ → List ℕ → Watch → Watch
-after_response now frame w =
+abbrev pub after_response : ℤ → List ℕ → (answered : ℕ) → Watch → Watch
+after_response now frame answered w =
     if w.is_on then record w {
       guard = after_asking now (asked_in frame) w.guard;
-      answers = after_answer (micros now) (answer_of frame) w.answers;
-      counts = after_refusal (refused (micros now) (answer_of frame) w.answers) w.counts;
+      answers = after_answer (micros now) (answer_of frame) answered (length frame) w.answers;
+      counts = after_refusal (refused_by now frame answered w) w.counts;
     }
     else w
 
 -- another frame was sent
 abbrev pub after_sending : ℤ → List ℕ → Watch → Watch
 after_sending now frame w = if w.is_on then record w { guard = after_asking now (asked_in frame) w.guard } else w
+
+-- a neighbour was pinned, or is no more
+abbrev pub after_pin : IpAddress → EthernetAddress → Watch → Watch
+after_pin address hardware w = record w { guard = record w.guard { pins = pins.after_pin address hardware w.guard.pins } }
+
+abbrev pub after_unpin : IpAddress → Watch → Watch
+after_unpin address w = record w { guard = record w.guard { pins = pins.after_unpin address w.guard.pins } }

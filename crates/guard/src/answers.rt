@@ -29,10 +29,12 @@ pub struct Answers {
     pub errors: Bucket,
     /// Of resets.
     pub resets: Bucket,
+    /// How many times as long an error may be as what it answers; 0 bounds nothing.
+    pub longest_error: u32,
 }
 
 impl Answers {
-    /// Of each kind a hundred in a second, and ten at once.
+    /// Of each kind a hundred in a second, and ten at once; errors at most three times as long as what they answer.
     pub const fn new() -> Answers
         ensures { result ≡ spec.new_answers }
     {
@@ -40,22 +42,35 @@ impl Answers {
             echo_replies: Bucket::new(10_000, 10),
             errors: Bucket::new(10_000, 10),
             resets: Bucket::new(10_000, 10),
+            longest_error: 3,
         }
     }
 
-    /// Judges a frame that the host would send in response at an instant. Returns what it is, if it may not be sent; `None` if it
-    /// may.
-    pub fn judge(&mut self, now: Instant, frame: &[u8]) -> Option<Answer>
-        ensures reason { result ≡ spec.refused (micros now) (spec.answer_of frame.now) self.old }
-        ensures answers { self.new ≡ spec.after_answer (micros now) (spec.answer_of frame.now) self.old }
+    /// Judges a frame that the host would send at an instant in response to one of so many octets. Returns what it is, if it may not
+    /// be sent; `None` if it may.
+    pub fn judge(&mut self, now: Instant, frame: &[u8], answered: usize) -> Option<Answer>
+        ensures reason { result ≡ spec.refused (micros now) (spec.answer_of frame.now) answered (length frame.now) self.old }
+        ensures answers { self.new ≡ spec.after_answer (micros now) (spec.answer_of frame.now) answered (length frame.now) self.old }
     {
         match answer_of(frame) {
             None => None,
             Some(Answer::EchoReply) => take(&mut self.echo_replies, now, Answer::EchoReply),
-            Some(Answer::Error) => take(&mut self.errors, now, Answer::Error),
+            Some(Answer::Error) => {
+                if is_too_long(answered, frame.len(), self.longest_error) {
+                    return Some(Answer::Error);
+                }
+                take(&mut self.errors, now, Answer::Error)
+            }
             Some(Answer::Reset) => take(&mut self.resets, now, Answer::Reset),
         }
     }
+}
+
+/// Whether an error is longer than so many times what it answers; 0 bounds nothing.
+fn is_too_long(answered: usize, len: usize, times: u32) -> bool
+    ensures { result ≡ spec.is_too_long answered len times }
+{
+    times != 0 && answered.saturating_mul(times as usize) < len
 }
 
 /// What a frame in response is, if it is one of these answers.

@@ -1,14 +1,19 @@
 //! Which frames a host gets to see.
 ghost use Rattle.std.specs.Prelude.{◌≡◌, None};
 ghost use Rattle.net_base.specs.Time.{IsMoment};
+ghost use Rattle.socket_base.specs.Source.{is_same};
 ghost use Rattle.guard.specs.Guard as spec;
 ghost use Rattle.guard.specs.Kind as kind;
 
-use crate::kind::{Kind, Sort, asked_in, kind_of};
+use crate::claim::{comes_back, is_from_host};
+use crate::kind::{Kind, Sort, asked_in, ipv4_at, kind_of, sort_of_ipv4, sort_of_ipv6};
+use crate::pins::Pins;
 use iface_tables::neighbor::Cache;
-use ip_address::{IpAddress, IpCidr};
+use ip_address::{HardwareAddress, IpAddress, IpCidr};
+use ipv6_wire::ipv6_packet::address_at;
 use net_base::time::Instant;
 use token_bucket::bucket::Bucket;
+use wire_base::octets::u16_at;
 
 /// How long an answer to a request for a hardware address is expected, in microseconds.
 const ANSWER_TIME: u64 = 3_000_000;
@@ -16,10 +21,13 @@ const ANSWER_TIME: u64 = 3_000_000;
 /// Why a frame is dropped.
 #[derive(Clone, Copy, Debug, PartialEq, Eq)]
 pub enum Reason {
-    /// An ARP packet or a neighbour message claims an address of the host (RFC 5227 2.4, RFC 4862 5.4.4).
+    /// An ARP packet or a neighbour message claims an address of the host for another hardware address (RFC 5227 2.4, RFC 4862
+    /// 5.4.4).
     OwnAddress,
-    /// An IP packet has an address of the host as its source.
+    /// An IP packet from another hardware address has an address of the host as its source.
     OwnSource,
+    /// An ARP packet or a neighbour message tells another hardware address of a pinned neighbour.
+    Pinned,
     /// An ARP packet for an own address or a neighbour message, of somebody that isn't known, beyond the rate of these.
     NewNeighbor,
     /// An IP packet to an own address, other than of UDP and TCP, from somebody of an own network that isn't known, for whose answer
@@ -44,11 +52,11 @@ pub struct Noted {
     pub at: u64,
 }
 
-/// A guard: its rules, and what it keeps: for whom the host asked last, and which router it heard last. A rate whose interval is 0
-/// bounds nothing.
+/// A guard: its rules, the neighbours that are pinned, and what it keeps: for whom the host asked last, and which router it heard
+/// last. A rate whose interval is 0 bounds nothing.
 #[derive(Clone, Copy, Debug, PartialEq, Eq)]
 pub struct Guard {
-    /// Whether what claims an own address is dropped, or is sent from one.
+    /// Whether what claims an own address for another hardware address is dropped, or is sent from one by another.
     pub keeps_own_addresses: bool,
     /// Whether fragments are dropped.
     pub drops_fragments: bool,
@@ -62,6 +70,8 @@ pub struct Guard {
     pub queries: Bucket,
     /// How long another router isn't heard after one was let through, in microseconds; 0 bounds nothing.
     pub router_time: u64,
+    /// The neighbours whose hardware address the program says.
+    pub pins: Pins,
     /// For whom the host asked last.
     pub asked: Option<Noted>,
     /// Which router was let through last, and when it was let through as another one for the first time.
@@ -82,41 +92,68 @@ impl Guard {
             discoveries: Bucket::new(2_000_000, 1),
             queries: Bucket::new(1_000_000, 1),
             router_time: 60_000_000,
+            pins: Pins::new(),
             asked: None,
             router: None,
         }
     }
 
-    /// Judges a frame that came at an instant, for a host with these addresses and neighbours. Returns why the host may not see
-    /// it; `None` if it may.
+    /// Judges a frame that came at an instant, for a host with this hardware address (`None` on a medium without), these addresses
+    /// and these neighbours. Returns why the host may not see it; `None` if it may.
+    #[inline(always)]
     pub fn judge(
         &mut self,
         now: Instant,
         frame: &[u8],
+        hardware: Option<HardwareAddress>,
         own: &[IpCidr],
         neighbors: &Cache,
     ) -> Option<Reason>
-        ensures reason { result ≡ spec.reason_of now (kind.kind_of frame.now) own.now neighbors.now self.old }
-        ensures guard { self.new ≡ spec.after_judging now (kind.kind_of frame.now) own.now neighbors.now self.old }
+        ensures reason { result ≡ spec.reason_of now frame.now hardware own.now neighbors.now self.old }
+        ensures guard { self.new ≡ spec.after_judging now frame.now hardware own.now neighbors.now self.old }
+    {
+        if is_ordinary(frame, own) {
+            return None;
+        }
+        self.judge_kind(now, frame, hardware, own, neighbors)
+    }
+
+    /// Judges a frame by its kind.
+    #[inline(never)]
+    fn judge_kind(
+        &mut self,
+        now: Instant,
+        frame: &[u8],
+        hardware: Option<HardwareAddress>,
+        own: &[IpCidr],
+        neighbors: &Cache,
+    ) -> Option<Reason>
+        ensures reason { result ≡ spec.reason_of now frame.now hardware own.now neighbors.now self.old }
+        ensures guard { self.new ≡ spec.after_judging now frame.now hardware own.now neighbors.now self.old }
     {
         match kind_of(frame) {
             Kind::Arp { sender, target } => {
-                if self.keeps_own_addresses && is_own(own, &sender) {
-                    return Some(Reason::OwnAddress);
-                }
-                if !is_own(own, &target) || self.expects(now, &sender, neighbors) {
-                    return None;
-                }
-                take(&mut self.neighbors, now, Reason::NewNeighbor)
+                let refusal = self.refusal_of_claim(is_own(own, &sender), &sender, hardware, frame);
+                let is_free = !is_own(own, &target) || self.expects(now, &sender, neighbors);
+                judge_by(
+                    refusal,
+                    is_free,
+                    &mut self.neighbors,
+                    now,
+                    Reason::NewNeighbor,
+                )
             }
             Kind::Neighbor { sender, target } => {
-                if self.keeps_own_addresses && (is_own(own, &sender) || is_one_own(own, target)) {
-                    return Some(Reason::OwnAddress);
-                }
-                if self.expects(now, &sender, neighbors) {
-                    return None;
-                }
-                take(&mut self.neighbors, now, Reason::NewNeighbor)
+                let claimed = is_own(own, &sender) || is_one_own(own, target);
+                let refusal = self.refusal_of_claim(claimed, &sender, hardware, frame);
+                let is_free = self.expects(now, &sender, neighbors);
+                judge_by(
+                    refusal,
+                    is_free,
+                    &mut self.neighbors,
+                    now,
+                    Reason::NewNeighbor,
+                )
             }
             Kind::Query => take(&mut self.queries, now, Reason::Query),
             Kind::Router { sender } => self.judge_router(now, sender),
@@ -125,20 +162,16 @@ impl Guard {
                 target,
                 sort,
             } => {
-                if self.keeps_own_addresses && is_own(own, &sender) {
-                    return Some(Reason::OwnSource);
-                }
-                if let Some(reason) = self.refusal_of(sort) {
-                    return Some(reason);
-                }
-                if is_plain(sort)
-                    && is_near(own, &sender)
-                    && is_own(own, &target)
-                    && !is_known(neighbors, &sender, now)
-                {
-                    return take(&mut self.discoveries, now, Reason::Discovery);
-                }
-                None
+                let refusal = self.refusal_of_packet(&sender, sort, hardware, frame, own);
+                let is_free = !asks_for(&sender, &target, sort, own)
+                    || is_known(neighbors, &sender, now);
+                judge_by(
+                    refusal,
+                    is_free,
+                    &mut self.discoveries,
+                    now,
+                    Reason::Discovery,
+                )
             }
             Kind::Other => None,
         }
@@ -157,13 +190,51 @@ impl Guard {
         }
     }
 
-    /// Why a packet is dropped by what it is, from whomever it comes.
-    fn refusal_of(&self, sort: Sort) -> Option<Reason>
-        ensures { result ≡ spec.refusal_of sort self.now }
+    /// Why a message is dropped by what it claims.
+    fn refusal_of_claim(
+        &self,
+        claimed: bool,
+        sender: &IpAddress,
+        hardware: Option<HardwareAddress>,
+        frame: &[u8],
+    ) -> Option<Reason>
+        ensures { result ≡ spec.refusal_of_claim claimed sender.now hardware frame.now self.now }
+    {
+        if self.keeps_own_addresses && claimed && !is_from_host(hardware, frame) {
+            return Some(Reason::OwnAddress);
+        }
+        if self.pins.forbids(sender, frame) {
+            return Some(Reason::Pinned);
+        }
+        None
+    }
+
+    /// Why a packet is dropped by its source, or by what it is.
+    fn refusal_of_packet(
+        &self,
+        sender: &IpAddress,
+        sort: Sort,
+        hardware: Option<HardwareAddress>,
+        frame: &[u8],
+        own: &[IpCidr],
+    ) -> Option<Reason>
+        ensures { result ≡ spec.refusal_of_packet sender.now sort hardware frame.now own.now self.now }
+    {
+        let is_own = is_own(own, sender);
+        let returned = is_own && comes_back(hardware, frame);
+        if self.keeps_own_addresses && is_own && !returned {
+            return Some(Reason::OwnSource);
+        }
+        self.refusal_of(returned, sort)
+    }
+
+    /// Why a packet is dropped by what it is, from whomever it comes. What the host itself sent may come back.
+    fn refusal_of(&self, returned: bool, sort: Sort) -> Option<Reason>
+        ensures { result ≡ spec.refusal_of returned sort self.now }
     {
         match sort {
             Sort::Fragment if self.drops_fragments => Some(Reason::Fragment),
-            Sort::Loop if self.drops_loops => Some(Reason::Loop),
+            Sort::Loop if self.drops_loops && !returned => Some(Reason::Loop),
             _ => None,
         }
     }
@@ -232,6 +303,61 @@ pub(crate) fn take<R: Copy + Drop>(bucket: &mut Bucket, now: Instant, reason: R)
     }
 }
 
+/// What is refused; otherwise nothing, if that is free, and else what a rate says.
+fn judge_by(
+    refusal: Option<Reason>,
+    is_free: bool,
+    rate: &mut Bucket,
+    now: Instant,
+    reason: Reason,
+) -> Option<Reason>
+    ensures reason { result ≡ spec.judged refusal is_free (spec.micros now) rate.old reason }
+    ensures rate { rate.new ≡ spec.after_judged refusal is_free (spec.micros now) rate.old }
+{
+    if refusal.is_some() {
+        return refusal;
+    }
+    if is_free {
+        return None;
+    }
+    take(rate, now, reason)
+}
+
+/// Whether nothing is asked of a frame but its source and its protocol: a datagram of UDP or a segment of TCP, from another address
+/// than those of the host.
+#[inline(always)]
+fn is_ordinary(frame: &[u8], own: &[IpCidr]) -> bool
+    ensures { result ≡ spec.is_ordinary frame.now own.now }
+{
+    if frame.len() < 42 {
+        return false;
+    }
+    match u16_at(frame, 12) {
+        0x0800 => is_transport(sort_of_ipv4(frame)) && !is_own(own, &ipv4_at(frame, 26)),
+        0x86dd => is_transport(sort_of_ipv6(frame))
+            && !is_own(own, &IpAddress::Ipv6(address_at(frame, 22))),
+        _ => false,
+    }
+}
+
+/// Whether a packet has a datagram of UDP or a segment of TCP, that is no fragment, and doesn't go to and fro.
+#[inline(always)]
+fn is_transport(sort: Sort) -> bool
+    ensures { result ≡ spec.is_ordinary_sort sort }
+{
+    match sort {
+        Sort::Transport => true,
+        Sort::Fragment | Sort::Loop | Sort::Plain => false,
+    }
+}
+
+/// Whether the host would have to ask for the sender of a packet, if that isn't known, before it could answer.
+fn asks_for(sender: &IpAddress, target: &IpAddress, sort: Sort, own: &[IpCidr]) -> bool
+    ensures { result ≡ spec.asks_for sender.now target.now sort own.now }
+{
+    is_plain(sort) && is_near(own, sender) && is_own(own, target)
+}
+
 /// Whether a packet is neither a fragment, nor of UDP or TCP.
 fn is_plain(sort: Sort) -> bool
     ensures { result ≡ spec.is_plain sort }
@@ -242,11 +368,24 @@ fn is_plain(sort: Sort) -> bool
     }
 }
 
+/// Whether two addresses are equal, by family and number. Written so, it takes fewer instructions than `==`.
+#[inline(always)]
+fn is_same(a: &IpAddress, b: &IpAddress) -> bool
+    ensures { result ≡ is_same a.now b.now }
+{
+    match (a, b) {
+        (IpAddress::Ipv4(a), IpAddress::Ipv4(b)) => a.bits == b.bits,
+        (IpAddress::Ipv6(a), IpAddress::Ipv6(b)) => a.bits == b.bits,
+        _ => false,
+    }
+}
+
 /// Whether an address is one of the host's.
+#[inline(always)]
 fn is_own(own: &[IpCidr], address: &IpAddress) -> bool
     ensures { result ≡ spec.is_own own.now address.now }
 {
-    own.iter().any(|cidr| cidr.address() == *address)
+    own.iter().any(|cidr| is_same(&cidr.address(), address))
 }
 
 /// Whether an address, if there is one, is one of the host's.

@@ -92,7 +92,8 @@ fn kind_of_ipv4(frame: &[u8]) -> Kind
 }
 
 /// What is special of an IPv4 packet.
-fn sort_of_ipv4(frame: &[u8]) -> Sort
+#[inline(always)]
+pub(crate) fn sort_of_ipv4(frame: &[u8]) -> Sort
     requires { 42 ≤ length frame.now }
     ensures { result ≡ spec.sort_of_ipv4 frame.now }
 {
@@ -107,7 +108,8 @@ fn sort_of_ipv4(frame: &[u8]) -> Sort
 }
 
 /// What is special of an IPv6 packet.
-fn sort_of_ipv6(frame: &[u8]) -> Sort
+#[inline(always)]
+pub(crate) fn sort_of_ipv6(frame: &[u8]) -> Sort
     requires { 42 ≤ length frame.now }
     ensures { result ≡ spec.sort_of_ipv6 frame.now }
 {
@@ -120,6 +122,7 @@ fn sort_of_ipv6(frame: &[u8]) -> Sort
 }
 
 /// Whether a datagram of UDP at an offset is from port 7, 13, 17 or 19, and to a port below 1,024.
+#[inline(always)]
 fn is_loop(frame: &[u8], at: usize) -> bool
     requires { at ≤ 4096 }
     ensures { result ≡ spec.is_loop frame.now at }
@@ -218,7 +221,7 @@ fn target_at(frame: &[u8], at: usize) -> Option<IpAddress>
 }
 
 /// The IPv4 address at an offset.
-fn ipv4_at(frame: &[u8], at: usize) -> IpAddress
+pub(crate) fn ipv4_at(frame: &[u8], at: usize) -> IpAddress
     requires { at + 4 ≤ length frame.now }
     ensures { result ≡ spec.ipv4_at frame.now at }
 {

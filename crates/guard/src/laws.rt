@@ -1,5 +1,5 @@
 //! What a guard promises, whatever frames come, each law as the contract of an empty function.
-ghost use Rattle.guard.specs.Laws.{FewNeighborsPass, FewDiscoveriesPass, FewQueriesPass, KnownArpPass, KnownPass, LoopsEnd, OthersPass, OwnAddressesStay, RoutersStay};
+ghost use Rattle.guard.specs.Laws.{FewNeighborsPass, FewDiscoveriesPass, FewQueriesPass, KnownArpPass, KnownPass, LoopsEnd, OthersPass, OwnAddressesStay, PinnedStay, RoutersStay};
 
 /// Of ARP packets for own addresses, and neighbour messages, of somebody that isn't known and wasn't asked for, so many pass from one instant to another:
 /// as many as the rate's depth, and one for each of its intervals.
@@ -22,25 +22,31 @@ pub fn others_pass()
     ensures { OthersPass }
 {}
 
-/// A packet of IPv4 other than IGMP that is of no sort which the guard drops passes, if its source isn't an own address, and is known
-/// or in no own network; or if it goes to no own address; or if it is of UDP or TCP.
+/// A packet of IPv4 other than IGMP that is of no sort which the guard drops passes, if its source isn't an own address, or it comes
+/// from the own hardware address; and if its source is known or in no own network, or it goes to no own address, or is of UDP or TCP.
 pub fn known_pass()
     ensures { KnownPass }
 {}
 
-/// An ARP packet of a known neighbour, or for another address, passes, if it doesn't claim an own address.
+/// An ARP packet of a known neighbour, or for another address, passes, if it claims no own address, but from the own hardware address,
+/// and no pinned one from another than that one's.
 pub fn known_arp_pass()
     ensures { KnownArpPass }
 {}
 
-/// A datagram of IPv4 that could go to and fro for ever doesn't pass.
+/// A datagram of IPv4 that could go to and fro for ever doesn't pass, unless the host itself sent it.
 pub fn loops_end()
     ensures { LoopsEnd }
 {}
 
-/// An ARP packet that claims an own address doesn't pass.
+/// An ARP packet that claims an own address doesn't pass, unless it comes from the own hardware address and tells that one.
 pub fn own_addresses_stay()
     ensures { OwnAddressesStay }
+{}
+
+/// An ARP packet of a pinned neighbour doesn't pass, unless it tells the hardware address that the neighbour is pinned to.
+pub fn pinned_stay()
+    ensures { PinnedStay }
 {}
 
 /// After a router's advertisement passed as that of another one, the next other one waits for the time between two.

@@ -6,11 +6,14 @@
 #![tactic(auto)]
 
 pub mod answers;
+pub mod claim;
 pub mod guard;
 pub mod kind;
 pub mod laws;
+pub mod pins;
 pub mod watch;
 
 pub use answers::{Answer, Answers};
 pub use guard::{Guard, Reason};
+pub use pins::{PINNED_COUNT, Pinned, Pins};
 pub use watch::{Conflict, Counts, Watch};

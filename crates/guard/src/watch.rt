@@ -1,12 +1,13 @@
 //! A guard on its post: what it drops is counted by the reason, and who claims an own address is told.
 ghost use Rattle.std.specs.Prelude.{◌≡◌, false};
+ghost use Rattle.guard.specs.Pins as pins;
 ghost use Rattle.guard.specs.Watch as spec;
 
 use crate::answers::{Answer, Answers};
+use crate::claim::hardware_at;
 use crate::guard::{Guard, Reason};
-use crate::kind::octet_at;
 use iface_tables::neighbor::Cache;
-use ip_address::{EthernetAddress, IpCidr};
+use ip_address::{EthernetAddress, HardwareAddress, IpAddress, IpCidr};
 use net_base::time::Instant;
 
 /// How many frames were dropped, by their reasons, and how many answers were held back. A number stays at the greatest one.
@@ -16,6 +17,8 @@ pub struct Counts {
     pub own_address: u64,
     /// Packets from an own address.
     pub own_source: u64,
+    /// Messages that tell another hardware address of a pinned neighbour.
+    pub pinned: u64,
     /// Messages of neighbours that aren't known.
     pub new_neighbor: u64,
     /// Packets for whose answer the host would have to ask.
@@ -41,6 +44,7 @@ impl Counts {
     pub const NONE: Counts = Counts {
         own_address: 0,
         own_source: 0,
+        pinned: 0,
         new_neighbor: 0,
         discovery: 0,
         query: 0,
@@ -59,6 +63,7 @@ impl Counts {
         match reason {
             Reason::OwnAddress => self.own_address = self.own_address.saturating_add(1),
             Reason::OwnSource => self.own_source = self.own_source.saturating_add(1),
+            Reason::Pinned => self.pinned = self.pinned.saturating_add(1),
             Reason::NewNeighbor => self.new_neighbor = self.new_neighbor.saturating_add(1),
             Reason::Discovery => self.discovery = self.discovery.saturating_add(1),
             Reason::Query => self.query = self.query.saturating_add(1),
@@ -80,7 +85,7 @@ impl Counts {
     }
 }
 
-/// Who claimed an own address (RFC 5227 2.4).
+/// Who claimed an own address (RFC 5227 2.4), or one that is pinned.
 #[derive(Clone, Copy, Debug, PartialEq, Eq)]
 pub struct Conflict {
     /// From which hardware address the frame came.
@@ -102,6 +107,8 @@ pub struct Watch {
     pub counts: Counts,
     /// Who claimed an own address last.
     pub conflict: Option<Conflict>,
+    /// Who claimed a pinned address last.
+    pub pinned_conflict: Option<Conflict>,
 }
 
 impl Watch {
@@ -115,19 +122,29 @@ impl Watch {
             answers: Answers::new(),
             counts: Counts::NONE,
             conflict: None,
+            pinned_conflict: None,
         }
     }
 
-    /// Whether the host, which has these addresses and neighbours, may see a frame that came at an instant. What it may not see is
-    /// counted by the reason; if the frame claims an own address, who sent it is noted.
-    pub fn admits(&mut self, now: Instant, frame: &[u8], own: &[IpCidr], neighbors: &Cache) -> bool
-        ensures admitted { result ≡ spec.admits now frame.now own.now neighbors.now self.old }
-        ensures watch { self.new ≡ spec.after_arrival now frame.now own.now neighbors.now self.old }
+    /// Whether the host, which has this hardware address (`None` on a medium without), these addresses and these neighbours, may see
+    /// a frame that came at an instant. What it may not see is counted by the reason; if the frame claims an own address or a pinned
+    /// one, who sent it is noted.
+    #[inline(always)]
+    pub fn admits(
+        &mut self,
+        now: Instant,
+        frame: &[u8],
+        hardware: Option<HardwareAddress>,
+        own: &[IpCidr],
+        neighbors: &Cache,
+    ) -> bool
+        ensures admitted { result ≡ spec.admits now frame.now hardware own.now neighbors.now self.old }
+        ensures watch { self.new ≡ spec.after_arrival now frame.now hardware own.now neighbors.now self.old }
     {
         if !self.is_on {
             return true;
         }
-        match self.guard.judge(now, frame, own, neighbors) {
+        match self.guard.judge(now, frame, hardware, own, neighbors) {
             None => true,
             Some(reason) => {
                 self.report(now, frame, reason);
@@ -136,23 +153,39 @@ impl Watch {
         }
     }
 
-    /// Whether the host may send a frame in response, at an instant. What it may not send is counted. A request for a hardware
-    /// address is noted as by [`Watch::note_sent`].
-    pub fn lets_go(&mut self, now: Instant, frame: &[u8]) -> bool
-        ensures goes { result ≡ spec.lets_go now frame.now self.old }
-        ensures watch { self.new ≡ spec.after_response now frame.now self.old }
+    /// Whether the host may send a frame at an instant, in response to one of so many octets. What it may not send is counted. A
+    /// request for a hardware address is noted as by [`Watch::note_sent`].
+    pub fn lets_go(&mut self, now: Instant, frame: &[u8], answered: usize) -> bool
+        ensures goes { result ≡ spec.lets_go now frame.now answered self.old }
+        ensures watch { self.new ≡ spec.after_response now frame.now answered self.old }
     {
         if !self.is_on {
             return true;
         }
         self.guard.note_sent(now, frame);
-        match self.answers.judge(now, frame) {
+        match self.answers.judge(now, frame, answered) {
             None => true,
             Some(answer) => {
                 self.counts.hold_back(answer);
                 false
             }
         }
+    }
+
+    /// Pins a neighbour to a hardware address, as `Pins::pin` says. Returns whether there was room; if there was none, nothing changes.
+    pub fn pin(&mut self, address: IpAddress, hardware: EthernetAddress) -> bool
+        ensures room { result ≡ pins.is_there (pins.place_for address self.old.guard.pins) self.old.guard.pins }
+        ensures pins { self.new ≡ spec.after_pin address hardware self.old }
+    {
+        self.guard.pins.pin(address, hardware)
+    }
+
+    /// Pins a neighbour no more. Returns whether it was pinned.
+    pub fn unpin(&mut self, address: IpAddress) -> bool
+        ensures pinned { result ≡ pins.is_there (pins.place_of address self.old.guard.pins) self.old.guard.pins }
+        ensures pins { self.new ≡ spec.after_unpin address self.old }
+    {
+        self.guard.pins.unpin(address)
     }
 
     /// Notes a frame that the host sends at an instant: if it asks for a hardware address, the answer is expected
@@ -165,31 +198,20 @@ impl Watch {
         }
     }
 
-    /// Counts a frame that is dropped, and notes who sent it, if it claims an own address.
+    /// Counts a frame that is dropped, and notes who sent it, if it claims an own address or a pinned one.
     #[inline(never)]
     fn report(&mut self, now: Instant, frame: &[u8], reason: Reason)
         ensures { self.new ≡ spec.after_report now frame.now reason self.old }
     {
         self.counts.drop_for(reason);
-        if let Reason::OwnAddress = reason {
-            self.conflict = Some(Conflict {
-                hardware: source_of(frame),
-                at: now,
-            });
+        let conflict = Conflict {
+            hardware: hardware_at(frame, 6),
+            at: now,
+        };
+        match reason {
+            Reason::OwnAddress => self.conflict = Some(conflict),
+            Reason::Pinned => self.pinned_conflict = Some(conflict),
+            _ => {}
         }
     }
-}
-
-/// The hardware address that a frame came from.
-fn source_of(frame: &[u8]) -> EthernetAddress
-    ensures { result ≡ spec.source_of frame.now }
-{
-    EthernetAddress([
-        octet_at(frame, 6),
-        octet_at(frame, 7),
-        octet_at(frame, 8),
-        octet_at(frame, 9),
-        octet_at(frame, 10),
-        octet_at(frame, 11),
-    ])
 }

@@ -1,11 +1,16 @@
 // Frames on Ethernet, by their octets, for a host with 192.168.1.1 and fe80::1.
 
+ghost use Rattle.std.specs.Prelude.{◌+◌, ◌≤◌, length};
+
 use iface_tables::neighbor::Cache;
 use ip_wire::{
     EthernetAddress, HardwareAddress, IpAddress, IpCidr, Ipv4Address, Ipv4Cidr, Ipv6Address,
     Ipv6Cidr,
 };
 use net_base::time::Instant;
+
+/// The hardware address of the host.
+pub const HARDWARE: [u8; 6] = [2, 0, 0, 0, 0, 1];
 
 /// The addresses of the host.
 pub const OWN: [IpCidr; 2] = [
@@ -20,6 +25,18 @@ pub const OWN: [IpCidr; 2] = [
         prefix_len: 64,
     }),
 ];
+
+/// The hardware address of the host, as its interface tells it.
+pub fn hardware() -> Option<HardwareAddress> {
+    Some(HardwareAddress::Ethernet(EthernetAddress(HARDWARE)))
+}
+
+/// Puts six octets into a frame at an offset.
+pub fn put(frame: &mut [u8], at: usize, octets: [u8; 6])
+    requires { at + 6 ≤ length frame.old }
+{
+    frame[at..at + 6].copy_from_slice(&octets);
+}
 
 /// A cache that knows 192.168.1.2 for a minute from the origin on.
 pub fn known() -> Cache {

@@ -1,17 +1,31 @@
 use crate::frames::{
-    OWN, arp_of, icmpv6_behind_options, icmpv6_of, ipv4_of, known, ports, request_for,
+    HARDWARE, OWN, arp_of, hardware, icmpv6_behind_options, icmpv6_of, ipv4_of, known, ports, put,
+    request_for,
 };
 use guard::guard::{Guard, Reason};
 use guard::watch::{Conflict, Watch};
 use iface_tables::neighbor::Cache;
-use ip_wire::EthernetAddress;
+use ip_wire::{EthernetAddress, IpAddress, Ipv4Address};
 use net_base::time::Instant;
 use token_bucket::bucket::Bucket;
+
+// A frame at this many milliseconds, and why it is dropped.
+type Row<'a> = (u32, &'a [u8], Option<Reason>);
 
 // What becomes of a frame at this many milliseconds.
 fn judged(guard: &mut Guard, millis: u32, frame: &[u8], neighbors: &Cache) -> Option<Reason> {
     let now = Instant::from_micros(i64::from(millis) * 1_000);
-    guard.judge(now, frame, &OWN, neighbors)
+    guard.judge(now, frame, hardware(), &OWN, neighbors)
+}
+
+// Judges frames one after the other, and gives the first row that says otherwise.
+fn first_wrong(guard: &mut Guard, neighbors: &Cache, rows: &[Row<'_>]) -> Option<usize> {
+    for (index, (millis, frame, reason)) in rows.iter().enumerate() {
+        if judged(guard, *millis, frame, neighbors) != *reason {
+            return Some(index);
+        }
+    }
+    None
 }
 
 // Where the rate is two in a second and two at once, two strangers pass at once, and one more each half second.
@@ -20,19 +34,15 @@ fn two_strangers_pass_in_a_second(rt: HostRuntime) {
     let (mut guard, neighbors) = (Guard::new(), known());
     guard.neighbors = Bucket::new(500_000, 2);
     let dropped = Some(Reason::NewNeighbor);
-    assert!(rt; judged(&mut guard, 1000, &arp_of(10), &neighbors).is_none());
-    assert!(rt; judged(&mut guard, 1000, &arp_of(11), &neighbors).is_none());
-    assert!(rt; judged(&mut guard, 1000, &arp_of(12), &neighbors) == dropped);
-    assert!(rt; judged(&mut guard, 1499, &icmpv6_of(135, 13, 1), &neighbors) == dropped);
-    assert!(rt; judged(&mut guard, 1500, &icmpv6_of(135, 14, 1), &neighbors).is_none());
-    assert!(rt;
-        judged(
-            &mut guard,
-            1501,
-            &icmpv6_behind_options(135, 15, 1),
-            &neighbors
-        ) == dropped
-    );
+    let rows: [Row<'_>; 6] = [
+        (1000, &arp_of(10), None),
+        (1000, &arp_of(11), None),
+        (1000, &arp_of(12), dropped),
+        (1499, &icmpv6_of(135, 13, 1), dropped),
+        (1500, &icmpv6_of(135, 14, 1), None),
+        (1501, &icmpv6_behind_options(135, 15, 1), dropped),
+    ];
+    assert_eq!(rt; first_wrong(&mut guard, &neighbors, &rows), None);
 }
 
 // Usually eight pass at once, and one more each half second.
@@ -42,8 +52,12 @@ fn eight_strangers_pass_at_once(rt: HostRuntime) {
     for last in 10..18 {
         assert!(&rt; judged(&mut guard, 1000, &arp_of(last), &neighbors).is_none());
     }
-    assert!(rt; judged(&mut guard, 1499, &arp_of(18), &neighbors) == Some(Reason::NewNeighbor));
-    assert!(rt; judged(&mut guard, 1500, &arp_of(18), &neighbors).is_none());
+    let ninth = arp_of(18);
+    let rows: [Row<'_>; 2] = [
+        (1499, &ninth, Some(Reason::NewNeighbor)),
+        (1500, &ninth, None),
+    ];
+    assert_eq!(rt; first_wrong(&mut guard, &neighbors, &rows), None);
 }
 
 // ARP packets for other hosts take nothing of the rate (RFC 826: they aren't for the host).
@@ -56,8 +70,11 @@ fn arp_for_others_passes(rt: HostRuntime) {
     for _ in 0..9 {
         assert!(&rt; judged(&mut guard, 1000, &other, &neighbors).is_none());
     }
-    assert!(rt; judged(&mut guard, 1000, &arp_of(10), &neighbors).is_none());
-    assert!(rt; judged(&mut guard, 1000, &arp_of(11), &neighbors) == Some(Reason::NewNeighbor));
+    let rows: [Row<'_>; 2] = [
+        (1000, &arp_of(10), None),
+        (1000, &arp_of(11), Some(Reason::NewNeighbor)),
+    ];
+    assert_eq!(rt; first_wrong(&mut guard, &neighbors, &rows), None);
 }
 
 // A rate whose interval is 0 bounds nothing, also where time goes back.
@@ -69,9 +86,19 @@ fn no_interval_is_no_bound(rt: HostRuntime) {
     guard.router_time = 0;
     for last in 10..30 {
         let millis = 5000 - u32::from(last) * 100;
-        assert!(&rt; judged(&mut guard, millis, &arp_of(last), &neighbors).is_none());
-        assert!(&rt; judged(&mut guard, millis, &ipv4_of(2, 1, 2, 0x11), &neighbors).is_none());
-        assert!(&rt; judged(&mut guard, millis, &icmpv6_of(134, last, 0), &neighbors).is_none());
+        let rows: [Row<'_>; 3] = [
+            (millis, &arp_of(last), None),
+            (millis, &ipv4_of(2, 1, 2, 0x11), None),
+            (millis, &icmpv6_of(134, last, 0), None),
+        ];
+        assert_eq!(&rt; first_wrong(&mut guard, &neighbors, &rows), None);
+    }
+}
+
+// Ten strangers ask for the host.
+fn ten_ask(guard: &mut Guard, millis: u32, neighbors: &Cache) {
+    for last in 10..20 {
+        let _ = judged(guard, millis, &arp_of(last), neighbors);
     }
 }
 
@@ -79,37 +106,36 @@ fn no_interval_is_no_bound(rt: HostRuntime) {
 #[test]
 fn who_is_expected_passes(rt: HostRuntime) {
     let (mut guard, neighbors) = (Guard::new(), known());
-    for last in 10..20 {
-        let _ = judged(&mut guard, 1000, &arp_of(last), &neighbors);
-    }
-    assert!(rt; judged(&mut guard, 1000, &arp_of(2), &neighbors).is_none());
-    assert!(rt; judged(&mut guard, 1000, &arp_of(30), &neighbors) == Some(Reason::NewNeighbor));
+    let dropped = Some(Reason::NewNeighbor);
+    let frame = arp_of(30);
+    ten_ask(&mut guard, 1000, &neighbors);
+    let rows: [Row<'_>; 2] = [(1000, &arp_of(2), None), (1000, &frame, dropped)];
+    let before = first_wrong(&mut guard, &neighbors, &rows);
     guard.note_sent(Instant::from_millis(1000), &request_for(30));
-    assert!(rt; judged(&mut guard, 1001, &arp_of(30), &neighbors).is_none());
-    for last in 10..20 {
-        let _ = judged(&mut guard, 4000, &arp_of(last), &neighbors);
-    }
-    assert!(rt; judged(&mut guard, 4000, &arp_of(30), &neighbors).is_none());
-    assert!(rt; judged(&mut guard, 4001, &arp_of(30), &neighbors) == Some(Reason::NewNeighbor));
+    let expected = judged(&mut guard, 1001, &frame, &neighbors);
+    ten_ask(&mut guard, 4000, &neighbors);
+    let rows: [Row<'_>; 2] = [(4000, &frame, None), (4001, &frame, dropped)];
+    let behind = first_wrong(&mut guard, &neighbors, &rows);
+    assert!(rt; before.is_none() && expected.is_none() && behind.is_none());
 }
 
 // A solicitation is a request, an advertisement isn't; nor is an ARP reply.
 #[test]
 fn requests_are_noted(rt: HostRuntime) {
     let (mut guard, neighbors) = (Guard::new(), known());
-    for last in 10..20 {
-        let _ = judged(&mut guard, 1000, &arp_of(last), &neighbors);
-    }
+    ten_ask(&mut guard, 1000, &neighbors);
     let now = Instant::from_millis(1000);
+    let answer = icmpv6_of(136, 33, 33);
     guard.note_sent(now, &icmpv6_of(136, 1, 33));
-    assert!(rt; judged(&mut guard, 1000, &icmpv6_of(136, 33, 33), &neighbors).is_some());
+    let told = judged(&mut guard, 1000, &answer, &neighbors);
     guard.note_sent(now, &icmpv6_of(135, 1, 33));
-    assert!(rt; judged(&mut guard, 1000, &icmpv6_of(136, 33, 33), &neighbors).is_none());
+    let asked = judged(&mut guard, 1000, &answer, &neighbors);
     let mut reply = request_for(40);
     reply[21] = 2;
     guard.note_sent(now, &reply);
-    assert!(rt; judged(&mut guard, 1000, &arp_of(40), &neighbors).is_some());
-    assert!(rt; judged(&mut guard, 1000, &icmpv6_of(136, 33, 33), &neighbors).is_none());
+    let replied = judged(&mut guard, 1000, &arp_of(40), &neighbors);
+    let again = judged(&mut guard, 1000, &answer, &neighbors);
+    assert!(rt; told.is_some() && asked.is_none() && replied.is_some() && again.is_none());
 }
 
 // Nobody claims an address of the host, and who has none yet isn't told from others (RFC 5227 2.1).
@@ -117,12 +143,13 @@ fn requests_are_noted(rt: HostRuntime) {
 fn own_addresses_are_claimed_by_nobody(rt: HostRuntime) {
     let (mut guard, neighbors) = (Guard::new(), known());
     let claimed = Some(Reason::OwnAddress);
-    assert!(rt; judged(&mut guard, 0, &arp_of(1), &neighbors) == claimed);
-    assert!(rt; judged(&mut guard, 0, &icmpv6_of(136, 9, 1), &neighbors) == claimed);
-    assert!(rt; judged(&mut guard, 0, &icmpv6_of(135, 1, 7), &neighbors) == claimed);
-    assert!(rt;
-        judged(&mut guard, 0, &ipv4_of(17, 1, 1, 0), &neighbors) == Some(Reason::OwnSource)
-    );
+    let rows: [Row<'_>; 4] = [
+        (0, &arp_of(1), claimed),
+        (0, &icmpv6_of(136, 9, 1), claimed),
+        (0, &icmpv6_of(135, 1, 7), claimed),
+        (0, &ipv4_of(17, 1, 1, 0), Some(Reason::OwnSource)),
+    ];
+    assert_eq!(&rt; first_wrong(&mut guard, &neighbors, &rows), None);
     let mut probe = arp_of(0);
     (probe[28], probe[29], probe[30]) = (0, 0, 0);
     for _ in 0..9 {
@@ -130,17 +157,129 @@ fn own_addresses_are_claimed_by_nobody(rt: HostRuntime) {
     }
 }
 
+// What comes from the own hardware address and tells that one is no conflict: an ARP packet by the source of the frame and by that in
+// the packet (RFC 826), so what the host sends may come back to it.
+#[test]
+fn own_arp_comes_back(rt: HostRuntime) {
+    let (mut guard, neighbors) = (Guard::new(), known());
+    let claimed = Some(Reason::OwnAddress);
+    let mut header = arp_of(1);
+    put(&mut header, 6, HARDWARE);
+    let mut both = header;
+    put(&mut both, 22, HARDWARE);
+    let mut packet = both;
+    put(&mut packet, 6, [2, 0, 0, 0, 0, 9]);
+    let rows: [Row<'_>; 3] = [
+        (0, &header, claimed),
+        (0, &both, None),
+        (0, &packet, claimed),
+    ];
+    assert_eq!(rt; first_wrong(&mut guard, &neighbors, &rows), None);
+}
+
+// A neighbour message as far as its option.
+fn without_option(message: &[u8; 86]) -> &[u8] {
+    &message[..78]
+}
+
+// A neighbour message has no option, or just one, with that address (RFC 4861 4.6.1).
+#[test]
+fn own_messages_come_back(rt: HostRuntime) {
+    let (mut guard, neighbors) = (Guard::new(), known());
+    let claimed = Some(Reason::OwnAddress);
+    let mut other = icmpv6_of(136, 1, 1);
+    put(&mut other, 6, HARDWARE);
+    let mut own = other;
+    put(&mut own, 80, HARDWARE);
+    let mut longer = [0; 94];
+    for i in 0..86 {
+        longer[i] = own[i];
+    }
+    let rows: [Row<'_>; 4] = [
+        (0, &other, claimed),
+        (0, without_option(&other), None),
+        (0, &own, None),
+        (0, &longer, claimed),
+    ];
+    assert_eq!(rt; first_wrong(&mut guard, &neighbors, &rows), None);
+}
+
+// A packet from an own address comes back from the own hardware address, also to a small service; but not from another one, and not
+// where there are no hardware addresses.
+#[test]
+fn own_packets_come_back(rt: HostRuntime) {
+    let (mut guard, neighbors) = (Guard::new(), known());
+    let stolen = Some(Reason::OwnSource);
+    let mut other = ipv4_of(17, 1, 1, 0);
+    (other[35], other[37]) = (7, 7);
+    let mut own = other;
+    put(&mut own, 6, HARDWARE);
+    let none = guard.judge(Instant::from_millis(0), &own, None, &OWN, &neighbors);
+    let mut looping = own;
+    looping[29] = 9;
+    let rows: [Row<'_>; 3] = [
+        (0, &other, stolen),
+        (0, &own, None),
+        (0, &looping, Some(Reason::Loop)),
+    ];
+    let wrong = first_wrong(&mut guard, &neighbors, &rows);
+    assert!(rt; none == stolen && wrong.is_none());
+}
+
+// Of a pinned neighbour messages pass that tell its hardware address, and no others; of others they pass.
+#[test]
+fn pinned_neighbors_stay(rt: HostRuntime) {
+    let (mut guard, neighbors) = (Guard::new(), known());
+    let elsewhere = Some(Reason::Pinned);
+    let address = IpAddress::Ipv4(Ipv4Address { bits: 0xc0a8_0102 });
+    let mut own = arp_of(2);
+    put(&mut own, 22, [2, 0, 0, 0, 0, 2]);
+    let is_pinned = guard.pins.pin(address, EthernetAddress([2, 0, 0, 0, 0, 2]));
+    let rows: [Row<'_>; 3] = [
+        (0, &arp_of(2), elsewhere),
+        (0, &arp_of(3), None),
+        (0, &own, None),
+    ];
+    let first = first_wrong(&mut guard, &neighbors, &rows);
+    let is_moved = guard.pins.pin(address, EthernetAddress([2, 0, 0, 0, 0, 9]));
+    let rows: [Row<'_>; 2] = [(0, &own, elsewhere), (0, &arp_of(2), None)];
+    let second = first_wrong(&mut guard, &neighbors, &rows);
+    let is_unpinned = guard.pins.unpin(address) && !guard.pins.unpin(address);
+    let last = judged(&mut guard, 0, &own, &neighbors);
+    let are_told = first.is_none() && second.is_none() && last.is_none();
+    assert!(rt; is_pinned && is_moved && is_unpinned && are_told);
+}
+
+// Eight neighbours are pinned at most.
+#[test]
+fn eight_are_pinned(rt: HostRuntime) {
+    let mut guard = Guard::new();
+    let hardware = EthernetAddress([2, 0, 0, 0, 0, 2]);
+    for last in 1..9 {
+        let address = IpAddress::Ipv4(Ipv4Address { bits: last });
+        assert!(&rt; guard.pins.pin(address, hardware));
+    }
+    let third = IpAddress::Ipv4(Ipv4Address { bits: 3 });
+    let eighth = IpAddress::Ipv4(Ipv4Address { bits: 8 });
+    let ninth = IpAddress::Ipv4(Ipv4Address { bits: 9 });
+    let is_full = !guard.pins.pin(ninth, hardware) && guard.pins.pin(eighth, hardware);
+    let has_room = guard.pins.unpin(third) && guard.pins.pin(ninth, hardware);
+    assert!(rt; is_full && has_room);
+}
+
 // Of packets for whose answer the host would have to ask one passes in two seconds; those of known neighbours and of other
 // networks pass all.
 #[test]
 fn one_discovery_passes_in_two_seconds(rt: HostRuntime) {
     let (mut guard, neighbors) = (Guard::new(), known());
-    let dropped = Some(Reason::Discovery);
-    assert!(rt; judged(&mut guard, 1000, &ipv4_of(1, 1, 77, 8), &neighbors).is_none());
-    assert!(rt; judged(&mut guard, 2999, &ipv4_of(1, 1, 78, 8), &neighbors) == dropped);
-    assert!(rt; judged(&mut guard, 2999, &ipv4_of(1, 1, 2, 8), &neighbors).is_none());
-    assert!(rt; judged(&mut guard, 2999, &ipv4_of(1, 9, 77, 8), &neighbors).is_none());
-    assert!(rt; judged(&mut guard, 3000, &ipv4_of(1, 1, 78, 8), &neighbors).is_none());
+    let rows: [Row<'_>; 5] = [
+        (1000, &ipv4_of(1, 1, 77, 8), None),
+        (2999, &ipv4_of(1, 1, 78, 8), Some(Reason::Discovery)),
+        (2999, &ipv4_of(1, 1, 2, 8), None),
+        (2999, &ipv4_of(1, 9, 77, 8), None),
+        (3000, &ipv4_of(1, 1, 78, 8), None),
+    ];
+    assert_eq!(rt; first_wrong(&mut guard, &neighbors, &rows), None);
 }
 
 // Datagrams, segments, and what goes to a group take nothing of that rate.
@@ -149,10 +288,13 @@ fn datagrams_of_strangers_pass(rt: HostRuntime) {
     let (mut guard, neighbors) = (Guard::new(), known());
     let mut to_group = ipv4_of(1, 1, 77, 8);
     (to_group[30], to_group[31], to_group[32]) = (224, 0, 0);
+    let rows: [Row<'_>; 3] = [
+        (1000, &ipv4_of(17, 1, 77, 0x27), None),
+        (1000, &ipv4_of(6, 1, 77, 0x27), None),
+        (1000, &to_group, None),
+    ];
     for _ in 0..9 {
-        assert!(&rt; judged(&mut guard, 1000, &ipv4_of(17, 1, 77, 0x27), &neighbors).is_none());
-        assert!(&rt; judged(&mut guard, 1000, &ipv4_of(6, 1, 77, 0x27), &neighbors).is_none());
-        assert!(&rt; judged(&mut guard, 1000, &to_group, &neighbors).is_none());
+        assert_eq!(&rt; first_wrong(&mut guard, &neighbors, &rows), None);
     }
     assert!(rt; judged(&mut guard, 1000, &ipv4_of(1, 1, 77, 8), &neighbors).is_none());
 }
@@ -164,17 +306,24 @@ fn loops_are_dropped(rt: HostRuntime) {
     let (mut guard, neighbors) = (Guard::new(), known());
     let looping = Some(Reason::Loop);
     for from in [7, 13, 17, 19] {
-        assert!(&rt; judged(&mut guard, 0, &ports(from, 0x0007), &neighbors) == looping);
-        assert!(&rt; judged(&mut guard, 0, &ports(from, 0x03ff), &neighbors) == looping);
-        assert!(&rt; judged(&mut guard, 0, &ports(from, 0x0400), &neighbors).is_none());
+        let rows: [Row<'_>; 3] = [
+            (0, &ports(from, 0x0007), looping),
+            (0, &ports(from, 0x03ff), looping),
+            (0, &ports(from, 0x0400), None),
+        ];
+        assert_eq!(&rt; first_wrong(&mut guard, &neighbors, &rows), None, "{from}");
     }
-    assert!(rt; judged(&mut guard, 0, &ports(9, 7), &neighbors).is_none());
-    assert!(rt; judged(&mut guard, 0, &ports(0x0107, 7), &neighbors).is_none());
     let mut fragment = ports(7, 7);
     fragment[21] = 1;
-    assert!(rt; judged(&mut guard, 0, &fragment, &neighbors).is_none());
+    let rows: [Row<'_>; 3] = [
+        (0, &ports(9, 7), None),
+        (0, &ports(0x0107, 7), None),
+        (0, &fragment, None),
+    ];
+    let wrong = first_wrong(&mut guard, &neighbors, &rows);
     guard.drops_loops = false;
-    assert!(rt; judged(&mut guard, 0, &ports(7, 7), &neighbors).is_none());
+    let passes = judged(&mut guard, 0, &ports(7, 7), &neighbors);
+    assert!(rt; wrong.is_none() && passes.is_none());
 }
 
 // Fragments pass, unless they are to be dropped: by the flag MF or an offset (RFC 791 3.1), not by DF, and by next header 44
@@ -191,43 +340,66 @@ fn fragments_are_dropped_if_told(rt: HostRuntime) {
     let mut of_ipv6 = icmpv6_of(1, 9, 9);
     of_ipv6[20] = 44;
     let dropped = Some(Reason::Fragment);
-    assert!(rt; judged(&mut guard, 0, &first, &neighbors).is_none());
-    assert!(rt; judged(&mut guard, 0, &of_ipv6, &neighbors).is_none());
+    let rows: [Row<'_>; 2] = [(0, &first, None), (0, &of_ipv6, None)];
+    let passes = first_wrong(&mut guard, &neighbors, &rows);
     guard.drops_fragments = true;
-    assert!(rt; judged(&mut guard, 0, &first, &neighbors) == dropped);
-    assert!(rt; judged(&mut guard, 0, &last, &neighbors) == dropped);
-    assert!(rt; judged(&mut guard, 0, &of_ipv6, &neighbors) == dropped);
-    assert!(rt; judged(&mut guard, 0, &whole, &neighbors).is_none());
+    let rows: [Row<'_>; 4] = [
+        (0, &first, dropped),
+        (0, &last, dropped),
+        (0, &of_ipv6, dropped),
+        (0, &whole, None),
+    ];
+    let are_dropped = first_wrong(&mut guard, &neighbors, &rows);
+    assert!(rt; passes.is_none() && are_dropped.is_none());
 }
 
-// A guard on its post counts what it drops by the reason, tells who claimed an own address, and expects whom the host asked for.
+// Whether a frame passes a guard on its post, at this many milliseconds.
+fn admits(watch: &mut Watch, millis: u32, frame: &[u8], neighbors: &Cache) -> bool {
+    let now = Instant::from_micros(i64::from(millis) * 1_000);
+    watch.admits(now, frame, hardware(), &OWN, neighbors)
+}
+
+// A guard on its post counts what it drops by the reason, and tells who claimed an own address.
 #[test]
 fn drops_are_counted(rt: HostRuntime) {
     let (mut watch, neighbors) = (Watch::new(), known());
-    let now = Instant::from_millis(1000);
-    assert!(rt; !watch.admits(now, &arp_of(1), &OWN, &neighbors));
     let mut sent_by = arp_of(1);
     sent_by[11] = 66;
-    assert!(rt; !watch.admits(Instant::from_millis(2000), &sent_by, &OWN, &neighbors));
-    assert!(rt; !watch.admits(now, &ports(7, 7), &OWN, &neighbors));
-    assert!(rt; watch.admits(now, &arp_of(2), &OWN, &neighbors));
+    let rows: [(u32, &[u8], bool); 4] = [
+        (1000, &arp_of(1), false),
+        (2000, &sent_by, false),
+        (1000, &ports(7, 7), false),
+        (1000, &arp_of(2), true),
+    ];
+    for (index, (millis, frame, passes)) in rows.iter().enumerate() {
+        assert!(&rt;
+            admits(&mut watch, *millis, frame, &neighbors) == *passes,
+            "{index}"
+        );
+    }
     let conflict = Conflict {
         hardware: EthernetAddress([2, 0, 0, 0, 0, 66]),
         at: Instant::from_millis(2000),
     };
-    assert!(rt; watch.conflict == Some(conflict));
-    assert!(rt; watch.counts.own_address == 2);
-    assert!(rt; watch.counts.loops == 1);
-    assert!(rt; watch.counts.new_neighbor == 0);
+    let counts = watch.counts;
+    let dropped = [counts.own_address, counts.loops, counts.new_neighbor];
+    assert!(rt; watch.conflict == Some(conflict) && dropped == [2, 1, 0]);
+}
+
+// What the host answers is counted, too; where the guard is off, all goes and nothing is counted.
+#[test]
+fn answers_are_counted(rt: HostRuntime) {
+    let (mut watch, neighbors) = (Watch::new(), known());
+    let now = Instant::from_millis(1000);
     for _ in 0..12 {
-        let _ = watch.lets_go(now, &ipv4_of(1, 1, 1, 0));
+        let _ = watch.lets_go(now, &ipv4_of(1, 1, 1, 0), 54);
     }
-    assert!(rt; watch.counts.echo_reply == 2);
-    assert!(rt; watch.lets_go(now, &ipv4_of(1, 1, 1, 3)));
+    let goes = watch.lets_go(now, &ipv4_of(1, 1, 1, 3), 54);
     watch.is_on = false;
-    assert!(rt; watch.admits(now, &arp_of(1), &OWN, &neighbors));
-    assert!(rt; watch.lets_go(now, &ipv4_of(1, 1, 1, 0)));
-    assert!(rt; watch.counts.own_address == 2);
+    let passes = admits(&mut watch, 1000, &arp_of(1), &neighbors);
+    let goes_on = watch.lets_go(now, &ipv4_of(1, 1, 1, 0), 54);
+    let counted = [watch.counts.echo_reply, watch.counts.own_address];
+    assert!(rt; goes && passes && goes_on && counted == [2, 0]);
 }
 
 // One query passes in a second, of either family.
@@ -235,26 +407,16 @@ fn drops_are_counted(rt: HostRuntime) {
 fn one_query_passes_in_a_second(rt: HostRuntime) {
     let (mut guard, neighbors) = (Guard::new(), known());
     let dropped = Some(Reason::Query);
-    assert!(rt; judged(&mut guard, 1000, &ipv4_of(2, 1, 2, 0x11), &neighbors).is_none());
-    assert!(rt;
-        judged(
-            &mut guard,
-            1999,
-            &icmpv6_behind_options(130, 9, 0),
-            &neighbors
-        ) == dropped
-    );
-    assert!(rt;
-        judged(
-            &mut guard,
-            2000,
-            &icmpv6_behind_options(130, 9, 0),
-            &neighbors
-        )
-        .is_none()
-    );
-    assert!(rt; judged(&mut guard, 2000, &ipv4_of(2, 1, 2, 0x11), &neighbors) == dropped);
-    assert!(rt; judged(&mut guard, 2000, &ipv4_of(2, 1, 2, 0x16), &neighbors).is_none());
+    let query = ipv4_of(2, 1, 2, 0x11);
+    let listener_query = icmpv6_behind_options(130, 9, 0);
+    let rows: [Row<'_>; 5] = [
+        (1000, &query, None),
+        (1999, &listener_query, dropped),
+        (2000, &listener_query, None),
+        (2000, &query, dropped),
+        (2000, &ipv4_of(2, 1, 2, 0x16), None),
+    ];
+    assert_eq!(rt; first_wrong(&mut guard, &neighbors, &rows), None);
 }
 
 // The router that was heard last passes, and another one a minute after that one came.
@@ -262,12 +424,16 @@ fn one_query_passes_in_a_second(rt: HostRuntime) {
 fn another_router_passes_in_a_minute(rt: HostRuntime) {
     let (mut guard, neighbors) = (Guard::new(), known());
     let dropped = Some(Reason::Router);
-    assert!(rt; judged(&mut guard, 1000, &icmpv6_of(134, 5, 0), &neighbors).is_none());
-    assert!(rt; judged(&mut guard, 1001, &icmpv6_of(134, 6, 0), &neighbors) == dropped);
-    assert!(rt; judged(&mut guard, 30_000, &icmpv6_of(134, 5, 0), &neighbors).is_none());
-    assert!(rt; judged(&mut guard, 60_999, &icmpv6_of(134, 6, 0), &neighbors) == dropped);
-    assert!(rt; judged(&mut guard, 61_000, &icmpv6_of(134, 6, 0), &neighbors).is_none());
-    assert!(rt; judged(&mut guard, 61_001, &icmpv6_of(134, 5, 0), &neighbors) == dropped);
+    let (first, second) = (icmpv6_of(134, 5, 0), icmpv6_of(134, 6, 0));
+    let rows: [Row<'_>; 6] = [
+        (1000, &first, None),
+        (1001, &second, dropped),
+        (30_000, &first, None),
+        (60_999, &second, dropped),
+        (61_000, &second, None),
+        (61_001, &first, dropped),
+    ];
+    assert_eq!(rt; first_wrong(&mut guard, &neighbors, &rows), None);
 }
 
 // What is short, and what is neither ARP nor IP, passes.
@@ -276,17 +442,18 @@ fn other_frames_pass(rt: HostRuntime) {
     let (mut guard, neighbors) = (Guard::new(), known());
     let mut other = arp_of(1);
     other[12] = 0x88;
+    let whole = arp_of(1);
+    let rows: [Row<'_>; 3] = [
+        (0, &other, None),
+        (0, without_last(&whole), None),
+        (0, &[], None),
+    ];
     for _ in 0..9 {
-        assert!(&rt; judged(&mut guard, 0, &other, &neighbors).is_none());
-        assert!(&rt;
-            judged(
-                &mut guard,
-                0,
-                arp_of(1).split_last().map_or(&[], |(_, rest)| rest),
-                &neighbors
-            )
-            .is_none()
-        );
-        assert!(&rt; judged(&mut guard, 0, &[], &neighbors).is_none());
+        assert_eq!(&rt; first_wrong(&mut guard, &neighbors, &rows), None);
     }
+}
+
+// An ARP packet without its last octet.
+fn without_last(frame: &[u8; 42]) -> &[u8] {
+    &frame[..41]
 }

@@ -38,6 +38,7 @@ settings_with c hardware checksums = record {
   frame_len = c.frame_len;
   slaac = not (c.slaac == 0);
   sockets = c.sockets;
+  neighbors = c.neighbors;
   burst = burst_in c.burst;
   patience = c.patience;
   reassembly_timeout = c.reassembly_timeout;
@@ -46,7 +47,7 @@ settings_with c hardware checksums = record {
   watch = watch_in c.guard;
 }
 
--- what most programs want: eight sockets on Ethernet, three seconds of patience, as three solicitations take (RFC 4861
+-- what most programs want: eight sockets and 64 neighbours on Ethernet, three seconds of patience, as three solicitations take (RFC 4861
 -- 10), ten for fragments, moment 0 to begin at, and a guard by the usual rules
 abbrev pub usual : IfaceConfig
 usual = record {
@@ -56,6 +57,7 @@ usual = record {
   start = pos 0;
   frame_len = 1514;
   sockets = 8;
+  neighbors = 64;
   burst = 0;
   hardware_address = replicate 6 0;
   medium = 0;

@@ -3,6 +3,7 @@ use Rattle.std.specs.Prelude.{ℕ, ℤ, ◌≡◌, List, Option, None, Some}
 use Rattle.token_bucket.specs.declared.bucket.Bucket.{Bucket}
 use Rattle.guard.specs.declared.watch.Conflict.{Conflict}
 use Rattle.guard.specs.declared.watch.Watch.{Watch}
+use Rattle.guard.specs.Pins.{no_pins}
 use Rattle.guard.specs.Watch.{no_drops}
 use Rattle.iface_host.specs.declared.host.Host.{Host}
 use Rattle.iface_c.specs.Properties.{holds_in}
@@ -26,6 +27,7 @@ watch_in c = record {
     discoveries = bucket_in c.discoveries;
     queries = bucket_in c.queries;
     router_time = c.routers;
+    pins = no_pins;
     asked = None;
     router = None;
   };
@@ -33,9 +35,11 @@ watch_in c = record {
     echo_replies = bucket_in c.echo_replies;
     errors = bucket_in c.errors;
     resets = bucket_in c.resets;
+    longest_error = c.longest_error;
   };
   counts = no_drops;
   conflict = None;
+  pinned_conflict = None;
 }
 
 -- what most programs want: the usual rules and rates, but none of echo replies
@@ -52,6 +56,7 @@ usual_guard = record {
   own_addresses = 1;
   loops = 1;
   fragments = 0;
+  longest_error = 3;
 }
 
 -- what was dropped and held back, as C reads it
@@ -59,6 +64,7 @@ abbrev pub drops_shown : Host → IfaceDrops
 drops_shown host = record {
   own_address = host.watch.counts.own_address;
   own_source = host.watch.counts.own_source;
+  pinned = host.watch.counts.pinned;
   new_neighbor = host.watch.counts.new_neighbor;
   discovery = host.watch.counts.discovery;
   query = host.watch.counts.query;
@@ -74,10 +80,14 @@ drops_shown host = record {
 abbrev pub conflict_of : Host → Option Conflict
 conflict_of host = host.watch.conflict
 
+-- or a pinned one
+abbrev pub pinned_conflict_of : Host → Option Conflict
+pinned_conflict_of host = host.watch.pinned_conflict
+
 -- that was written, and nothing changed
-pub record ShowsConflict (hardware : List ℕ) (at : ℤ) (old new : Host) : Type 0 where
+pub record ShowsConflict (of : Host → Option Conflict) (hardware : List ℕ) (at : ℤ) (old new : Host) : Type 0 where
   pub conflict : Conflict
-  pub is_there : conflict_of old ≡ Some conflict
+  pub is_there : of old ≡ Some conflict
   pub hardware_is : hardware ≡ conflict.hardware.0
   pub at_is : at ≡ conflict.at
   pub same : new ≡ old

@@ -17,3 +17,9 @@ pub mod Routes
 pub mod Segments
 pub mod Status
 pub mod Waits
+pub mod Dhcp
+pub mod DhcpHandle
+pub mod OwnedDhcp
+pub mod Streams
+pub mod StreamsHandle
+pub mod OwnedStreams

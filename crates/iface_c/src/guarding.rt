@@ -1,14 +1,19 @@
 //! The guard in front of a host: how it is set, and what it tells.
-ghost use Rattle.std.specs.Prelude.{◌≡◌, ◌≢◌, None};
+ghost use Rattle.std.specs.Prelude.{◌≡◌, ◌≢◌, IsSomeAnd, None};
 ghost use Rattle.iface_c.specs.Calls.{Did};
-ghost use Rattle.iface_c.specs.Guarding.{ShowsConflict, bucket_in, conflict_of, drops_shown, usual_guard, watch_in};
+ghost use Rattle.iface_c.specs.Addresses.{address_in};
+ghost use Rattle.iface_c.specs.Guarding.{ShowsConflict, bucket_in, conflict_of, drops_shown, pinned_conflict_of, usual_guard};
+ghost use Rattle.iface_c.specs.Guarding.{watch_in};
+ghost use Rattle.iface_host.specs.Guarded.{after_pin, after_unpin, pin_refusal, unpin_refusal};
 ghost use Rattle.iface_c.specs.Handle.{host_in};
-ghost use Rattle.iface_c.specs.Properties.{Shows, lack};
-ghost use Rattle.iface_c.specs.Status.{code_by};
+ghost use Rattle.iface_c.specs.Properties.{Shows, ethernet_of, lack};
+ghost use Rattle.iface_c.specs.Status.{code_by, code_with};
 
+use crate::addresses::IfaceAddress;
 use crate::handle::Iface;
-use crate::status::{NO_HOST, NOT_THERE, OK};
-use guard::{Answers, Counts, Guard, Watch};
+use crate::status::{BAD_ARGUMENT, NO_HOST, NOT_THERE, OK, code};
+use guard::{Answers, Counts, Guard, Pins, Watch};
+use ip_wire::EthernetAddress;
 use std::alloc::Global;
 use token_bucket::bucket::Bucket;
 
@@ -57,6 +62,8 @@ pub struct IfaceGuard {
     pub loops: u8,
     /// Whether fragments are dropped.
     pub fragments: u8,
+    /// How many times as long an error may be as what it answers; 0 sets no bound.
+    pub longest_error: u32,
 }
 
 impl IfaceGuard {
@@ -94,6 +101,7 @@ impl IfaceGuard {
             own_addresses: 1,
             loops: 1,
             fragments: 0,
+            longest_error: 3,
         }
     }
 
@@ -111,6 +119,7 @@ impl IfaceGuard {
                 discoveries: self.discoveries.bucket(),
                 queries: self.queries.bucket(),
                 router_time: u64::from(self.routers),
+                pins: Pins::new(),
                 asked: None,
                 router: None,
             },
@@ -118,9 +127,11 @@ impl IfaceGuard {
                 echo_replies: self.echo_replies.bucket(),
                 errors: self.errors.bucket(),
                 resets: self.resets.bucket(),
+                longest_error: self.longest_error,
             },
             counts: Counts::NONE,
             conflict: None,
+            pinned_conflict: None,
         }
     }
 }
@@ -133,6 +144,8 @@ pub struct IfaceDrops {
     pub own_address: u64,
     /// Packets from an own address.
     pub own_source: u64,
+    /// Messages that tell another hardware address of a pinned neighbour.
+    pub pinned: u64,
     /// Messages of neighbours that aren't known.
     pub new_neighbor: u64,
     /// Packets for whose answer the host would have to ask.
@@ -172,6 +185,7 @@ pub extern "C" fn iface_guard_drops(
     *drops = IfaceDrops {
         own_address: counts.own_address,
         own_source: counts.own_source,
+        pinned: counts.pinned,
         new_neighbor: counts.new_neighbor,
         discovery: counts.discovery,
         query: counts.query,
@@ -194,7 +208,7 @@ pub extern "C" fn iface_guard_conflict(
     at: &mut i64,
 ) -> u32
     ensures done { Did result
-        (λ old new. ShowsConflict hardware_address.new at.new old new) handle.old handle.new }
+        (λ old new. ShowsConflict conflict_of hardware_address.new at.new old new) handle.old handle.new }
     ensures code { result ≡ code_by (lack conflict_of) (host_in handle.old) }
     ensures kept { result ≢ 0 → (hardware_address.new ≡ hardware_address.old) × (at.new ≡ at.old) }
 {
@@ -211,5 +225,86 @@ pub extern "C" fn iface_guard_conflict(
             OK
         }
         None => NOT_THERE,
+    }
+}
+
+/// Writes who claimed a pinned address last, and when.
+#[unsafe(no_mangle)]
+pub extern "C" fn iface_guard_pinned_conflict(
+    handle: &mut Iface,
+    alloc: Global,
+    hardware_address: &mut [u8; 6],
+    at: &mut i64,
+) -> u32
+    ensures done { Did result
+        (λ old new. ShowsConflict pinned_conflict_of hardware_address.new at.new old new) handle.old handle.new }
+    ensures code { result ≡ code_by (lack pinned_conflict_of) (host_in handle.old) }
+    ensures kept { result ≢ 0 → (hardware_address.new ≡ hardware_address.old) × (at.new ≡ at.old) }
+{
+    let Some(host) = handle.take(alloc) else {
+        return NO_HOST;
+    };
+    let last = host.pinned_conflict();
+    handle.put(host);
+    match last {
+        Some(claim) => {
+            let octets = claim.hardware.0;
+            *hardware_address = octets;
+            *at = claim.at.total_micros();
+            OK
+        }
+        None => NOT_THERE,
+    }
+}
+
+/// Pins a neighbour to a hardware address.
+#[unsafe(no_mangle)]
+pub extern "C" fn iface_guard_pin(
+    handle: &mut Iface,
+    alloc: Global,
+    address: &IfaceAddress,
+    hardware_address: &[u8; 6],
+) -> u32
+    ensures done { Did result (λ old new. IsSomeAnd (address_in address.now)
+        (λ pinned. new ≡ after_pin pinned (ethernet_of hardware_address.now) old)) handle.old handle.new }
+    ensures code { result ≡ code_with (λ pinned host. pin_refusal host pinned (ethernet_of hardware_address.now))
+        (address_in address.now) (host_in handle.old) }
+{
+    let Some(address) = address.ip() else {
+        return BAD_ARGUMENT;
+    };
+    let Some(mut host) = handle.take(alloc) else {
+        return NO_HOST;
+    };
+    let done = host.pin(address, EthernetAddress(*hardware_address));
+    handle.put(host);
+    match done {
+        Ok(()) => OK,
+        Err(refusal) => code(refusal),
+    }
+}
+
+/// Pins a neighbour no more.
+#[unsafe(no_mangle)]
+pub extern "C" fn iface_guard_unpin(
+    handle: &mut Iface,
+    alloc: Global,
+    address: &IfaceAddress,
+) -> u32
+    ensures done { Did result (λ old new. IsSomeAnd (address_in address.now) (λ pinned. new ≡ after_unpin pinned old))
+        handle.old handle.new }
+    ensures code { result ≡ code_with (λ pinned host. unpin_refusal host pinned) (address_in address.now) (host_in handle.old) }
+{
+    let Some(address) = address.ip() else {
+        return BAD_ARGUMENT;
+    };
+    let Some(mut host) = handle.take(alloc) else {
+        return NO_HOST;
+    };
+    let done = host.unpin(address);
+    handle.put(host);
+    match done {
+        Ok(()) => OK,
+        Err(refusal) => code(refusal),
     }
 }

@@ -117,7 +117,7 @@ impl Iface {
 }
 
 /// What may go to another thread.
-fn crosses<T: Send>(_: &T) {}
+pub(crate) fn crosses<T: Send>(_: &T) {}
 
 /// A handle may go to another thread: what it owns is the same for each.
 pub fn handle_crosses(handle: &Iface) {

@@ -40,6 +40,8 @@ pub struct IfaceConfig {
     pub frame_len: u32,
     /// How many sockets may be open at once.
     pub sockets: u32,
+    /// How many neighbours it knows at once; 0 is four.
+    pub neighbors: u32,
     /// How many frames the link takes one after the other, for the window in a segment of TCP; 0 sets no bound.
     pub burst: u32,
     /// Its address on Ethernet.
@@ -134,6 +136,7 @@ impl IfaceConfig {
             frame_len: self.frame_len as usize,
             slaac: self.slaac != 0,
             sockets: self.sockets as usize,
+            neighbors: self.neighbors as usize,
             burst: burst_of(self.burst),
             patience: Duration::from_micros(self.patience),
             reassembly_timeout: Duration::from_micros(self.reassembly_timeout),
@@ -156,6 +159,7 @@ pub extern "C" fn iface_config_init(config: &mut IfaceConfig)
         start: 0,
         frame_len: 1514,
         sockets: 8,
+        neighbors: 64,
         burst: 0,
         hardware_address: [0; 6],
         medium: 0,

@@ -6,6 +6,8 @@
 
 pub mod addresses;
 pub mod counters;
+pub mod dhcp;
+pub mod dhcp_handle;
 pub mod frames;
 pub mod guarding;
 pub mod handle;
@@ -21,10 +23,15 @@ pub mod queues;
 pub mod routes;
 pub mod segments;
 pub mod status;
+pub mod stream_calls;
+pub mod streams;
+pub mod streams_handle;
 pub mod waiting;
 
 pub use addresses::{IfaceAddress, IfaceEndpoint};
 pub use counters::IfaceCounters;
+pub use dhcp::IfaceLease;
+pub use dhcp_handle::IfaceDhcp;
 pub use guarding::{IfaceDrops, IfaceGuard, IfaceRate};
 pub use handle::Iface;
 pub use hosts::{IfaceChecksums, IfaceConfig};
@@ -32,3 +39,5 @@ pub use lists::IfaceCidr;
 pub use opening::IfaceRooms;
 pub use queues::IfaceQueue;
 pub use segments::IfaceSegment;
+pub use streams::{IfaceStream, IfaceStreamsConfig};
+pub use streams_handle::IfaceStreams;

@@ -31,11 +31,29 @@ pub const TABLE_FULL: u32 = 10;
 /// No socket of this kind is open by this number.
 pub const NO_SOCKET: u32 = 11;
 
+/// No packet came, or there is no lease.
+pub const EMPTY: u32 = 15;
+
 /// The header is of another version.
 pub const BAD_VERSION: u32 = 18;
 
+/// The handle owns no client.
+pub const NO_CLIENT: u32 = 19;
+
+/// The handle owns a client already.
+pub const HAS_CLIENT: u32 = 20;
+
+/// The handle owns no connections.
+pub const NO_STREAMS: u32 = 21;
+
+/// The handle owns connections already.
+pub const HAS_STREAMS: u32 = 22;
+
+/// A connection has these ends.
+pub const IN_USE: u32 = 23;
+
 /// The version of the header, `IFACE_VERSION`.
-pub const VERSION: u32 = 0x000e_0004;
+pub const VERSION: u32 = 0x000e_0005;
 
 /// The code of a refusal.
 pub fn code(refusal: Refusal) -> u32

@@ -24,6 +24,7 @@ use Rattle.interface.specs.declared.interface.Interface.{Interface}
 use Rattle.guard.specs.Watch as guard
 use Rattle.iface_tables.specs.Neighbor.{Neighbors}
 use Rattle.ip_address.specs.declared.cidr.IpCidr.{IpCidr}
+use Rattle.ip_address.specs.declared.hardware.HardwareAddress.{HardwareAddress}
 use Rattle.guard.specs.declared.watch.Watch.{Watch}
 use Rattle.iface_host.specs.Frames.{Gives, IsDue, IsWritten, Made, PollsInto, Round, Takes, after_response, is_piece_left, let_go, planned}
 use Rattle.iface_host.specs.Guarded.{Admitted, Dropped, NextIs, Receives, after_arrival, after_sending, is_admitted}
@@ -66,38 +67,43 @@ changing [] = refl
 changing (octet ∷ octets) = ap not (eqb-suc-zero (length octets))
 
 -- what a guard holds back isn't written, and what it lets go is
-pub held : (t : ℤ) (frame : List ℕ) (w : Watch) → guard.lets_go t frame w ≡ false → (out : List ℕ) →
-    IsWritten (let_go t (Some frame) w) 0 out out
-held t frame w e out = rw e (refl, refl)
+pub held : (t : ℤ) (frame : List ℕ) (answered : ℕ) (w : Watch) → guard.lets_go t frame answered w ≡ false → (out : List ℕ) →
+    IsWritten (let_go t (Some frame) answered w) 0 out out
+held t frame answered w e out = rw e (refl, refl)
 
-pub went : (t : ℤ) (frame : List ℕ) (w : Watch) → guard.lets_go t frame w ≡ true → (n : ℕ) (before after : List ℕ) →
-    IsWritten (Some frame) n before after → IsWritten (let_go t (Some frame) w) n before after
-went t frame w e n before after is = rw e is
+pub went : (t : ℤ) (frame : List ℕ) (answered : ℕ) (w : Watch) → guard.lets_go t frame answered w ≡ true → (n : ℕ) (before after : List ℕ) →
+    IsWritten (Some frame) n before after → IsWritten (let_go t (Some frame) answered w) n before after
+went t frame answered w e n before after is = rw e is
 
 -- the front of a buffer that is no longer
 pub all_of : (n : ℕ) (octets : List ℕ) → length octets ≤ n → octets ≡ take n octets
 all_of n octets short = sym (take_all n octets short)
 
--- a guard judges by the host's own addresses and neighbours
-pub admits_as : (t : ℤ) (frame : List ℕ) (own own' : List IpCidr) → own ≡ own' → (known known' : Neighbors) → known ≡ known' → (w : Watch) →
-    guard.admits t frame own known w ≡ guard.admits t frame own' known' w
-admits_as t frame own own' same known known' same' w =
-    ap (λ (o : List IpCidr). guard.admits t frame o known w) same ∙ ap (λ (k : Neighbors). guard.admits t frame own' k w) same'
+-- a guard judges by the host's own hardware address, addresses and neighbours
+pub admits_as : (t : ℤ) (frame : List ℕ) (hardware hardware' : Option HardwareAddress) → hardware ≡ hardware' →
+    (own own' : List IpCidr) → own ≡ own' → (known known' : Neighbors) → known ≡ known' → (w : Watch) →
+    guard.admits t frame hardware own known w ≡ guard.admits t frame hardware' own' known' w
+admits_as t frame hardware hardware' same_hardware own own' same known known' same' w =
+    ap (λ (h : Option HardwareAddress). guard.admits t frame h own known w) same_hardware
+    ∙ ap (λ (o : List IpCidr). guard.admits t frame hardware' o known w) same
+    ∙ ap (λ (k : Neighbors). guard.admits t frame hardware' own' k w) same'
 
-pub arrives_as : (t : ℤ) (frame : List ℕ) (own own' : List IpCidr) → own ≡ own' → (known known' : Neighbors) → known ≡ known' → (host : Host) →
-    (w : Watch) → w ≡ guard.after_arrival t frame own known host.watch →
-    record host { watch = w } ≡ record host { watch = guard.after_arrival t frame own' known' host.watch }
-arrives_as t frame own own' same known known' same' host w is =
+pub arrives_as : (t : ℤ) (frame : List ℕ) (hardware hardware' : Option HardwareAddress) → hardware ≡ hardware' →
+    (own own' : List IpCidr) → own ≡ own' → (known known' : Neighbors) → known ≡ known' → (host : Host) →
+    (w : Watch) → w ≡ guard.after_arrival t frame hardware own known host.watch →
+    record host { watch = w } ≡ record host { watch = guard.after_arrival t frame hardware' own' known' host.watch }
+arrives_as t frame hardware hardware' same_hardware own own' same known known' same' host w is =
     ap (λ (v : Watch). record host { watch = v }) (is
-    ∙ ap (λ (o : List IpCidr). guard.after_arrival t frame o known host.watch) same
-    ∙ ap (λ (k : Neighbors). guard.after_arrival t frame own' k host.watch) same')
+    ∙ ap (λ (h : Option HardwareAddress). guard.after_arrival t frame h own known host.watch) same_hardware
+    ∙ ap (λ (o : List IpCidr). guard.after_arrival t frame hardware' o known host.watch) same
+    ∙ ap (λ (k : Neighbors). guard.after_arrival t frame hardware' own' k host.watch) same')
 
 -- a frame was taken
 pub received : (t : ℤ) (frame : List ℕ) (n : ℕ) (before after : List ℕ) (old : Host) (i : Interface) (s : Sockets (Bor (Unit {0})))
-    (shown result : Option (List ℕ)) → result ≡ shown → IsWritten (let_go t shown old.watch) n before after →
+    (shown result : Option (List ℕ)) → result ≡ shown → IsWritten (let_go t shown (length frame) old.watch) n before after →
     HostRefinesReceiving t frame result (interfaces.StandsFor old.interface.value old.sockets) (interfaces.StandsFor i s) →
     (changed : Bool) → changed ≡ (old.changed || not (length frame == 0)) → (counts : FrameCounts) →
-    counts ≡ after_handing n (after_taking old.frames) → (w : Watch) → w ≡ after_response t shown old.watch →
+    counts ≡ after_handing n (after_taking old.frames) → (w : Watch) → w ≡ after_response t shown (length frame) old.watch →
     Takes t frame n before after old
     (record old { interface = with_value old.interface i; sockets = s; changed = changed; frames = counts; watch = w })
 received t frame n before after old i s shown result is written r changed changed_is counts counts_is w w_is = record {
@@ -164,6 +170,7 @@ told_of d d' events fresh told = record {
   frames = ap (λ (fs : List (List ℕ)). fs ++ d'.outbox.now.frames) (shown_in d'.len d'.out.now) ∙ told.frames
       ∙ ap (λ (len : Option ℕ). (frames_in len d.out.now ++ d.outbox.now.frames) ++ sent_frames events) fresh;
   refusals = told.refusals;
+  no_frame = told.no_frame;
 }
 
 -- a poll over the device of a round is over the same outbox, and the same buffer

@@ -1,4 +1,6 @@
 mod FrameCalls
+mod LeasedCalls
 pub mod Places
+mod Vacancies
 mod RefusalCalls
 mod RuleCalls

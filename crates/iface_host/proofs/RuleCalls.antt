@@ -22,7 +22,7 @@ use Rattle.iface_host.specs.declared.host.Host.{Host}
 use Rattle.iface_host.specs.declared.refusal.Refusal.{Refusal}
 use Rattle.iface_host.specs.Stands.{Follows, Stays}
 
-abbrev with_interface : Host → Interface → Host
+abbrev pub with_interface : Host → Interface → Host
 with_interface host i = record host { interface = with_value host.interface i }
 
 -- a rule of the interface's is the host's

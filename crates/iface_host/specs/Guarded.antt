@@ -1,18 +1,32 @@
 -- A host behind its guard: what it gets to see, and what is sent.
-use Rattle.std.specs.Prelude.{ℕ, ℤ, ◌≡◌, Bool, true, false, List, take}
+use Rattle.std.specs.Prelude.{ℕ, ℤ, ◌≡◌, ◌&&◌, Bool, true, false, List, take, Option, Some, None, if◌then◌else◌}
+use Rattle.ip_address.specs.EthernetAddress as ethernet
+use Rattle.ip_address.specs.Ip.{is_unicast}
+use Rattle.ip_address.specs.declared.ethernet_address.EthernetAddress.{EthernetAddress}
+use Rattle.ip_address.specs.declared.hardware.HardwareAddress.{HardwareAddress}
+use Rattle.ip_address.specs.declared.ip.IpAddress.{IpAddress}
+use Rattle.guard.specs.Pins as pins
+use Rattle.host_machine.specs.State.Config.{if_ethernet}
 use Rattle.guard.specs.Watch as guard
 use Rattle.iface_host.specs.Calls.{addresses_of}
 use Rattle.iface_host.specs.Frames.{Gives, Takes}
 use Rattle.iface_host.specs.Properties.{machine_of}
 use Rattle.iface_host.specs.declared.host.Host.{Host}
+use Rattle.iface_host.specs.declared.refusal.Refusal.{Refusal}
+use Rattle.iface_host.specs.declared.refusal.Refusal.TheVariants.{NotThere, NotUnicast, TableFull}
+
+-- its hardware address, on a medium with such
+abbrev pub hardware_addr_of : Host → Option HardwareAddress
+hardware_addr_of host = if_ethernet (machine_of host).hardware_addr
 
 -- whether the host gets to see a frame, and what the guard keeps afterwards
 abbrev pub is_admitted : ℤ → List ℕ → Host → Bool
-is_admitted t frame host = guard.admits t frame (addresses_of host) (machine_of host).neighbors host.watch
+is_admitted t frame host =
+    guard.admits t frame (hardware_addr_of host) (addresses_of host) (machine_of host).neighbors host.watch
 
 abbrev pub after_arrival : ℤ → List ℕ → Host → Host
 after_arrival t frame host =
-    record host { watch = guard.after_arrival t frame (addresses_of host) (machine_of host).neighbors host.watch }
+    record host { watch = guard.after_arrival t frame (hardware_addr_of host) (addresses_of host) (machine_of host).neighbors host.watch }
 
 -- a frame is taken as without a guard, after that noted it; one that isn't admitted changes nothing else
 pub data Receives (t : ℤ) (frame : List ℕ) (n : ℕ) (before after : List ℕ) (old new : Host) : Type 0 where
@@ -30,3 +44,22 @@ pub record NextIs (t : ℤ) (n : ℕ) (before after : List ℕ) (old new : Host)
   pub given : Host
   pub gives : Gives t n before after old given
   pub noted : new ≡ after_sending t (take n after) given
+
+-- a neighbour was pinned, or is no more
+abbrev pub after_pin : IpAddress → EthernetAddress → Host → Host
+after_pin address hardware host = record host { watch = guard.after_pin address hardware host.watch }
+
+abbrev pub after_unpin : IpAddress → Host → Host
+after_unpin address host = record host { watch = guard.after_unpin address host.watch }
+
+-- one of the two addresses isn't unicast; or eight others are pinned
+abbrev pub pin_refusal : Host → IpAddress → EthernetAddress → Option Refusal
+pin_refusal host address hardware =
+    if is_unicast address && ethernet.is_unicast hardware
+    then (if pins.is_there (pins.place_for address host.watch.guard.pins) host.watch.guard.pins then None else Some TableFull)
+    else Some NotUnicast
+
+-- it isn't pinned
+abbrev pub unpin_refusal : Host → IpAddress → Option Refusal
+unpin_refusal host address =
+    if pins.is_there (pins.place_of address host.watch.guard.pins) host.watch.guard.pins then None else Some NotThere

@@ -16,3 +16,5 @@ pub mod Counters
 pub mod Frames
 pub mod Guarded
 pub mod Waits
+pub mod Leased
+pub mod Streams

@@ -1,7 +1,7 @@
 -- The frames that were sent and wait to be handed over.
 use Rattle.std.specs.Prelude.{ℕ, ◌≡◌, Bool, true, false, List, [], ◌∷◌, ◌++◌, length, take, drop, Option}
 use Rattle.net_base.specs.declared.phy.DeviceCapabilities.{DeviceCapabilities}
-use Rattle.net_base.specs.Device.{Event, count_after_refusal, refusals_after, sent_frames}
+use Rattle.net_base.specs.Device.{Event, count_after_refusal, handed_frames, refusals_after, sent_frames}
 use Rattle.interface.specs.Receives.{frames_shown}
 
 -- what the device can do, the frames that wait, how often leave was refused, and whether room for one
@@ -22,12 +22,13 @@ with_room room o = record o { has_room = room }
 abbrev pub with_refusal_counted : Waiting → Waiting
 with_refusal_counted o = record o { refusals = count_after_refusal o.refusals }
 
--- the frames sent come behind those that wait, but for the first one, where it was handed over; refused leaves are
--- counted
+-- no frame was received; the frames sent come behind those that wait, but for the first one, where it was handed over; refused leaves
+-- are counted
 pub record Tells (handed : Option (List ℕ)) (old : Waiting) (events : List Event) (new : Waiting) : Type 0 where
   pub capabilities : new.capabilities ≡ old.capabilities
   pub frames : frames_shown handed ++ new.frames ≡ old.frames ++ sent_frames events
   pub refusals : new.refusals ≡ refusals_after old.refusals events
+  pub no_frame : handed_frames events ≡ []
 
 -- the first of some frames, of so many octets, was written to the front of a buffer, and the others are left; where
 -- there is none, nothing

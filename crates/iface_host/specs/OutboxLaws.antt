@@ -2,7 +2,7 @@
 use Rattle.std.specs.Prelude.{ℕ, ◌≡◌, true, false, List, [], ◌∷◌, ◌++◌, refl}
 use Rattle.std.proofs.Common.{ap}
 use Rattle.net_base.specs.Device.{Event, Received, Asked, Sent, Frame, Nothing, Withheld}
-use Rattle.net_base.specs.Device.{count_after_refusal, refusals_after, sent_frames}
+use Rattle.net_base.specs.Device.{count_after_refusal, handed_frames, refusals_after, sent_frames}
 
 pub sent_join : (xs ys : List Event) → sent_frames (xs ++ ys) ≡ sent_frames xs ++ sent_frames ys
 sent_join [] ys = refl
@@ -18,3 +18,15 @@ refusals_join n (Received t Withheld ∷ xs) ys = refusals_join (count_after_ref
 refusals_join n (Asked t true ∷ xs) ys = refusals_join n xs ys
 refusals_join n (Asked t false ∷ xs) ys = refusals_join (count_after_refusal n) xs ys
 refusals_join n (Sent id f ∷ xs) ys = refusals_join n xs ys
+
+pub handed_join : (xs ys : List Event) → handed_frames (xs ++ ys) ≡ handed_frames xs ++ handed_frames ys
+handed_join [] ys = refl
+handed_join (Received t (Frame f) ∷ xs) ys = ap (λ (fs : List (List ℕ)). f ∷ fs) (handed_join xs ys)
+handed_join (Received t Nothing ∷ xs) ys = handed_join xs ys
+handed_join (Received t Withheld ∷ xs) ys = handed_join xs ys
+handed_join (Asked t b ∷ xs) ys = handed_join xs ys
+handed_join (Sent id f ∷ xs) ys = handed_join xs ys
+
+-- nothing is received in two parts, one after another
+pub none_handed : (xs ys : List Event) → handed_frames xs ≡ [] → handed_frames ys ≡ [] → handed_frames (xs ++ ys) ≡ []
+none_handed xs ys first second = rw (handed_join xs ys, first) second

@@ -1,8 +1,8 @@
 -- The device of a round: the first frame that is sent is written to the caller's buffer, and the others wait.
 use Rattle.std.specs.Prelude.{ℕ, ◌≡◌, ◌≤◌, List, [], ◌∷◌, ◌++◌, length, take, drop, refl, Option, Some, None}
 use Rattle.std.proofs.Common.{sym, ap, subst, ◌∙◌, append_assoc, append-nil}
-use Rattle.net_base.specs.Device.{Event, refusals_after, sent_frames}
-use Rattle.iface_host.specs.OutboxLaws.{refusals_join, sent_join}
+use Rattle.net_base.specs.Device.{Event, handed_frames, refusals_after, sent_frames}
+use Rattle.iface_host.specs.OutboxLaws.{none_handed, refusals_join, sent_join}
 use Rattle.iface_host.specs.declared.round_device.RoundDevice.{RoundDevice}
 
 -- the frame of so many octets in the front of a buffer, if there is one
@@ -25,13 +25,15 @@ KeepsRest None before None after = after ≡ before
 KeepsRest None before (Some n) after = (n ≤ length after) × (drop n after ≡ drop n before)
 KeepsRest (Some n) before len after = (len ≡ Some n) × (after ≡ before)
 
--- over the same outbox and the same buffer, the frames sent come behind those that were, and refused leaves are counted
+-- over the same outbox and the same buffer, no frame is received, the frames sent come behind those that were, and refused leaves are
+-- counted
 pub record Tells (old : RoundDevice) (events : List Event) (new : RoundDevice) : Type 0 where
   pub same_outbox : new.outbox.ghost_name ≡ old.outbox.ghost_name
   pub same_buffer : new.out.ghost_name ≡ old.out.ghost_name
   pub capabilities : new.outbox.now.capabilities ≡ old.outbox.now.capabilities
   pub frames : frames_of new ≡ frames_of old ++ sent_frames events
   pub refusals : new.outbox.now.refusals ≡ refusals_after old.outbox.now.refusals events
+  pub no_frame : handed_frames events ≡ []
   pub rest : KeepsRest old.len old.out.now new.len new.out.now
 
 stays : (len : Option ℕ) (out : List ℕ) → KeepsRest len out len out
@@ -55,6 +57,7 @@ told_nothing d = record {
   capabilities = refl;
   frames = sym (append-nil (frames_of d));
   refusals = refl;
+  no_frame = refl;
   rest = stays d.len d.out.now;
 }
 
@@ -68,5 +71,6 @@ told_on {a} {b} {c} xs ys first second = record {
       ∙ ap (λ (fs : List (List ℕ)). frames_of a ++ fs) (sym (sent_join xs ys));
   refusals = second.refusals ∙ ap (λ (n : ℕ). refusals_after n ys) first.refusals
       ∙ sym (refusals_join a.outbox.now.refusals xs ys);
+  no_frame = none_handed xs ys first.no_frame second.no_frame;
   rest = stays_on a.len b.len c.len a.out.now b.out.now c.out.now first.rest second.rest;
 }

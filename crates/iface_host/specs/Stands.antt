@@ -4,6 +4,7 @@ use Rattle.std.specs.Borrow.{Bor}
 use Rattle.egress_schedule.specs.Plan.{first_plan}
 use Rattle.net_base.specs.Checksum.{ip_mtu_of}
 use Rattle.socket_set.specs.SocketSet.{Storage, over}
+use Rattle.iface_tables.specs.Neighbor.{first_neighbors, room_over}
 use Rattle.iface_host.specs.Counters.{no_frames}
 use Rattle.iface_host.specs.Outbox.{empty}
 use Rattle.host_machine.specs.State.Config.{first_host}
@@ -35,11 +36,13 @@ capabilities_of s = record {
 abbrev pub free_storage : Storage (Bor (Unit {0}))
 free_storage = record { socket = None; wait = None }
 
--- the machine's first host at the moment at which it begins, whose fragments wait as long as they are to
+-- the machine's first host at the moment at which it begins, whose fragments wait as long as they are to, and which has
+-- room for as many neighbours as it is to know
 abbrev pub first_machine : Settings → SocketSet → Machine
 first_machine s sockets =
     record (first_host (capabilities_of s) s.hardware_addr s.random_seed s.slaac s.start sockets) {
       reassembly_timeout = s.reassembly_timeout;
+      neighbors = first_neighbors (room_over s.neighbors);
     }
 
 -- its guard, which is off on a medium without hardware addresses

@@ -139,7 +139,7 @@ fn cidr_at(list: &[IpCidr], index: usize) -> Option<IpCidr>
 }
 
 /// Where the first address with this network stands, or the length.
-fn index_of(list: &[IpCidr], cidr: &IpCidr) -> usize
+pub(crate) fn index_of(list: &[IpCidr], cidr: &IpCidr) -> usize
     ensures { result ≡ position_or_len (is_same cidr.now) list.now }
 {
     for (i, other) in list.iter().enumerate() {
@@ -163,7 +163,10 @@ fn copied(list: &[IpCidr]) -> Option<ArrayVec<IpCidr, 4>>
 }
 
 /// Replaces the addresses of an interface by a list.
-fn put_addresses(interface: &mut Interface, list: ArrayVec<IpCidr, 4>) -> Result<(), AddrError>
+pub(crate) fn put_addresses(
+    interface: &mut Interface,
+    list: ArrayVec<IpCidr, 4>,
+) -> Result<(), AddrError>
     ensures { stands.HostRefines interface.old interface.new (UpdatesIpAddrs list.items result) }
 {
     interface.update_ip_addrs(move |_| list)

@@ -51,7 +51,7 @@ impl Host {
         self.frames.take();
         match self.interface.receive_frame(now, frame, &mut self.sockets) {
             Some(reply) => {
-                if !self.watch.lets_go(now, reply) {
+                if !self.watch.lets_go(now, reply, frame.len()) {
                     return 0;
                 }
                 let len = write_front(out, reply);

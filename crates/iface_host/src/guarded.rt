@@ -1,11 +1,13 @@
 //! The guard in front of a host, and behind it.
-ghost use Rattle.std.specs.Prelude.{◌≡◌, take};
+ghost use Rattle.std.specs.Prelude.{◌≡◌, OnOk, OnErr, take};
+ghost use Rattle.std.specs.Result.{result_err};
 ghost use Rattle.iface_host.specs.Guarded as spec;
 ghost use Rattle.iface_host.specs.Stands.{watch_for};
 
 use crate::host::{Host, Settings};
+use crate::refusal::Refusal;
 use guard::{Conflict, Counts, Watch};
-use ip_wire::HardwareAddress;
+use ip_wire::{EthernetAddress, HardwareAddress, IpAddress};
 use net_base::time::Instant;
 
 impl Host {
@@ -24,6 +26,44 @@ impl Host {
         self.watch.conflict
     }
 
+    /// Who claimed a pinned address last, and when, if somebody did.
+    pub fn pinned_conflict(&self) -> Option<Conflict>
+        ensures { result ≡ self.now.watch.pinned_conflict }
+    {
+        self.watch.pinned_conflict
+    }
+
+    /// Pins a neighbour to a hardware address, in place of the one that it is pinned to, if it is pinned: the guard drops ARP
+    /// packets and neighbour messages of it that tell another one. The host learns the address from the next message that tells
+    /// this one. `NotUnicast` if one of the two isn't unicast, else `TableFull` if it isn't pinned and eight others are.
+    pub fn pin(&mut self, address: IpAddress, hardware: EthernetAddress) -> Result<(), Refusal>
+        ensures pinned { OnOk result (self.new ≡ spec.after_pin address hardware self.old) }
+        ensures why { result_err result ≡ spec.pin_refusal self.old address hardware }
+        ensures refused { OnErr result (self.new ≡ self.old) }
+    {
+        if !address.is_unicast() || !hardware.is_unicast() {
+            return Err(Refusal::NotUnicast);
+        }
+        if self.watch.pin(address, hardware) {
+            Ok(())
+        } else {
+            Err(Refusal::TableFull)
+        }
+    }
+
+    /// Pins a neighbour no more. `NotThere` if it isn't pinned.
+    pub fn unpin(&mut self, address: IpAddress) -> Result<(), Refusal>
+        ensures pinned { OnOk result (self.new ≡ spec.after_unpin address self.old) }
+        ensures why { result_err result ≡ spec.unpin_refusal self.old address }
+        ensures refused { OnErr result (self.new ≡ self.old) }
+    {
+        if self.watch.unpin(address) {
+            Ok(())
+        } else {
+            Err(Refusal::NotThere)
+        }
+    }
+
     /// Whether the host may see a frame that came at a moment.
     #[inline(always)]
     pub(crate) fn admits(&mut self, now: Instant, frame: &[u8]) -> bool
@@ -31,7 +71,8 @@ impl Host {
         ensures rest { self.new ≡ spec.after_arrival now frame.now self.old }
     {
         let (own, neighbors) = (self.interface.ip_addrs(), self.interface.neighbors());
-        self.watch.admits(now, frame, own, neighbors)
+        let hardware = self.interface.hardware_addr();
+        self.watch.admits(now, frame, hardware, own, neighbors)
     }
 
     /// Notes the frame of so many octets in the front of a buffer that is sent at a moment.

@@ -5,6 +5,7 @@ ghost use Rattle.std.specs.Result.{IsErrOf, result_err};
 ghost use Rattle.net_base.specs.Checksum.{ip_mtu_of};
 ghost use Rattle.host_machine.specs.State.Config.{first_host, refusal_of};
 ghost use Rattle.host_machine.specs.State.Host as machine;
+ghost use Rattle.iface_tables.specs.Neighbor.{room_over};
 ghost use Rattle.interface.specs.Stands.{Becomes, StandsFor};
 ghost use Rattle.iface_host.specs.Stands.{IsFirst, capabilities_of, free_storage};
 ghost use Rattle.iface_host.specs.TableRefusals.{settings_refusal, timeout_refusal};
@@ -28,6 +29,9 @@ use std::alloc::{AllocError, Global};
 /// The longest frame, in octets.
 pub const FRAME_LEN: usize = 1514;
 
+/// How many neighbours most hosts have room for.
+pub const NEIGHBORS: usize = 64;
+
 /// How a host is to be made.
 #[derive(Clone, Copy, Debug, PartialEq, Eq)]
 pub struct Settings {
@@ -42,6 +46,9 @@ pub struct Settings {
     pub slaac: bool,
     /// How many sockets may be open at once.
     pub sockets: usize,
+    /// How many neighbours it knows at once, of both families together: [`NEIGHBORS`] for most. 0 is four, for which no
+    /// memory is taken.
+    pub neighbors: usize,
     /// How many frames the link takes one after the other, if that is bounded: the window in a segment of TCP is at most
     /// what so many carry.
     pub burst: Option<usize>,
@@ -78,8 +85,8 @@ impl Host {
     /// A host with no address, no route and no socket, at the moment at which it begins. The first error that applies is
     /// returned: `NotUnicast` if its address on Ethernet isn't unicast; `BadMtu` if its longest packet has less than 576
     /// octets, or its longest frame more than 1,514; `BadTimeout` if fragments are to wait no time, or longer than a day;
-    /// `BadMoment` if it would begin below 0 or above 2^62; `NoMemory` if memory for its interface or for the places of
-    /// its sockets is refused.
+    /// `BadMoment` if it would begin below 0 or above 2^62; `NoMemory` if memory for its interface, its neighbours or the
+    /// places of its sockets is refused.
     pub fn new(alloc: Global, settings: &Settings) -> Result<Host, Refusal>
         ensures made { IfOk result (λ host. IsFirst settings.now host) }
         ensures why { (e : Refusal) → settings_refusal settings.now ≡ Some e → IsErrOf result e }
@@ -101,6 +108,9 @@ impl Host {
             return Err(Refusal::NoMemory);
         };
         let Ok(()) = let_fragments_wait(&mut interface, settings.reassembly_timeout) else {
+            return Err(Refusal::NoMemory);
+        };
+        let Ok(()) = make_room(&mut interface, alloc, settings.neighbors) else {
             return Err(Refusal::NoMemory);
         };
         let places = free_storages(alloc, settings.sockets)?;
@@ -206,6 +216,17 @@ pub(crate) fn let_fragments_wait(
         Ok(()) => Ok(()),
         Err(_) => Err(Refusal::BadTimeout),
     }
+}
+
+/// Makes room for so many neighbours, none of which is known yet; for four if it is none. It fails if memory for them is
+/// refused.
+fn make_room(interface: &mut Interface, alloc: Global, neighbors: usize) -> Result<(), AllocError>
+    ensures { OnOk result
+        (Becomes interface.old interface.new (λ H. machine.with_neighbor_room H (room_over neighbors))) }
+{
+    let storage = Vec::with_capacity(alloc, neighbors)?;
+    interface.set_neighbor_storage(storage);
+    Ok(())
 }
 
 /// So many free places.

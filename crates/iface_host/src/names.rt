@@ -1,5 +1,7 @@
 //! The numbers by which sockets are named.
 ghost use Rattle.std.specs.Prelude.{◌≡◌, ◌<◌, Some, None, IfOk, IfSome, length, replicate, slice_set};
+ghost use Rattle.std.specs.List.{count_by};
+ghost use Rattle.std.specs.Option.{is_none};
 ghost use Rattle.iface_host.specs.Names.{first_unused, handle_named};
 
 use socket_set::SocketHandle;
@@ -48,6 +50,23 @@ impl Names {
         ensures within { IfSome result (λ n. n < length self.now) }
     {
         self.handles.iter().position(|handle| handle.is_none())
+    }
+
+    /// How many numbers there are.
+    pub fn len(&self) -> usize
+        ensures { result ≡ length self.now }
+    {
+        self.handles.len()
+    }
+
+    /// How many numbers name nothing.
+    pub fn count_unused(&self) -> usize
+        ensures { result ≡ count_by is_none self.now }
+    {
+        self.handles
+            .iter()
+            .filter(|handle| handle.is_none())
+            .count()
     }
 
     /// Lets a number name something, or nothing.

@@ -20,8 +20,8 @@ pub struct Known {
 }
 
 impl Host {
-    /// The neighbour at a place of their list, if there is one: at most four stand there, by rising expiry, those whose
-    /// expiry has passed too. On a medium without hardware addresses there is none.
+    /// The neighbour at a place of their list, if there is one: at most as many stand there as there is room for, by rising
+    /// expiry, those whose expiry has passed too. On a medium without hardware addresses there is none.
     pub fn neighbor_at(&self, index: usize) -> Option<Known>
         ensures { IsNeighborAt index result self.now }
     {

@@ -106,7 +106,7 @@ impl Host {
     }
 
     /// The least number that names none. `TableFull` if no number is left, or no place for a socket.
-    pub(crate) fn unused_number(&self) -> Result<u32, Refusal>
+    pub fn unused_number(&self) -> Result<u32, Refusal>
         ensures why { result_err result ≡ opening_refusal self.now }
         ensures unused { IfOk result (λ n. first_unused self.now.names ≡ Some n) }
         ensures within { IfOk result (λ n. n < length self.now.names) }

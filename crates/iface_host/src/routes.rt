@@ -134,7 +134,7 @@ fn copied(list: &[Route]) -> ArrayVec<Route, 4>
 }
 
 /// Replaces the routes of an interface by a list.
-fn put_routes(interface: &mut Interface, list: ArrayVec<Route, 4>)
+pub(crate) fn put_routes(interface: &mut Interface, list: ArrayVec<Route, 4>)
     ensures { Becomes interface.old interface.new (λ H. record H { routes = list.items }) }
 {
     interface.routes_mut().update(move |_| list);

@@ -1,12 +1,13 @@
 //! Interfaces.
-use super::{Addresses, Neighbors, RouteList, Routes, SocketSet};
+use super::{Addresses, RouteList, Routes, SocketSet};
 use crate::guard::{Conflict, Drops, Guard};
-use crate::host::{Counters, Error, FRAME_ROOM, Frame, Host, Settings};
+use crate::host::{Counters, Error, FRAME_ROOM, Frame, Host, Neighbor, Settings};
 use crate::phy::{Device, DeviceCapabilities, Medium, RxToken, TxToken};
-use crate::shared::Shared;
+use crate::shared::{Shared, TCP_SOCKETS, TcpConfig};
 use crate::time::{Duration, Instant};
-use crate::wire::{ETHERNET_HEADER_LEN, HardwareAddress, IpAddress, IpCidr, Ipv4Address, Ipv6Address};
+use crate::wire::{ETHERNET_HEADER_LEN, EthernetAddress, HardwareAddress, IpAddress, IpCidr, Ipv4Address, Ipv6Address};
 use alloc::boxed::Box;
+use alloc::vec::Vec;
 use core::fmt;
 
 /// How an interface is to be made.
@@ -19,8 +20,12 @@ pub struct Config {
     pub hardware_addr: HardwareAddress,
     /// Whether it takes addresses and routes from IPv6 routers (RFC 4862).
     pub slaac: bool,
-    /// How many sockets may be open at once. Memory for their places is taken at once. smoltcp has none such.
+    /// How many sockets may be open at once, but TCP's, which don't count. Memory for their places is taken at once.
+    /// smoltcp has none such.
     pub sockets: u32,
+    /// How many neighbours it knows at once, of both versions together, in memory that is taken at once. 0 is four,
+    /// without such memory. smoltcp sets this when it is compiled.
+    pub neighbors: u32,
     /// How long a packet waits for a neighbour that doesn't answer, before it is given up. Zero is for ever, as in
     /// smoltcp: then one such packet stops its socket.
     pub patience: Duration,
@@ -29,11 +34,13 @@ pub struct Config {
     pub reassembly_timeout: Duration,
     /// The guard in front of it, if there is one. Without hardware addresses it does nothing. smoltcp has none such.
     pub guard: Option<Guard>,
+    /// How connections of TCP are to be made, when the first socket listens or connects. smoltcp has none such.
+    pub tcp: TcpConfig,
 }
 
 impl Config {
-    /// What most programs want, but for the seed, which is 0: 8 sockets, no addresses from routers, a patience of three
-    /// seconds, ten seconds for fragments, and a guard. It is what `iface_config_init` writes.
+    /// What most programs want, but for the seed, which is 0: 8 sockets, 64 neighbours, no addresses from routers, a
+    /// patience of three seconds, ten seconds for fragments, and a guard. It is what `iface_config_init` writes.
     pub fn new(hardware_addr: HardwareAddress) -> Config {
         let settings = Settings::new(hardware_addr);
         Config {
@@ -41,9 +48,11 @@ impl Config {
             hardware_addr,
             slaac: settings.slaac,
             sockets: settings.sockets,
+            neighbors: settings.neighbors,
             patience: settings.patience,
             reassembly_timeout: settings.reassembly_timeout,
             guard: settings.guard,
+            tcp: TcpConfig::default(),
         }
     }
 
@@ -53,7 +62,8 @@ impl Config {
         // Never more than FRAME_ROOM, which has 32 bits.
         settings.frame_len = capabilities.max_transmission_unit.min(FRAME_ROOM) as u32;
         settings.slaac = self.slaac;
-        settings.sockets = self.sockets;
+        settings.sockets = self.sockets.saturating_add(TCP_SOCKETS);
+        settings.neighbors = self.neighbors;
         settings.patience = self.patience;
         settings.reassembly_timeout = self.reassembly_timeout;
         settings.guard = self.guard;
@@ -113,6 +123,10 @@ impl From<Error> for MulticastError {
     }
 }
 
+/// What [`tcp::Socket::connect`](crate::socket::tcp::Socket::connect) takes, to know the interface.
+#[derive(Debug)]
+pub struct Context(pub(crate) Shared);
+
 /// A network interface.
 ///
 /// It goes to another thread, with its sockets:
@@ -142,9 +156,12 @@ impl From<Error> for MulticastError {
 #[derive(Debug)]
 pub struct Interface {
     pub(super) host: Shared,
+    context: Context,
     out: Box<Frame>,
     /// How many packets were given up when it was last asked whether sockets changed.
     given_up: u64,
+    /// Whether a client of DHCP has an event that wasn't told by `sockets_changed`.
+    is_news: bool,
 }
 
 impl Interface {
@@ -162,7 +179,19 @@ impl Interface {
         let host = Host::new(&settings)?;
         let header_len = if capabilities.medium == Medium::Ip { 0 } else { ETHERNET_HEADER_LEN };
         let ip_mtu = settings.frame_len as usize - header_len;
-        Ok(Interface { host: Shared::new(host, ip_mtu), out: Box::new([0; FRAME_ROOM]), given_up: 0 })
+        let host = Shared::new(host, ip_mtu, &config, now);
+        Ok(Interface {
+            context: Context(host.clone()),
+            host,
+            out: Box::new([0; FRAME_ROOM]),
+            given_up: 0,
+            is_news: false,
+        })
+    }
+
+    /// What a socket of TCP connects by.
+    pub fn context(&mut self) -> &mut Context {
+        &mut self.context
     }
 
     /// Its hardware address.
@@ -319,7 +348,12 @@ impl Interface {
         sockets: &mut SocketSet<'_>,
     ) -> PollResult {
         self.check(sockets);
-        while self.take_frame(timestamp, device) {}
+        while self.take_frame(timestamp, device) {
+            // What connections answer goes before the next frame comes: there is room for one packet to a new peer.
+            if self.host.has_tcp() {
+                self.send_frames(timestamp, device);
+            }
+        }
         self.poll_egress(timestamp, device, sockets)
     }
 
@@ -350,6 +384,7 @@ impl Interface {
     ) -> PollIngressSingleResult {
         self.check(sockets);
         let is_taken = self.take_frame(timestamp, device);
+        self.step(timestamp, sockets);
         sockets.wake();
         if !is_taken {
             PollIngressSingleResult::None
@@ -372,22 +407,24 @@ impl Interface {
         sockets: &mut SocketSet<'_>,
     ) -> PollResult {
         self.check(sockets);
-        while let Some(tx) = device.transmit(timestamp) {
-            let Some(len) = self.next_frame(timestamp, sockets).map(<[u8]>::len) else { break };
-            tx.consume(len, |frame| frame.copy_from_slice(&self.out[..len]));
-        }
+        self.step(timestamp, sockets);
+        self.send_frames(timestamp, device);
         sockets.wake();
         if self.sockets_changed() { PollResult::SocketStateChanged } else { PollResult::None }
+    }
+
+    fn send_frames(&mut self, timestamp: Instant, device: &mut (impl Device + ?Sized)) {
+        while let Some(tx) = device.transmit(timestamp) {
+            let Some(len) = self.host.next(timestamp, &mut self.out) else { break };
+            tx.consume(len, |frame| frame.copy_from_slice(&self.out[..len]));
+        }
     }
 
     /// Takes one frame of a device, sends the one in response, and tells whether there was one.
     fn take_frame(&mut self, timestamp: Instant, device: &mut (impl Device + ?Sized)) -> bool {
         let Some((rx, tx)) = device.receive(timestamp) else { return false };
         let (host, out) = (&self.host, &mut self.out);
-        let reply = rx.consume(|frame| {
-            let taken = host.with(|host| host.receive(timestamp, frame, out).map(|frame| frame.map(<[u8]>::len)));
-            taken.ok().flatten()
-        });
+        let reply = rx.consume(|frame| host.receive(timestamp, frame, out));
         if let Some(len) = reply {
             tx.consume(len, |frame| frame.copy_from_slice(&out[..len]));
         }
@@ -395,24 +432,28 @@ impl Interface {
     }
 
     /// Whether sockets may have changed since this was last asked, or told by one of the polls: by a frame that was
-    /// taken and isn't empty, or by a packet of a socket that was sent, dropped or given up. smoltcp has none such: it
-    /// is for [`receive_frame`](Interface::receive_frame) and [`next_frame`](Interface::next_frame).
+    /// taken and isn't empty, by a packet of a socket that was sent, dropped or given up, or by the time, a connection of
+    /// TCP. smoltcp has none such: it is for [`receive_frame`](Interface::receive_frame) and
+    /// [`next_frame`](Interface::next_frame).
     pub fn sockets_changed(&mut self) -> bool {
         let (changed, given_up) = self.host.with(|host| (host.sockets_changed(), host.given_up_count()));
-        changed | (core::mem::replace(&mut self.given_up, given_up) != given_up)
+        let is_given_up = core::mem::replace(&mut self.given_up, given_up) != given_up;
+        changed | is_given_up | self.host.tcp_changed() | core::mem::take(&mut self.is_news)
     }
 
-    /// Takes a frame that is a slice, and shows the one to be sent in response, if any. smoltcp has none such.
+    /// Takes a frame that is a slice, and shows the one to be sent in response, if any. smoltcp has none such. Where there
+    /// are connections of TCP, [`next_frame`](Interface::next_frame) is to be called after each, until it shows none: for
+    /// what they answer to new peers there is little room.
     ///
     /// # Panics
     /// If the sockets are another interface's.
     #[inline]
     pub fn receive_frame(&mut self, timestamp: Instant, frame: &[u8], sockets: &mut SocketSet<'_>) -> Option<&[u8]> {
         self.check(sockets);
-        let out = &mut self.out;
-        let reply = self.host.with(|host| host.receive(timestamp, frame, out));
+        let reply = self.host.receive(timestamp, frame, &mut self.out);
+        self.step(timestamp, sockets);
         sockets.wake();
-        reply.ok()?
+        self.out.get(..reply?)
     }
 
     /// Shows the next frame that is to be sent, if any. Where memory for a frame is refused, what waits is sent another
@@ -423,10 +464,10 @@ impl Interface {
     #[inline]
     pub fn next_frame(&mut self, timestamp: Instant, sockets: &mut SocketSet<'_>) -> Option<&[u8]> {
         self.check(sockets);
-        let out = &mut self.out;
-        let next = self.host.with(|host| host.next(timestamp, out));
+        self.step(timestamp, sockets);
+        let next = self.host.next(timestamp, &mut self.out);
         sockets.wake();
-        next.ok()?
+        self.out.get(..next?)
     }
 
     /// The instant at which it is to be polled again, if no frame comes before and no call changes it: one that has
@@ -437,7 +478,7 @@ impl Interface {
     #[inline]
     pub fn poll_at(&mut self, timestamp: Instant, sockets: &SocketSet<'_>) -> Option<Instant> {
         self.check(sockets);
-        self.host.with(|host| host.poll_at(timestamp))
+        self.host.poll_at(timestamp).into_iter().chain(sockets.poll_at()).min()
     }
 
     /// The time until then: none, if it has passed.
@@ -469,10 +510,40 @@ impl Interface {
         self.host.with(Host::guard_conflict)
     }
 
+    /// Pins a neighbour to a hardware address, in place of the one that it is pinned to. The guard drops ARP packets and
+    /// neighbour messages of it that tell another one. The host learns the address from the next message that tells this
+    /// one, and asks for it as for any other.
+    ///
+    /// # Errors
+    /// [`Error::NotUnicast`] if one of the two isn't unicast, [`Error::TableFull`] if eight others are pinned.
+    pub fn guard_pin<T: Into<IpAddress>>(&mut self, addr: T, hardware_addr: EthernetAddress) -> Result<(), Error> {
+        self.host.with(|host| host.guard_pin(addr.into(), hardware_addr))
+    }
+
+    /// Pins a neighbour no more.
+    ///
+    /// # Errors
+    /// [`Error::NotThere`] if it isn't pinned.
+    pub fn guard_unpin<T: Into<IpAddress>>(&mut self, addr: T) -> Result<(), Error> {
+        self.host.with(|host| host.guard_unpin(addr.into()))
+    }
+
+    /// Who sent the last frame that its guard dropped for telling another hardware address of a pinned neighbour, if there
+    /// was one.
+    pub fn guard_pinned_conflict(&self) -> Option<Conflict> {
+        self.host.with(Host::guard_pinned_conflict)
+    }
+
     /// Its neighbours, by rising instants, those whose instant has passed too: a copy. None are there on a medium
     /// without hardware addresses. smoltcp has none such.
-    pub fn neighbors(&self) -> Neighbors {
-        self.host.with(Neighbors::of)
+    pub fn neighbors(&self) -> Vec<Neighbor> {
+        self.host.with(|host| (0..).map_while(|index| host.neighbor_at(index)).collect())
+    }
+
+    /// Lets the clients of DHCP do what is due.
+    #[inline]
+    fn step(&mut self, timestamp: Instant, sockets: &mut SocketSet<'_>) {
+        self.is_news |= sockets.step(timestamp);
     }
 
     #[inline]

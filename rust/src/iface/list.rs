@@ -1,7 +1,6 @@
-//! Lists in place: of own addresses, routes and neighbours.
-use crate::host::{Host, Neighbor, Route};
-use crate::time::Instant;
-use crate::wire::{EthernetAddress, IpAddress, IpCidr, Ipv4Address};
+//! Lists in place: of own addresses and of routes.
+use crate::host::{Host, Route};
+use crate::wire::{IpAddress, IpCidr, Ipv4Address};
 use core::fmt;
 use core::ops::{Deref, DerefMut};
 
@@ -11,18 +10,12 @@ pub const IFACE_MAX_ADDR_COUNT: usize = 4;
 /// How many routes there may be.
 pub const IFACE_MAX_ROUTE_COUNT: usize = 4;
 
-/// How many neighbours are known at most.
-pub const IFACE_NEIGHBOR_CACHE_COUNT: usize = 4;
-
 /// A list of own addresses with their networks: a copy, which [`update_ip_addrs`](super::Interface::update_ip_addrs)
 /// lends to be changed.
 pub type Addresses = List<IpCidr, IFACE_MAX_ADDR_COUNT>;
 
 /// A list of routes: a copy, which [`Routes::update`](super::Routes::update) lends to be changed.
 pub type RouteList = List<Route, IFACE_MAX_ROUTE_COUNT>;
-
-/// A list of neighbours: a copy.
-pub type Neighbors = List<Neighbor, IFACE_NEIGHBOR_CACHE_COUNT>;
 
 /// A list of at most `N` items. It derefs to a slice of them.
 #[derive(Clone, Copy)]
@@ -33,7 +26,7 @@ pub struct List<T, const N: usize> {
 
 impl<T: Copy, const N: usize> List<T, N> {
     /// What `at` returns for the indices from 0 on, until it returns none. What stands beyond isn't read.
-    fn read(place: T, mut at: impl FnMut(u32) -> Option<T>) -> List<T, N> {
+    pub(crate) fn read(place: T, mut at: impl FnMut(u32) -> Option<T>) -> List<T, N> {
         let mut list = List { places: [place; N], len: 0 };
         for index in 0.. {
             match at(index) {
@@ -109,18 +102,6 @@ impl RouteList {
     /// The first default route of IPv6.
     pub fn get_default_ipv6_route(&self) -> Option<Route> {
         self.iter().copied().find(Route::is_ipv6_gateway)
-    }
-}
-
-impl Neighbors {
-    /// The neighbours of a host.
-    pub(super) fn of(host: &mut Host) -> Neighbors {
-        let place = Neighbor {
-            protocol_addr: IpAddress::v4(0, 0, 0, 0),
-            hardware_addr: EthernetAddress([0; 6]),
-            expires_at: Instant::ZERO,
-        };
-        List::read(place, |index| host.neighbor_at(index))
     }
 }
 

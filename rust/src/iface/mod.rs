@@ -10,9 +10,8 @@ mod socket_set;
 
 pub use crate::guard::{Conflict, Drops, Guard, Rate};
 pub use crate::host::{Counters, Neighbor, Route};
-pub use interface::{Config, Interface, MulticastError, PollIngressSingleResult, PollResult};
-pub use list::{
-    Addresses, IFACE_MAX_ADDR_COUNT, IFACE_MAX_ROUTE_COUNT, IFACE_NEIGHBOR_CACHE_COUNT, List, Neighbors, RouteList,
-};
+pub use crate::shared::TcpConfig;
+pub use interface::{Config, Context, Interface, MulticastError, PollIngressSingleResult, PollResult};
+pub use list::{Addresses, IFACE_MAX_ADDR_COUNT, IFACE_MAX_ROUTE_COUNT, List, RouteList};
 pub use route::{RouteTableFull, Routes};
 pub use socket_set::{AddError, SocketHandle, SocketSet};

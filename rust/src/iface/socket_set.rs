@@ -3,6 +3,7 @@ use super::Interface;
 use crate::host::Error;
 use crate::shared::Shared;
 use crate::socket::{AnySocket, Socket};
+use crate::time::Instant;
 use alloc::vec::Vec;
 use core::fmt;
 
@@ -19,7 +20,8 @@ impl fmt::Display for SocketHandle {
 /// Why a socket isn't in a set, and the socket.
 #[derive(Debug)]
 pub struct AddError<'a> {
-    /// [`Error::TableFull`], [`Error::NoMemory`], or [`Error::BadArgument`] of a raw socket for any version or protocol.
+    /// [`Error::TableFull`], [`Error::NoMemory`], or [`Error::BadArgument`] of a raw socket for any version or protocol;
+    /// [`Error::NotThere`] of a client of DHCP where there are no hardware addresses.
     pub error: Error,
     /// The socket.
     pub socket: Socket<'a>,
@@ -112,6 +114,18 @@ impl<'a> SocketSet<'a> {
     pub(super) fn wake(&mut self) {
         #[cfg(feature = "async")]
         self.sockets.iter_mut().flatten().for_each(Socket::wake);
+    }
+
+    /// Lets the clients of DHCP do what is due, and tells whether one has an event.
+    #[inline]
+    pub(super) fn step(&mut self, timestamp: Instant) -> bool {
+        self.sockets.iter_mut().flatten().fold(false, |is_news, socket| socket.step(timestamp) | is_news)
+    }
+
+    /// When a client of DHCP does something next, if no frame comes.
+    #[inline]
+    pub(super) fn poll_at(&self) -> Option<Instant> {
+        self.sockets.iter().flatten().filter_map(Socket::poll_at).min()
     }
 
     /// The sockets with their handles.

@@ -1,4 +1,5 @@
-//! Sockets: [`udp`], [`icmp`] and [`raw`], and [`segment`] for TCP.
+//! Sockets: [`tcp`], [`udp`], [`icmp`] and [`raw`], and [`segment`] for a TCP of one's own; with the feature `socket-dhcpv4`
+//! clients of DHCP.
 //!
 //! A socket is opened when it is bound in a [`SocketSet`](crate::iface::SocketSet), or when it comes into one and was
 //! bound before. Its queues are the library's: outside a set it has none.
@@ -13,10 +14,13 @@ use core::marker::PhantomData;
 use core::task::Waker;
 use lent::Destination;
 
+#[cfg(feature = "socket-dhcpv4")]
+pub mod dhcpv4;
 pub mod icmp;
 mod lent;
 pub mod raw;
 pub mod segment;
+pub mod tcp;
 pub mod udp;
 
 pub use lent::Lent;
@@ -31,8 +35,13 @@ pub enum Socket<'a> {
     Icmp(icmp::Socket<'a>),
     /// A UDP socket.
     Udp(udp::Socket<'a>),
+    /// A TCP socket.
+    Tcp(tcp::Socket<'a>),
     /// A socket for segments of TCP.
     Segment(segment::Socket<'a>),
+    /// A client of DHCP.
+    #[cfg(feature = "socket-dhcpv4")]
+    Dhcpv4(dhcpv4::Socket<'a>),
 }
 
 impl Socket<'_> {
@@ -42,7 +51,10 @@ impl Socket<'_> {
             Socket::Raw(socket) => socket.core.attach(host),
             Socket::Icmp(socket) => socket.core.attach(host),
             Socket::Udp(socket) => socket.core.attach(host),
+            Socket::Tcp(socket) => socket.attach(host),
             Socket::Segment(socket) => socket.core.attach(host),
+            #[cfg(feature = "socket-dhcpv4")]
+            Socket::Dhcpv4(socket) => socket.attach(host),
         }
     }
 
@@ -53,17 +65,46 @@ impl Socket<'_> {
             Socket::Raw(socket) => socket.core.wake(),
             Socket::Icmp(socket) => socket.core.wake(),
             Socket::Udp(socket) => socket.core.wake(),
+            Socket::Tcp(socket) => socket.wake(),
             Socket::Segment(socket) => socket.core.wake(),
+            #[cfg(feature = "socket-dhcpv4")]
+            Socket::Dhcpv4(socket) => socket.wake(),
         }
     }
 
-    /// Closes it at its host. It stays bound.
+    /// Closes it at its host. It stays bound. A TCP socket keeps its connection.
     pub(crate) fn detach(&mut self) {
         match self {
             Socket::Raw(socket) => socket.core.detach(),
             Socket::Icmp(socket) => socket.core.detach(),
             Socket::Udp(socket) => socket.core.detach(),
+            Socket::Tcp(_) => {}
             Socket::Segment(socket) => socket.core.detach(),
+            #[cfg(feature = "socket-dhcpv4")]
+            Socket::Dhcpv4(socket) => socket.detach(),
+        }
+    }
+
+    /// Lets a client of DHCP do what is due, and tells whether it has an event.
+    #[inline]
+    pub(crate) fn step(&mut self, timestamp: Instant) -> bool {
+        match self {
+            #[cfg(feature = "socket-dhcpv4")]
+            Socket::Dhcpv4(socket) => socket.step(timestamp),
+            _ => {
+                let _ = timestamp;
+                false
+            }
+        }
+    }
+
+    /// When a client of DHCP does something next, if no frame comes.
+    #[inline]
+    pub(crate) fn poll_at(&self) -> Option<Instant> {
+        match self {
+            #[cfg(feature = "socket-dhcpv4")]
+            Socket::Dhcpv4(socket) => socket.poll_at(),
+            _ => None,
         }
     }
 }
@@ -292,15 +333,14 @@ impl<K: Kind> Core<K> {
 
     fn detach(&mut self) {
         if let (Some(host), Some(number)) = (self.host.take(), self.number.take()) {
-            // It is open by this number.
-            let _ = host.with(|host| host.close(number));
+            host.close(number);
         }
     }
 
     fn open(&mut self, host: &Shared, endpoint: K::Endpoint) -> Result<(), Error> {
         let octets = self.rooms.received.octets as usize;
         self.buffer.try_reserve_exact(octets.saturating_sub(self.buffer.len())).map_err(|_| Error::NoMemory)?;
-        self.number = Some(host.with(|host| {
+        self.number = Some(host.open(|host| {
             let number = K::open(host, endpoint, self.rooms)?;
             if let Some(hop_limit) = self.hop_limit {
                 // It is open by this number, and the limit isn't 0.

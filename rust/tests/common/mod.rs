@@ -1,6 +1,8 @@
 //! Frames by hand, from the RFCs (826, 768, 791, 4443, 4861, 8200), and a host for tests.
 #![allow(dead_code)]
 
+pub mod dhcp;
+
 use fumitorygate::time::Instant;
 use fumitorygate::wire::{EthernetAddress, HardwareAddress, IpAddress, IpCidr, IpEndpoint, Ipv4Address, Ipv6Address};
 use fumitorygate::{FRAME_ROOM, Host, Rooms, Settings};

@@ -1,0 +1,97 @@
+#!/bin/bash
+# Runs the example that leases its address, and dnsmasq as its server, in a network namespace of their own: a lease that is got
+# and renewed, a server that is gone and back, and one that refuses. It changes nothing outside that namespace, and ends by
+# itself after at most a minute.
+#
+#   dhcp.sh PROGRAM      the built dhcp_host
+#
+# It needs: root (for the namespace and the device), unshare (util-linux), ip (iproute2), ping (iputils), dnsmasq (Debian's
+# dnsmasq-base), /dev/net/tun.
+set -eu
+program=$(realpath "$1")
+
+need() {
+    echo "dhcp.sh: this needs $1" >&2
+    exit 2
+}
+
+if [ -z "${IS_INSIDE:-}" ]; then
+    [ "$(uname)" = Linux ] || need "Linux"
+    [ "$(id -u)" = 0 ] || need "root, for a network namespace and a TAP device"
+    [ -c /dev/net/tun ] || need "/dev/net/tun (modprobe tun)"
+    for tool in unshare ip ping dnsmasq; do
+        command -v "$tool" >/dev/null || need "$tool"
+    done
+    exec env IS_INSIDE=1 timeout 90 unshare -n -- "$0" "$program"
+fi
+
+work=$(mktemp -d)
+chmod 755 "$work"
+server=
+host=
+finish() {
+    [ -z "$server" ] || kill "$server" 2>/dev/null || true
+    [ -z "$host" ] || kill "$host" 2>/dev/null || true
+    wait
+    rm -rf "$work"
+}
+trap finish EXIT
+
+ip link set lo up
+ip tuntap add dev tap0 mode tap
+ip addr add 192.168.69.100/24 dev tap0
+ip link set tap0 up
+
+# A server that leases two minutes, which are renewed after four seconds, and from the ninth on by any server.
+serve() {
+    dnsmasq -k -C /dev/null -p 0 -i tap0 --bind-interfaces "--dhcp-range=$1,$2,120s" --dhcp-authoritative --no-ping \
+        --dhcp-option=option:T1,4 --dhcp-option=option:T2,9 --dhcp-option=option:dns-server,192.168.69.100,192.168.69.101 \
+        "--dhcp-leasefile=$work/$3" --pid-file= --log-facility=- >>"$work/server" 2>&1 &
+    server=$!
+}
+
+leave() {
+    kill "$server"
+    wait "$server" || true
+    server=
+}
+
+status=0
+# So many lines of the host's that match, within so many seconds.
+prints() {
+    local i
+    for i in $(seq 1 $(($3 * 10))); do
+        [ "$(grep -c "$1" "$work/host" || true)" -ge "$2" ] && return
+        sleep 0.1
+    done
+    echo "dhcp.sh: within $3 s there weren't $2 lines '$1'" >&2
+    cat "$work/host" "$work/server" >&2
+    exit 1
+}
+
+ours='^leased 192.168.69.5[0-9]/24 by 192.168.69.100, router 192.168.69.100, names 192.168.69.100, names 192.168.69.101, for 1[12][0-9] s'
+serve 192.168.69.50 192.168.69.59 leases
+"$program" tap0 80 >"$work/host" &
+host=$!
+echo "== a lease"
+prints "$ours" 1 10
+address=$(sed -n 's|leased \(.*\)/24.*|\1|p' "$work/host" | head -1)
+ping -q -c 3 -i 0.2 "$address" || status=1
+echo "== renewed"
+prints "$ours" 2 10
+echo "== the server is gone, and back, when any server is asked"
+leave
+sleep 6
+serve 192.168.69.50 192.168.69.59 leases
+prints "$ours" 3 15
+ping -q -c 3 -i 0.2 "$address" || status=1
+[ "$(grep -c '^no lease' "$work/host" || true)" = 0 ] || status=1
+echo "== another server refuses, and leases another address"
+leave
+serve 192.168.69.150 192.168.69.159 others
+prints '^no lease' 1 15
+prints '^leased 192.168.69.15[0-9]/24' 1 20
+! ping -q -c 1 -W 1 "$address" || status=1
+ping -q -c 3 -i 0.2 "$(sed -n 's|leased \(192.168.69.15.\)/24.*|\1|p' "$work/host" | head -1)" || status=1
+cat "$work/host"
+exit $status

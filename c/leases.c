@@ -1,0 +1,299 @@
+/* What the calls for DHCP do, against a server's messages by RFC 2131: a lease, its renewal, a refusal, a lease that ends; and wrong
+ * use, which each call refuses by its code. */
+#include "iface.h"
+#include "lease_reply.h"
+
+#include <stdio.h>
+
+static int failures, checks;
+
+static uint8_t sent[IFACE_FRAME_ROOM], frame[IFACE_FRAME_ROOM], out[IFACE_FRAME_ROOM];
+
+static const int64_t second = 1000000;
+
+static void wants(const char *what, uint64_t is, uint64_t want) {
+    checks++;
+    if (is == want) return;
+    failures++;
+    printf("WRONG: %s: %llu, not %llu\n", what, (unsigned long long)is, (unsigned long long)want);
+}
+
+static void must(const char *what, uint32_t code) {
+    wants(what, code, IFACE_OK);
+}
+
+static void wants_octets(const char *what, const uint8_t *is, const char *want, size_t n) {
+    wants(what, memcmp(is, want, n) == 0, 1);
+}
+
+static void make(iface *host, uint8_t medium, uint32_t sockets) {
+    struct iface_config config;
+    iface_config_init(&config);
+    config.seed = 1, config.medium = medium, config.sockets = sockets;
+    config.hardware_address[0] = 2, config.hardware_address[5] = 1;
+    must("host", iface_new(host, &config));
+}
+
+static uint32_t poll_once(iface_dhcp *client, iface *host, int64_t now) {
+    uint32_t event = 77;
+    must("poll", iface_dhcp_poll(client, host, now, &event));
+    return event;
+}
+
+/* How many octets the next frame has that the host sends. */
+static size_t next_frame(iface *host, int64_t now) {
+    size_t n = 77;
+    must("next", iface_next(host, now, sent, sizeof sent, &n));
+    return n;
+}
+
+/* The value of an option of the message that was sent, or nothing. */
+static const uint8_t *option(uint8_t code) {
+    for (const uint8_t *at = sent + AT_OPTIONS; *at != 255; at += 2 + at[1])
+        if (*at == code) return at + 2;
+    return NULL;
+}
+
+static void wants_option(const char *what, uint8_t code, const char *want, size_t n) {
+    const uint8_t *at = option(code);
+    wants(what, at && at[-1] == n && memcmp(at, want, n) == 0, 1);
+}
+
+/* What the host answers to the message that it sent last. */
+static void answer(iface *host, int64_t now, uint8_t type, uint8_t last, uint8_t seconds) {
+    size_t n = 77, length = lease_reply(frame, sent, type, last, seconds);
+    must("receive", iface_receive(host, now, frame, length, out, sizeof out, &n));
+    wants("no frame in response", n, 0);
+}
+
+/* A message to all servers, of a host without an address (RFC 2131 4.1), of a type. */
+static void wants_broadcast(iface *host, int64_t now, const char *type) {
+    wants("a message", next_frame(host, now) > AT_OPTIONS, 1);
+    wants_octets("to everybody", sent, "\377\377\377\377\377\377\2\0\0\0\0\1\10\0", 14);
+    wants_octets("from no address", sent + AT_IP + 12, "\0\0\0\0\377\377\377\377", 8);
+    wants_octets("from port 68 to port 67", sent + AT_UDP, "\0\104\0\103", 4);
+    wants_octets("a request over Ethernet", sent + AT_MESSAGE, "\1\1\6\0", 4);
+    wants_octets("the broadcast flag", sent + AT_XID + 6, "\200\0\0\0\0\0", 6);
+    wants_octets("its hardware address", sent + AT_CLIENT, "\2\0\0\0\0\1", 6);
+    wants_octets("the cookie", sent + AT_COOKIE, "\143\202\123\143", 4);
+    wants_option("its type", 53, type, 1);
+    wants("nothing more", next_frame(host, now), 0);
+}
+
+/* A lease of so many seconds that begins at a moment: DISCOVER, OFFER, REQUEST, ACK (RFC 2131 3.1). */
+static void lease(iface_dhcp *client, iface *host, int64_t now, uint8_t last, uint8_t seconds) {
+    const char wanted[] = {(char)192, (char)168, 69, (char)last};
+    wants("no event", poll_once(client, host, now), IFACE_DHCP_NOTHING);
+    wants_broadcast(host, now, "\1");
+    wants("no address is asked for", option(50) == NULL, 1);
+    answer(host, now, OFFER, last, seconds);
+    wants("no event", poll_once(client, host, now), IFACE_DHCP_NOTHING);
+    wants_broadcast(host, now, "\3");
+    wants_option("what was offered", 50, wanted, 4);
+    wants_option("of this server", 54, "\300\250\105\144", 4);
+    answer(host, now, ACK, last, seconds);
+    wants("a lease", poll_once(client, host, now), IFACE_DHCP_CONFIGURED);
+    wants("told once", poll_once(client, host, now), IFACE_DHCP_NOTHING);
+    must("apply", iface_dhcp_apply(client, host));
+}
+
+static void wants_v4(const char *what, const struct iface_address *is, uint8_t last) {
+    const uint8_t want[4] = {192, 168, 69, last};
+    wants(what, is->version == 4 && memcmp(is->octets, want, 4) == 0, 1);
+}
+
+static void wants_own(iface *host, uint8_t last) {
+    struct iface_address a, network;
+    uint8_t bits = 77;
+    int64_t end = 77;
+    must("own address", iface_address_at(host, 0, &a, &bits));
+    wants_v4("own address", &a, last), wants("its network", bits, 24);
+    wants("no other", iface_address_at(host, 1, &a, &bits), IFACE_NOT_THERE);
+    must("route", iface_route_at(host, 0, &network, &bits, &a, &end));
+    wants_octets("to all", network.octets, "\0\0\0\0", 4), wants("of no prefix", bits, 0);
+    wants_v4("by its router", &a, 1);
+    wants("for good", end == IFACE_NEVER, 1);
+    wants("no other", iface_route_at(host, 1, &network, &bits, &a, &end), IFACE_NOT_THERE);
+}
+
+static void wants_nothing_own(iface *host) {
+    struct iface_address a, network;
+    uint8_t bits;
+    int64_t end;
+    wants("no address", iface_address_at(host, 0, &a, &bits), IFACE_NOT_THERE);
+    wants("no route", iface_route_at(host, 0, &network, &bits, &a, &end), IFACE_NOT_THERE);
+}
+
+static void leases_and_renews(void) {
+    iface host = IFACE_NONE;
+    iface_dhcp client = IFACE_DHCP_NONE;
+    struct iface_address none = IFACE_ANY;
+    struct iface_lease got;
+    int64_t at = 77, now = 5 * second;
+    size_t n;
+    make(&host, IFACE_ETHERNET, 2);
+    must("client", iface_dhcp_new(&client, &host, 42, &none));
+    must("due", iface_dhcp_poll_at(&client, &at)), wants("at once", (uint64_t)at, 0);
+    wants("no lease", iface_dhcp_lease(&client, &got), IFACE_EMPTY);
+    lease(&client, &host, now, 50, 120);
+    must("lease", iface_dhcp_lease(&client, &got));
+    wants_v4("address", &got.address, 50), wants("prefix", got.prefix_len, 24);
+    wants_v4("router", &got.router, 1), wants_v4("server", &got.server, 100);
+    wants_v4("names", &got.dns_servers[0], 2), wants_v4("names", &got.dns_servers[1], 3);
+    wants("no third server of names", got.dns_servers[2].version, 0);
+    wants("its end", (uint64_t)got.expires_at, (uint64_t)(now + 120 * second));
+    wants_own(&host, 50);
+    /* half of the time later the server is asked, and the host asks for its hardware address first (RFC 2131 4.4.5) */
+    must("due", iface_dhcp_poll_at(&client, &at)), wants("half of the time later", (uint64_t)at, (uint64_t)(now + 60 * second));
+    wants("before that nothing", poll_once(&client, &host, at - 1), IFACE_DHCP_NOTHING), wants("no frame", next_frame(&host, at - 1), 0);
+    now = at;
+    wants("no event", poll_once(&client, &host, now), IFACE_DHCP_NOTHING);
+    wants("a request", next_frame(&host, now), 42), wants_octets("of ARP", sent + 12, "\10\6", 2);
+    wants_octets("for the server", sent + 38, "\300\250\105\144", 4);
+    memset(frame, 0, 42), memcpy(frame, "\2\0\0\0\0\1\2\0\0\0\0\144\10\6\0\1\10\0\6\4\0\2\2\0\0\0\0\144\300\250\105\144\2\0\0\0\0\1\300\250\105\62", 42);
+    must("reply", iface_receive(&host, now, frame, 42, out, sizeof out, &n));
+    wants("the message", next_frame(&host, now) > AT_OPTIONS, 1);
+    wants_octets("to the server", sent, "\2\0\0\0\0\144\2\0\0\0\0\1\10\0", 14);
+    wants_octets("from its address", sent + AT_IP + 12, "\300\250\105\62\300\250\105\144", 8);
+    wants_octets("which it has", sent + AT_XID + 8, "\300\250\105\62", 4);
+    wants_option("a request", 53, "\3", 1);
+    wants("no server is named", option(54) == NULL && option(50) == NULL, 1);
+    answer(&host, now, ACK, 50, 120);
+    wants("renewed", poll_once(&client, &host, now), IFACE_DHCP_CONFIGURED);
+    must("apply", iface_dhcp_apply(&client, &host));
+    must("lease", iface_dhcp_lease(&client, &got)), wants("a later end", (uint64_t)got.expires_at, (uint64_t)(now + 120 * second));
+    wants_own(&host, 50);
+    /* the neighbour is still known, since nothing changed */
+    struct iface_address neighbor;
+    uint8_t hardware[6];
+    must("neighbour", iface_neighbor_at(&host, 0, &neighbor, hardware, &at)), wants_v4("the server", &neighbor, 100);
+    /* without an answer it ends */
+    wants("not before", poll_once(&client, &host, got.expires_at - 1), IFACE_DHCP_NOTHING);
+    wants("its end", poll_once(&client, &host, got.expires_at), IFACE_DHCP_DECONFIGURED);
+    must("apply", iface_dhcp_apply(&client, &host));
+    wants_nothing_own(&host);
+    wants("no lease", iface_dhcp_lease(&client, &got), IFACE_EMPTY);
+    must("free", iface_dhcp_free(&client, &host));
+    must("free", iface_free(&host));
+}
+
+static void begins_anew_after_a_refusal(void) {
+    iface host = IFACE_NONE;
+    iface_dhcp client = IFACE_DHCP_NONE;
+    struct iface_address known = {4, {192, 168, 69, 7}};
+    struct iface_queue received, to_send;
+    int64_t now = 0;
+    make(&host, IFACE_ETHERNET, 8);
+    must("client", iface_dhcp_new(&client, &host, 42, &known));
+    wants("no event", poll_once(&client, &host, now), IFACE_DHCP_NOTHING);
+    wants_broadcast(&host, now, "\3");
+    wants_option("what it had", 50, "\300\250\105\7", 4);
+    wants("no server is named", option(54) == NULL, 1);
+    answer(&host, now, NAK, 0, 0);
+    lease(&client, &host, now + 3 * second, 51, 120);
+    wants_own(&host, 51);
+    wants("the raw socket is closed", iface_queues(&host, 1, &received, &to_send), IFACE_NO_SOCKET);
+    must("its UDP socket", iface_queues(&host, 0, &received, &to_send));
+    must("reset", iface_dhcp_reset(&client));
+    wants_own(&host, 51);
+    wants("gone", poll_once(&client, &host, now + 4 * second), IFACE_DHCP_DECONFIGURED);
+    must("apply", iface_dhcp_apply(&client, &host));
+    wants_nothing_own(&host);
+    must("free", iface_dhcp_free(&client, &host));
+    wants("its socket is closed", iface_queues(&host, 0, &received, &to_send), IFACE_NO_SOCKET);
+    must("free", iface_free(&host));
+}
+
+/* Other messages than those that are waited for. */
+static void ignores_others(void) {
+    iface host = IFACE_NONE;
+    iface_dhcp client = IFACE_DHCP_NONE;
+    struct iface_address none = IFACE_ANY;
+    struct iface_lease got;
+    size_t n, length;
+    make(&host, IFACE_ETHERNET, 2);
+    must("client", iface_dhcp_new(&client, &host, 42, &none));
+    wants("no event", poll_once(&client, &host, 0), IFACE_DHCP_NOTHING);
+    wants_broadcast(&host, 0, "\1");
+    answer(&host, 0, ACK, 50, 120); /* no request was sent */
+    wants("no event", poll_once(&client, &host, 0), IFACE_DHCP_NOTHING), wants("no message", next_frame(&host, 0), 0);
+    for (size_t at = AT_XID; at <= AT_CLIENT + 5; at += at == AT_XID ? AT_CLIENT + 5 - AT_XID : 1) {
+        length = lease_reply(frame, sent, OFFER, 50, 120), frame[at] ^= 1; /* another number, another hardware address */
+        must("receive", iface_receive(&host, 0, frame, length, out, sizeof out, &n));
+        wants("no event", poll_once(&client, &host, 0), IFACE_DHCP_NOTHING), wants("no message", next_frame(&host, 0), 0);
+    }
+    length = lease_reply(frame, sent, OFFER, 50, 120), frame[AT_UDP + 1] = 66; /* another port */
+    must("receive", iface_receive(&host, 0, frame, length, out, sizeof out, &n));
+    wants("no event", poll_once(&client, &host, 0), IFACE_DHCP_NOTHING), wants("no message", next_frame(&host, 0), 0);
+    wants("no lease", iface_dhcp_lease(&client, &got), IFACE_EMPTY);
+    must("apply", iface_dhcp_apply(&client, &host)), wants_nothing_own(&host);
+    must("free", iface_dhcp_free(&client, &host));
+    must("free", iface_free(&host));
+}
+
+static void refuses(void) {
+    iface host = IFACE_NONE, other = IFACE_NONE;
+    iface_dhcp client = IFACE_DHCP_NONE;
+    struct iface_address none = IFACE_ANY, bad = {6, {0}}, a = {4, {10, 0, 0, 1}};
+    struct iface_lease got = {.prefix_len = 77};
+    struct iface_rooms rooms = IFACE_ROOMS(1, 64);
+    struct iface_endpoint end = {IFACE_ANY, 9};
+    uint32_t event = 77, socket;
+    int64_t at = 77;
+    wants("no client", iface_dhcp_poll(&client, &host, 0, &event), IFACE_NO_CLIENT);
+    wants("no client", iface_dhcp_poll_at(&client, &at), IFACE_NO_CLIENT);
+    wants("no client", iface_dhcp_lease(&client, &got), IFACE_NO_CLIENT);
+    wants("no client", iface_dhcp_apply(&client, &host), IFACE_NO_CLIENT);
+    wants("no client", iface_dhcp_reset(&client), IFACE_NO_CLIENT);
+    wants("no client", iface_dhcp_free(&client, &host), IFACE_NO_CLIENT);
+    wants("bad argument first", iface_dhcp_new(&client, &host, 1, &bad), IFACE_BAD_ARGUMENT);
+    wants("no host", iface_dhcp_new(&client, &host, 1, &none), IFACE_NO_HOST);
+    make(&host, IFACE_IP, 2);
+    wants("no hardware addresses", iface_dhcp_new(&client, &host, 1, &none), IFACE_NOT_THERE);
+    must("free", iface_free(&host));
+    make(&host, IFACE_ETHERNET, 1);
+    must("socket", iface_udp_open(&host, &end, &rooms, &socket));
+    wants("no place", iface_dhcp_new(&client, &host, 1, &none), IFACE_TABLE_FULL);
+    must("close", iface_close(&host, socket));
+    must("client", iface_dhcp_new(&client, &host, 1, &none));
+    iface_dhcp copy = client;
+    wants("a client is there", iface_dhcp_new(&client, &host, 1, &bad), IFACE_HAS_CLIENT);
+    wants("handle kept", memcmp(&copy, &client, sizeof client) == 0, 1);
+    wants("moment", iface_dhcp_poll(&client, &host, -1, &event), IFACE_BAD_MOMENT);
+    wants("moment", iface_dhcp_poll(&client, &host, IFACE_LAST_MOMENT + 1, &event), IFACE_BAD_MOMENT);
+    wants("no host", iface_dhcp_poll(&client, &other, 0, &event), IFACE_NO_HOST);
+    wants("no host", iface_dhcp_apply(&client, &other), IFACE_NO_HOST);
+    make(&other, IFACE_ETHERNET, 8);
+    wants("another host", iface_dhcp_poll(&client, &other, 0, &event), IFACE_NO_SOCKET);
+    wants("no lease", iface_dhcp_lease(&client, &got), IFACE_EMPTY);
+    wants("nothing written", event == 77 && at == 77 && got.prefix_len == 77, 1);
+    /* without a place for the raw socket the message is lost, and sent again later */
+    wants("no event", poll_once(&client, &host, 0), IFACE_DHCP_NOTHING), wants("no frame", next_frame(&host, 0), 0);
+    must("due", iface_dhcp_poll_at(&client, &at)), wants("later", at >= 3 * second && at <= 5 * second, 1);
+    must("free", iface_dhcp_free(&client, &other));
+    wants("free again", iface_dhcp_free(&client, &other), IFACE_NO_CLIENT);
+    must("free", iface_free(&host)), must("free", iface_free(&other));
+    /* with four own addresses there is no room for that of a lease, and nothing changes until there is */
+    make(&host, IFACE_ETHERNET, 2);
+    must("client", iface_dhcp_new(&client, &host, 1, &none));
+    for (uint8_t i = 0; i < 4; i++) a.octets[3] = (uint8_t)(i + 1), must("address", iface_add_address(&host, &a, 8));
+    must("poll", iface_dhcp_poll(&client, &host, 0, &event)), next_frame(&host, 0), answer(&host, 0, OFFER, 50, 120);
+    must("poll", iface_dhcp_poll(&client, &host, 0, &event)), next_frame(&host, 0), answer(&host, 0, ACK, 50, 120);
+    must("poll", iface_dhcp_poll(&client, &host, 0, &event)), wants("a lease", event, IFACE_DHCP_CONFIGURED);
+    wants("no room", iface_dhcp_apply(&client, &host), IFACE_TABLE_FULL);
+    wants("four are there", iface_address_at(&host, 3, &a, &got.prefix_len), IFACE_OK), wants("the fourth", a.octets[3], 4);
+    must("remove", iface_remove_address(&host, &a, 8));
+    must("apply", iface_dhcp_apply(&client, &host));
+    must("the fourth", iface_address_at(&host, 3, &a, &got.prefix_len)), wants_v4("is the lease's", &a, 50);
+    must("free", iface_dhcp_free(&client, &other));
+    must("free", iface_free(&host));
+}
+
+int main(void) {
+    leases_and_renews();
+    begins_anew_after_a_refusal();
+    ignores_others();
+    refuses();
+    printf("leases: %d checks: %d wrong\n", checks, failures);
+    return failures != 0;
+}

@@ -1,0 +1,475 @@
+/* What the calls for connections of TCP do, against a peer's segments that are computed here by RFC 9293: handshakes both ways, octets
+ * both ways, half-close, resets, names, full tables; and wrong use, which each call refuses by its code. The link has no hardware
+ * addresses, so that a frame is a packet. */
+#include "iface.h"
+
+#include <stdio.h>
+#include <string.h>
+
+static int failures, checks;
+
+static uint8_t sent[IFACE_FRAME_ROOM], out[IFACE_FRAME_ROOM], octets[IFACE_FRAME_ROOM];
+
+static const int64_t second = 1000000;
+
+enum { FIN = 1, SYN = 2, RST = 4, PSH = 8, ACK = 16 };
+
+/* Where a peer stands in a connection: its port, its next number, and what it expects. */
+struct peer {
+    uint16_t port, to;
+    uint32_t seq, ack;
+};
+
+/* A segment that the host sent. */
+struct segment {
+    uint16_t from, to, window, mss;
+    uint32_t seq, ack;
+    uint8_t flags;
+    size_t length;
+    const uint8_t *payload;
+};
+
+static void wants(const char *what, uint64_t is, uint64_t want) {
+    checks++;
+    if (is == want) return;
+    failures++;
+    printf("WRONG: %s: %llu, not %llu\n", what, (unsigned long long)is, (unsigned long long)want);
+}
+
+static void must(const char *what, uint32_t code) {
+    wants(what, code, IFACE_OK);
+}
+
+static void put(uint8_t *at, size_t n, uint32_t number) {
+    for (size_t i = n; i-- > 0; number >>= 8) at[i] = (uint8_t)number;
+}
+
+static uint32_t get(const uint8_t *at, size_t n) {
+    uint32_t number = 0;
+    for (size_t i = 0; i < n; i++) number = number << 8 | at[i];
+    return number;
+}
+
+/* The sum of RFC 1071 over octets, after another. */
+static uint32_t sum_of(const uint8_t *at, size_t n, uint32_t sum) {
+    for (size_t i = 0; i < n; i++) sum += (uint32_t)at[i] << (i % 2 ? 0 : 8);
+    while (sum >> 16) sum = (sum & 0xffff) + (sum >> 16);
+    return sum;
+}
+
+/* The sum of a segment in a packet of IPv4, with the pseudo header (RFC 9293 3.1). */
+static uint32_t sum_of_segment(const uint8_t *packet, size_t length) {
+    return sum_of(packet + 20, length - 20, sum_of(packet + 12, 8, 6 + (uint32_t)(length - 20)));
+}
+
+/* Hands the host a segment of a peer at 10.0.0.2 to 10.0.0.1. */
+static void come(iface *host, int64_t now, const struct peer *p, uint8_t flags, const char *text) {
+    uint8_t packet[600] = {0x45, 0, 0, 0, 0, 0, 0x40, 0, 64, 6, 0, 0, 10, 0, 0, 2, 10, 0, 0, 1};
+    size_t n = 77, length = 40 + strlen(text);
+    put(packet + 2, 2, (uint32_t)length);
+    put(packet + 10, 2, 0xffff & ~sum_of(packet, 20, 0));
+    put(packet + 20, 2, p->port), put(packet + 22, 2, p->to), put(packet + 24, 4, p->seq), put(packet + 28, 4, p->ack);
+    packet[32] = 0x50, packet[33] = flags;
+    put(packet + 34, 2, 8192);
+    memcpy(packet + 40, text, length - 40);
+    put(packet + 36, 2, 0xffff & ~sum_of_segment(packet, length));
+    must("receive", iface_receive(host, now, packet, length, out, sizeof out, &n));
+    wants("no frame in response", n, 0);
+}
+
+/* The next segment that the host sends, with a right checksum; or there is none, of length -1 and no flags. */
+static struct segment next(iface *host, int64_t now) {
+    struct segment s = {.length = (size_t)-1};
+    size_t n = 77;
+    must("next", iface_next(host, now, sent, sizeof sent, &n));
+    if (n == 0) return s;
+    wants("a header without options", sent[0], 0x45), wants("of TCP", sent[9], 6), wants("its length", get(sent + 2, 2), n);
+    wants("between these", memcmp(sent + 12, "\12\0\0\1\12\0\0\2", 8) == 0, 1);
+    wants("its sum", sum_of(sent, 20, 0), 0xffff), wants("the segment's", sum_of_segment(sent, n), 0xffff);
+    s.from = (uint16_t)get(sent + 20, 2), s.to = (uint16_t)get(sent + 22, 2);
+    s.seq = get(sent + 24, 4), s.ack = get(sent + 28, 4);
+    s.flags = sent[33], s.window = (uint16_t)get(sent + 34, 2);
+    s.payload = sent + 20 + (sent[32] >> 4) * 4, s.length = n - 20 - (size_t)(sent[32] >> 4) * 4;
+    for (const uint8_t *o = sent + 40; o < s.payload && *o != 0; o += *o == 1 ? 1 : o[1])
+        if (*o == 2) s.mss = (uint16_t)get(o + 2, 2);
+    return s;
+}
+
+static struct segment turn(iface_streams *tcp, iface *host, int64_t now) {
+    must("poll", iface_streams_poll(tcp, host, now));
+    return next(host, now);
+}
+
+static void wants_nothing(const char *what, iface_streams *tcp, iface *host, int64_t now) {
+    wants(what, turn(tcp, host, now).length, (size_t)-1);
+}
+
+static void wants_state(iface_streams *tcp, const struct iface_stream *s, uint32_t want) {
+    uint32_t is = 77;
+    must("state", iface_stream_state(tcp, s, &is)), wants("its state", is, want);
+}
+
+static void wants_ending(iface_streams *tcp, const struct iface_stream *s, uint32_t want) {
+    uint32_t is = 77;
+    must("ending", iface_stream_ending(tcp, s, &is)), wants("why it ended", is, want);
+}
+
+static void make(iface *host, uint32_t sockets) {
+    struct iface_config config;
+    struct iface_address own = {4, {10, 0, 0, 1}};
+    iface_config_init(&config);
+    config.seed = 1, config.medium = IFACE_IP, config.frame_len = 1500, config.sockets = sockets;
+    must("host", iface_new(host, &config));
+    must("address", iface_add_address(host, &own, 24));
+}
+
+static void make_streams(iface_streams *tcp, iface *host, uint32_t places) {
+    struct iface_streams_config config;
+    iface_streams_config_init(&config);
+    for (uint8_t i = 0; i < 32; i++) config.number_key[i] = (uint8_t)(i + 1);
+    config.table_key[0] = 7, config.table_key[1] = 69, config.places = places, config.ack_delay = 0;
+    must("connections", iface_streams_new(tcp, host, &config));
+}
+
+static size_t listen_at(iface_streams *tcp, uint16_t port, uint32_t backlog) {
+    struct iface_endpoint local = {IFACE_ANY, port};
+    size_t listener = 77;
+    must("listen", iface_stream_listen(tcp, &local, backlog, &listener));
+    return listener;
+}
+
+static const struct iface_endpoint at_peer = {{4, {10, 0, 0, 2}}, 80};
+
+/* A peer opens a connection to a port (RFC 9293 3.5, figure 6). */
+static struct peer come_in(iface_streams *tcp, iface *host, int64_t now, uint16_t port, uint16_t to) {
+    struct peer p = {port, to, 1000, 0};
+    come(host, now, &p, SYN, "");
+    struct segment s = turn(tcp, host, now);
+    wants("a SYN that acknowledges", s.flags, SYN | ACK), wants("its number", s.ack, 1001);
+    wants("from the port", s.from, to), wants("to the peer", s.to, port), wants("40 less than a packet", s.mss, 1460);
+    p.seq = 1001, p.ack = s.seq + 1;
+    come(host, now, &p, ACK, "");
+    wants_nothing("nothing more", tcp, host, now);
+    return p;
+}
+
+/* The host opens one to the peer's port 80, from a port. */
+static struct peer go_out(iface_streams *tcp, iface *host, int64_t now, uint16_t port, struct iface_stream *stream) {
+    struct iface_endpoint local = {IFACE_ANY, port};
+    must("connect", iface_stream_connect(tcp, host, now, &local, &at_peer, stream));
+    wants_state(tcp, stream, IFACE_SYN_SENT);
+    struct segment s = turn(tcp, host, now);
+    wants("a SYN", s.flags, SYN), wants("from the port", s.from, port), wants("to port 80", s.to, 80);
+    wants("without octets", s.length, 0), wants("40 less than a packet", s.mss, 1460);
+    struct peer p = {80, port, 5000, s.seq + 1};
+    come(host, now, &p, SYN | ACK, "");
+    p.seq++;
+    s = turn(tcp, host, now);
+    wants("it is acknowledged", s.flags, ACK), wants("its number", s.ack, 5001), wants("after the SYN", s.seq, p.ack);
+    wants_state(tcp, stream, IFACE_ESTABLISHED);
+    return p;
+}
+
+static void wants_rooms(iface_streams *tcp, const struct iface_stream *s, size_t writable, size_t readable) {
+    size_t w = 77, r = 77;
+    must("rooms", iface_stream_rooms(tcp, s, &w, &r)), wants("room to write", w, writable), wants("octets to read", r, readable);
+}
+
+/* Its ends are the host's port, and the peer's. */
+static void wants_ends(iface_streams *tcp, const struct iface_stream *s, const struct peer *p) {
+    struct iface_endpoint own = {IFACE_ANY, 77}, other = own;
+    must("ends", iface_stream_ends(tcp, s, &own, &other)), wants("own port", own.port, p->to), wants("the peer's", other.port, p->port);
+    wants("own address", own.address.version == 4 && memcmp(own.address.octets, "\12\0\0\1", 4) == 0, 1);
+    wants("the peer's", other.address.version == 4 && memcmp(other.address.octets, "\12\0\0\2", 4) == 0, 1);
+}
+
+/* Octets that come are read and acknowledged. */
+static void reads(iface_streams *tcp, iface *host, int64_t now, const struct iface_stream *s, struct peer *p, const char *text) {
+    size_t n = 77;
+    come(host, now, p, ACK | PSH, text);
+    p->seq += (uint32_t)strlen(text);
+    struct segment answer = turn(tcp, host, now);
+    wants("an acknowledgement", answer.flags, ACK), wants("of the octets", answer.ack, p->seq);
+    wants_rooms(tcp, s, 16384, strlen(text));
+    must("peek", iface_stream_peek(tcp, s, octets, 2, &n)), wants("two octets", n, 2), wants("the first", memcmp(octets, text, 2) == 0, 1);
+    must("receive", iface_stream_receive(tcp, s, octets, sizeof octets, &n));
+    wants("all octets", n, strlen(text)), wants("these", memcmp(octets, text, strlen(text)) == 0, 1);
+    must("receive", iface_stream_receive(tcp, s, octets, sizeof octets, &n)), wants("no more", n, 0);
+}
+
+/* Octets that are written are sent, and their acknowledgement ends that. */
+static void writes(iface_streams *tcp, iface *host, int64_t now, const struct iface_stream *s, struct peer *p, const char *text) {
+    size_t n = 77;
+    must("send", iface_stream_send(tcp, s, (const uint8_t *)text, strlen(text), &n)), wants("all octets", n, strlen(text));
+    wants_rooms(tcp, s, 16384 - strlen(text), 0);
+    struct segment segment = turn(tcp, host, now);
+    wants("its number", segment.seq, p->ack), wants("it acknowledges", segment.ack, p->seq);
+    wants("its octets", segment.length == strlen(text) && memcmp(segment.payload, text, strlen(text)) == 0, 1);
+    p->ack += (uint32_t)strlen(text);
+    come(host, now, p, ACK, "");
+    wants_nothing("nothing more", tcp, host, now);
+}
+
+/* A peer comes, both send, the peer closes, and then the program (RFC 9293 3.6, case 2). */
+static void serves(void) {
+    iface host = IFACE_NONE;
+    iface_streams tcp = IFACE_STREAMS_NONE;
+    struct iface_stream s = {77, 77}, none = {77, 77};
+    int64_t at = 77;
+    size_t n = 77;
+    make(&host, 4), make_streams(&tcp, &host, 4);
+    must("due", iface_streams_poll_at(&tcp, &at)), wants("never", at == IFACE_NEVER, 1);
+    size_t listener = listen_at(&tcp, 7, 4);
+    wants("the first one", listener, 0), wants("the second one", listen_at(&tcp, 9, 4), 1);
+    wants("none waits", iface_stream_accept(&tcp, listener, &none), IFACE_EMPTY);
+    struct peer p = come_in(&tcp, &host, second, 4000, 7);
+    must("accept", iface_stream_accept(&tcp, listener, &s)), wants_state(&tcp, &s, IFACE_ESTABLISHED);
+    wants_ends(&tcp, &s, &p);
+    wants("only one", iface_stream_accept(&tcp, listener, &none), IFACE_EMPTY);
+    wants("nothing written", none.place == 77 && none.generation == 77, 1);
+    reads(&tcp, &host, second, &s, &p, "hello");
+    writes(&tcp, &host, second, &s, &p, "hello, too");
+    come(&host, second, &p, ACK | FIN, ""), p.seq++;
+    struct segment answer = turn(&tcp, &host, second);
+    wants("the end is acknowledged", answer.ack, p.seq), wants_state(&tcp, &s, IFACE_CLOSE_WAIT);
+    must("receive", iface_stream_receive(&tcp, &s, octets, sizeof octets, &n)), wants("no octets", n, 0);
+    writes(&tcp, &host, second, &s, &p, "last");
+    must("close", iface_stream_close(&tcp, &s)), wants_state(&tcp, &s, IFACE_LAST_ACK);
+    must("send", iface_stream_send(&tcp, &s, octets, 5, &n)), wants("nothing is taken any more", n, 0);
+    answer = turn(&tcp, &host, second);
+    wants("an end", answer.flags & (FIN | ACK), FIN | ACK), wants("its number", answer.seq, p.ack);
+    p.ack++, come(&host, second, &p, ACK, "");
+    wants_nothing("nothing more", &tcp, &host, second);
+    wants_state(&tcp, &s, IFACE_CLOSED), wants_ending(&tcp, &s, IFACE_NOT_CUT);
+    must("release", iface_stream_release(&tcp, &s));
+    wants("its name names nothing", iface_stream_release(&tcp, &s), IFACE_NO_SOCKET);
+    must("free", iface_streams_free(&tcp, &host)), must("free", iface_free(&host));
+}
+
+/* The program connects, closes, and reads on until the peer's end (RFC 9293 3.6, case 1). */
+static void connects(void) {
+    iface host = IFACE_NONE;
+    iface_streams tcp = IFACE_STREAMS_NONE;
+    struct iface_stream s = {77, 77};
+    size_t n = 77;
+    int64_t at = 77;
+    make(&host, 4), make_streams(&tcp, &host, 4);
+    struct peer p = go_out(&tcp, &host, second, 40000, &s);
+    wants_ends(&tcp, &s, &p);
+    writes(&tcp, &host, second, &s, &p, "a question");
+    must("close", iface_stream_close(&tcp, &s)), wants_state(&tcp, &s, IFACE_FIN_WAIT_1);
+    struct segment end = turn(&tcp, &host, second);
+    wants("an end", end.flags & FIN, FIN), wants("its number", end.seq, p.ack);
+    p.ack++, come(&host, second, &p, ACK, ""), wants_nothing("nothing more", &tcp, &host, second);
+    wants_state(&tcp, &s, IFACE_FIN_WAIT_2);
+    come(&host, second, &p, ACK, "an answer"), p.seq += 9, wants("it is acknowledged", turn(&tcp, &host, second).ack, p.seq);
+    wants_rooms(&tcp, &s, 0, 9);
+    come(&host, second, &p, ACK | FIN, "!"), p.seq += 2;
+    end = turn(&tcp, &host, second);
+    wants("the end is acknowledged", end.ack, p.seq), wants_state(&tcp, &s, IFACE_TIME_WAIT);
+    must("receive", iface_stream_receive(&tcp, &s, octets, sizeof octets, &n)), wants("all octets", n == 10 && memcmp(octets, "an answer!", 10) == 0, 1);
+    wants_nothing("nothing more", &tcp, &host, second);
+    must("due", iface_streams_poll_at(&tcp, &at)), wants("a minute later", (uint64_t)at, (uint64_t)(61 * second));
+    wants_nothing("nothing more", &tcp, &host, 61 * second);
+    wants_state(&tcp, &s, IFACE_CLOSED), wants_ending(&tcp, &s, IFACE_NOT_CUT);
+    must("free", iface_streams_free(&tcp, &host)), must("free", iface_free(&host));
+}
+
+/* Resets both ways, and nobody who answers. */
+static void cuts(void) {
+    iface host = IFACE_NONE;
+    iface_streams tcp = IFACE_STREAMS_NONE;
+    struct iface_stream s = {77, 77};
+    struct iface_endpoint local = {IFACE_ANY, 40001};
+    int64_t at = 77;
+    size_t n = 77;
+    make(&host, 4), make_streams(&tcp, &host, 4);
+    struct peer p = go_out(&tcp, &host, second, 40000, &s);
+    must("abort", iface_stream_abort(&tcp, &s)), wants_state(&tcp, &s, IFACE_CLOSED), wants_ending(&tcp, &s, IFACE_ABORTED);
+    struct segment reset = turn(&tcp, &host, second);
+    wants("a reset", reset.flags & RST, RST), wants("its number", reset.seq, p.ack);
+    must("send", iface_stream_send(&tcp, &s, octets, 5, &n)), wants("nothing is taken", n, 0);
+    must("release", iface_stream_release(&tcp, &s));
+    /* the peer has nobody at the port (RFC 9293 3.5.2, case 1) */
+    must("connect", iface_stream_connect(&tcp, &host, second, &local, &at_peer, &s));
+    reset = turn(&tcp, &host, second), p = (struct peer){80, 40001, 0, reset.seq + 1};
+    come(&host, second, &p, RST | ACK, "");
+    wants_nothing("no reset answers a reset", &tcp, &host, second);
+    wants_state(&tcp, &s, IFACE_CLOSED), wants_ending(&tcp, &s, IFACE_REFUSED);
+    must("release", iface_stream_release(&tcp, &s));
+    /* it resets a connection */
+    p = go_out(&tcp, &host, second, 40002, &s);
+    come(&host, second, &p, RST, ""), wants_nothing("no reset answers a reset", &tcp, &host, second);
+    wants_state(&tcp, &s, IFACE_CLOSED), wants_ending(&tcp, &s, IFACE_BY_PEER);
+    must("release", iface_stream_release(&tcp, &s));
+    /* a segment of no connection is answered (RFC 9293 3.10.7.1) */
+    p = (struct peer){4000, 9, 300, 7}, come(&host, second, &p, SYN, "");
+    reset = turn(&tcp, &host, second), wants("a reset", reset.flags, RST | ACK);
+    wants("of number 0", reset.seq, 0), wants("of the SYN", reset.ack, 301);
+    come(&host, second, &p, ACK, "x"), reset = turn(&tcp, &host, second);
+    wants("a reset", reset.flags, RST), wants("of the number", reset.seq, 7);
+    /* nobody answers: the SYN is sent again after a second, and given up after its timeout (RFC 6298 2.1, RFC 9293 3.8.3) */
+    must("connect", iface_stream_connect(&tcp, &host, second, &local, &at_peer, &s));
+    must("timeout", iface_stream_set_timeout(&tcp, &s, 3000000));
+    uint32_t number = turn(&tcp, &host, second).seq;
+    must("due", iface_streams_poll_at(&tcp, &at)), wants("a second later", (uint64_t)at, (uint64_t)(2 * second));
+    wants_nothing("not before", &tcp, &host, at - 1);
+    reset = turn(&tcp, &host, at), wants("the SYN again", reset.flags == SYN && reset.seq == number, 1);
+    wants_nothing("given up", &tcp, &host, 10 * second);
+    wants_state(&tcp, &s, IFACE_CLOSED), wants_ending(&tcp, &s, IFACE_TIMED_OUT);
+    must("free", iface_streams_free(&tcp, &host)), must("free", iface_free(&host));
+}
+
+/* Eight connections at once, each with octets of its own, as many as there are places. */
+static void serves_eight(void) {
+    iface host = IFACE_NONE;
+    iface_streams tcp = IFACE_STREAMS_NONE;
+    struct iface_stream s[8], more = {77, 77};
+    struct iface_endpoint local = {IFACE_ANY, 40000};
+    struct peer p[8];
+    make(&host, 4), make_streams(&tcp, &host, 8);
+    size_t listener = listen_at(&tcp, 7, 8);
+    for (uint16_t i = 0; i < 8; i++) p[i] = come_in(&tcp, &host, second, (uint16_t)(4000 + i), 7);
+    for (int i = 0; i < 8; i++) must("accept", iface_stream_accept(&tcp, listener, &s[i]));
+    wants("no more", iface_stream_accept(&tcp, listener, &more), IFACE_EMPTY);
+    for (int i = 0; i < 8; i++) {
+        char text[] = "octets of .";
+        text[10] = (char)('0' + i);
+        reads(&tcp, &host, second, &s[i], &p[i], text), writes(&tcp, &host, second, &s[i], &p[i], text + 3);
+    }
+    wants("no place", iface_stream_connect(&tcp, &host, second, &local, &at_peer, &more), IFACE_TABLE_FULL);
+    struct peer late = {4008, 7, 1000, 0};
+    come(&host, second, &late, SYN, ""), wants_nothing("no place for a ninth", &tcp, &host, second);
+    /* a place that is free again has another name */
+    come(&host, second, &p[3], RST, ""), wants_nothing("gone", &tcp, &host, second);
+    must("release", iface_stream_release(&tcp, &s[3])), wants_nothing("free", &tcp, &host, second);
+    must("connect", iface_stream_connect(&tcp, &host, second, &local, &at_peer, &more));
+    wants("the same place", more.place, s[3].place), wants("another name", more.generation != s[3].generation, 1);
+    wants("the old one", iface_stream_abort(&tcp, &s[3]), IFACE_NO_SOCKET), wants_state(&tcp, &more, IFACE_SYN_SENT);
+    must("free", iface_streams_free(&tcp, &host)), must("free", iface_free(&host));
+}
+
+/* What is written waits in the connection's room: no more is taken, and nothing is lost. */
+static void fills_a_room(void) {
+    iface host = IFACE_NONE;
+    iface_streams tcp = IFACE_STREAMS_NONE;
+    struct iface_stream s = {77, 77};
+    static uint8_t many[20000];
+    size_t n = 77, all = 0;
+    make(&host, 4), make_streams(&tcp, &host, 1);
+    for (size_t i = 0; i < sizeof many; i++) many[i] = (uint8_t)(i * 7 + i / 256);
+    struct peer p = go_out(&tcp, &host, second, 40000, &s);
+    must("send", iface_stream_send(&tcp, &s, many, sizeof many, &n)), wants("as many as it has room for", n, 16384);
+    must("send", iface_stream_send(&tcp, &s, many, sizeof many, &n)), wants("no more", n, 0);
+    for (int i = 0; i < 100 && all < 16384; i++) {
+        struct segment segment = turn(&tcp, &host, second);
+        if (segment.length == (size_t)-1) come(&host, second, &p, ACK, "");
+        else {
+            wants("in order", segment.seq, p.ack), wants("these", memcmp(segment.payload, many + all, segment.length) == 0, 1);
+            wants("at most 536 octets, as the peer told no MSS", segment.length <= 536, 1);
+            p.ack += (uint32_t)segment.length, all += segment.length;
+        }
+    }
+    wants("all of them", all, 16384);
+    must("free", iface_streams_free(&tcp, &host)), must("free", iface_free(&host));
+}
+
+static void wants_no_stream(iface_streams *tcp, const struct iface_stream *s, uint32_t want) {
+    struct iface_endpoint end = {IFACE_ANY, 77};
+    uint32_t number = 77;
+    size_t n = 77, m = 77;
+    octets[0] = 77;
+    wants("send", iface_stream_send(tcp, s, octets, 1, &n), want), wants("receive", iface_stream_receive(tcp, s, octets, 1, &n), want);
+    wants("peek", iface_stream_peek(tcp, s, octets, 1, &n), want), wants("close", iface_stream_close(tcp, s), want);
+    wants("abort", iface_stream_abort(tcp, s), want), wants("release", iface_stream_release(tcp, s), want);
+    wants("rooms", iface_stream_rooms(tcp, s, &n, &m), want), wants("ends", iface_stream_ends(tcp, s, &end, &end), want);
+    wants("state", iface_stream_state(tcp, s, &number), want), wants("ending", iface_stream_ending(tcp, s, &number), want);
+    wants("nagle", iface_stream_set_nagle(tcp, s, 1), want), wants("delay", iface_stream_set_ack_delay(tcp, s, 1), want);
+    wants("keep-alive", iface_stream_set_keep_alive(tcp, s, 1), want), wants("timeout", iface_stream_set_timeout(tcp, s, 1), want);
+    wants("nothing written", number == 77 && n == 77 && m == 77 && octets[0] == 77 && end.port == 77, 1);
+}
+
+static void refuses_new(iface_streams *tcp, iface *host, struct iface_streams_config config, const char *what) {
+    wants(what, iface_streams_new(tcp, host, &config), IFACE_BAD_ARGUMENT);
+}
+
+static void refuses(void) {
+    iface host = IFACE_NONE, other = IFACE_NONE;
+    iface_streams tcp = IFACE_STREAMS_NONE;
+    struct iface_streams_config config;
+    struct iface_stream s = {77, 77}, wrong;
+    struct iface_endpoint local = {IFACE_ANY, 7}, end = {IFACE_ANY, 40000}, bad = {{5, {0}}, 7}, group = {{4, {224, 0, 0, 1}}, 7};
+    struct iface_endpoint at_port_0 = at_peer, v6 = {{6, {0x20, 1}}, 80};
+    struct iface_queue received, to_send;
+    size_t listener = 77;
+    int64_t at = 77;
+    wants("no connections", iface_streams_poll(&tcp, &host, 0), IFACE_NO_STREAMS);
+    wants("no connections", iface_streams_poll_at(&tcp, &at), IFACE_NO_STREAMS);
+    wants("no connections", iface_streams_free(&tcp, &host), IFACE_NO_STREAMS);
+    wants("no connections", iface_stream_listen(&tcp, &local, 1, &listener), IFACE_NO_STREAMS);
+    wants("no connections", iface_stream_accept(&tcp, 0, &s), IFACE_NO_STREAMS);
+    wants("no connections", iface_stream_connect(&tcp, &host, 0, &end, &at_peer, &s), IFACE_NO_STREAMS);
+    wants_no_stream(&tcp, &s, IFACE_NO_STREAMS);
+    iface_streams_config_init(&config);
+    wants("no host", iface_streams_new(&tcp, &host, &config), IFACE_NO_HOST);
+    make(&host, 3);
+    wants("three sockets", iface_streams_new(&tcp, &host, &config), IFACE_TABLE_FULL);
+    wants("none was opened", iface_queues(&host, 0, &received, &to_send), IFACE_NO_SOCKET);
+    struct iface_streams_config no = config;
+    no.places = 0, refuses_new(&tcp, &host, no, "no places");
+    no.places = (1u << 30) + 1, refuses_new(&tcp, &host, no, "too many places");
+    no = config, no.send_room = (1u << 30) + 1, refuses_new(&tcp, &host, no, "too much room");
+    no = config, no.receive_room = (1u << 30) + 1, refuses_new(&tcp, &host, no, "too much room");
+    no = config, no.ipv4 = no.ipv6 = 0, refuses_new(&tcp, &host, no, "neither family");
+    no = config, no.places = 1u << 30, no.send_room = 1u << 30, no.ipv6 = 0;
+    wants("no memory", iface_streams_new(&tcp, &host, &no), IFACE_NO_MEMORY);
+    wants("none was opened", iface_queues(&host, 0, &received, &to_send), IFACE_NO_SOCKET);
+    config.ipv6 = 0, config.places = 1, must("over IPv4", iface_streams_new(&tcp, &host, &config));
+    must("a socket", iface_queues(&host, 1, &received, &to_send));
+    wants("no third", iface_queues(&host, 2, &received, &to_send), IFACE_NO_SOCKET);
+    iface_streams copy = tcp;
+    no.places = 0;
+    wants("connections are there", iface_streams_new(&tcp, &host, &no), IFACE_HAS_STREAMS);
+    wants("handle kept", memcmp(&copy, &tcp, sizeof tcp) == 0, 1);
+    wants("no host", iface_streams_poll(&tcp, &other, 0), IFACE_NO_HOST);
+    wants("moment", iface_streams_poll(&tcp, &host, -1), IFACE_BAD_MOMENT);
+    wants("moment", iface_streams_poll(&tcp, &host, IFACE_LAST_MOMENT + 1), IFACE_BAD_MOMENT);
+    wants("bad address", iface_stream_listen(&tcp, &bad, 1, &listener), IFACE_BAD_ARGUMENT);
+    local.port = 0, wants("port 0", iface_stream_listen(&tcp, &local, 1, &listener), IFACE_BAD_PORT);
+    wants("a group", iface_stream_listen(&tcp, &group, 1, &listener), IFACE_BAD_ADDRESS);
+    wants("no listener", iface_stream_accept(&tcp, 3, &s), IFACE_EMPTY);
+    wants("bad address", iface_stream_connect(&tcp, &host, -1, &bad, &at_peer, &s), IFACE_BAD_ARGUMENT);
+    wants("bad address", iface_stream_connect(&tcp, &host, -1, &end, &bad, &s), IFACE_BAD_ARGUMENT);
+    wants("no host", iface_stream_connect(&tcp, &other, -1, &end, &at_peer, &s), IFACE_NO_HOST);
+    wants("moment", iface_stream_connect(&tcp, &host, -1, &local, &at_peer, &s), IFACE_BAD_MOMENT);
+    wants("port 0", iface_stream_connect(&tcp, &host, 0, &local, &at_peer, &s), IFACE_BAD_PORT);
+    at_port_0.port = 0, wants("port 0", iface_stream_connect(&tcp, &host, 0, &end, &at_port_0, &s), IFACE_BAD_PORT);
+    wants("a group", iface_stream_connect(&tcp, &host, 0, &end, &group, &s), IFACE_BAD_ADDRESS);
+    wants("a group", iface_stream_connect(&tcp, &host, 0, &group, &at_peer, &s), IFACE_BAD_ADDRESS);
+    end.address = at_peer.address, wants("two families", iface_stream_connect(&tcp, &host, 0, &end, &v6, &s), IFACE_BAD_ADDRESS);
+    wants_no_stream(&tcp, &s, IFACE_NO_SOCKET);
+    wants("nothing written", s.place == 77 && s.generation == 77 && listener == 77 && at == 77, 1);
+    end.address.version = 0, must("connect", iface_stream_connect(&tcp, &host, 0, &end, &at_peer, &s));
+    wants("in use", iface_stream_connect(&tcp, &host, 0, &end, &at_peer, &wrong), IFACE_IN_USE);
+    end.port++, wants("no place", iface_stream_connect(&tcp, &host, 0, &end, &at_peer, &wrong), IFACE_TABLE_FULL);
+    wrong = s, wrong.generation++, wants_no_stream(&tcp, &wrong, IFACE_NO_SOCKET);
+    wrong = s, wrong.place++, wants_no_stream(&tcp, &wrong, IFACE_NO_SOCKET);
+    must("nagle", iface_stream_set_nagle(&tcp, &s, 0)), must("delay", iface_stream_set_ack_delay(&tcp, &s, 1000));
+    must("keep-alive", iface_stream_set_keep_alive(&tcp, &s, 0)), must("release", iface_stream_release(&tcp, &s));
+    must("free", iface_streams_free(&tcp, &host));
+    wants("its sockets are closed", iface_queues(&host, 0, &received, &to_send), IFACE_NO_SOCKET);
+    wants("free again", iface_streams_free(&tcp, &host), IFACE_NO_STREAMS);
+    must("again", iface_streams_new(&tcp, &host, &config)), must("free", iface_free(&host));
+    must("without the host", iface_streams_free(&tcp, &host));
+}
+
+int main(void) {
+    serves();
+    connects();
+    cuts();
+    serves_eight();
+    fills_a_room();
+    refuses();
+    printf("streams: %d checks: %d wrong\n", checks, failures);
+    return failures != 0;
+}

@@ -1,0 +1,3 @@
+mod Hearing
+mod Prefixes
+mod Waiting

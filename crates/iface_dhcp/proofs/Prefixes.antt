@@ -1,0 +1,13 @@
+-- What a lease gives, whatever shows that its prefix is in range.
+use Rattle.std.proofs.Common.{◌≡◌, ◌≤◌, ℕ, ap, subst}
+use Rattle.std.proofs.Math.Bridge.{le_prop}
+use Rattle.dhcp_client.specs.declared.lease.DhcpLease.{DhcpLease}
+use Rattle.iface_host.specs.declared.leased.Leased.{Leased}
+use Rattle.iface_dhcp.specs.Apply.{leased_by, prefix_is_within, prefix_len_of}
+
+abbrev pub leased_with : DhcpLease → (n : ℕ) → n ≤ 32 → Leased
+leased_with l n p = record { network = record { address = l.address; prefix_len = n; in_range = p }; router = l.router }
+
+pub leased_same : (l : DhcpLease) (n : ℕ) (p : n ≤ 32) → n ≡ prefix_len_of l.subnet_mask → leased_with l n p ≡ leased_by l
+leased_same l n p is = subst (λ (m : ℕ). (q : m ≤ 32) → leased_with l n p ≡ leased_with l m q) is
+    (λ q. ap (leased_with l n) (le_prop p q)) (prefix_is_within l.subnet_mask)

@@ -1,0 +1,67 @@
+-- How a host gets what was leased.
+use Rattle.std.specs.Prelude.{ℕ, ◌≡◌, ◌≤◌, ◌==◌, ◌&&◌, nat_eq, Bool, true, false, Option, Some, None, if◌then◌else◌}
+use Rattle.std.specs.List.{common_prefix_len}
+use Rattle.std.proofs.Math.Nat.{min-le_right}
+use Rattle.std.proofs.Common.{lit≤}
+use Rattle.ip_address.specs.Prefixes.{bits, common_bits}
+use Rattle.ip_address.specs.declared.ipv4.Ipv4Address.{Ipv4Address}
+use Rattle.dhcp_client.specs.Client.{lease}
+use Rattle.dhcp_client.specs.declared.lease.DhcpLease.{DhcpLease}
+use Rattle.iface_host.specs.Leased.{ReplacesLeased, leased_refusal}
+use Rattle.iface_host.specs.Stands.{Follows}
+use Rattle.iface_host.specs.declared.host.Host.{Host}
+use Rattle.iface_host.specs.declared.leased.Leased.{Leased}
+use Rattle.iface_host.specs.declared.refusal.Refusal.{Refusal}
+use Rattle.iface_dhcp.specs.declared.dhcp.Dhcp.{Dhcp}
+
+-- a mask tells as many bits as it has ones from the first on (RFC 2132 3.3); without one the network is the address alone
+abbrev pub prefix_len_of : Option Ipv4Address → ℕ
+prefix_len_of None = 32
+prefix_len_of (Some mask) = common_bits 32 mask.bits 0xffff_ffff 32
+
+pub prefix_is_within : (mask : Option Ipv4Address) → prefix_len_of mask ≤ 32
+prefix_is_within None = lit≤ tt
+prefix_is_within (Some mask) = min-le_right (common_prefix_len nat_eq (bits 32 mask.bits) (bits 32 0xffff_ffff)) 32
+
+-- what a lease gives a host: its address, with the network of its mask, and its router
+abbrev pub leased_by : DhcpLease → Leased
+leased_by l = record {
+  network = record { address = l.address; prefix_len = prefix_len_of l.subnet_mask; in_range = prefix_is_within l.subnet_mask };
+  router = l.router;
+}
+
+abbrev pub leased_of : Option DhcpLease → Option Leased
+leased_of None = None
+leased_of (Some l) = Some (leased_by l)
+
+-- what the client's lease gives
+abbrev pub leased : Dhcp → Option Leased
+leased d = leased_of (lease d.client)
+
+-- the same address, prefix and router
+abbrev pub is_same_router : Option Ipv4Address → Option Ipv4Address → Bool
+is_same_router None None = true
+is_same_router None (Some b) = false
+is_same_router (Some a) None = false
+is_same_router (Some a) (Some b) = a.bits == b.bits
+
+abbrev pub is_same_leased : Leased → Leased → Bool
+is_same_leased a b =
+    (a.network.address.bits == b.network.address.bits) && (a.network.prefix_len == b.network.prefix_len) && is_same_router a.router b.router
+
+abbrev pub is_same : Option Leased → Option Leased → Bool
+is_same None None = true
+is_same None (Some b) = false
+is_same (Some a) None = false
+is_same (Some a) (Some b) = is_same_leased a b
+
+-- the host has it in place of what the client gave before, unless that is the same
+abbrev pub Replaces : Bool → Dhcp → Dhcp → Host → Host → Type 0
+Replaces true d d' old new = (d' ≡ d) × (new ≡ old)
+Replaces false d d' old new = (d' ≡ record d { leased = leased d }) × Follows (ReplacesLeased d.leased (leased d)) old new
+
+abbrev pub Applies : Dhcp → Dhcp → Host → Host → Type 0
+Applies d = Replaces (is_same d.leased (leased d)) d
+
+abbrev pub apply_refusal : Dhcp → Host → Option Refusal
+apply_refusal d host = if is_same d.leased (leased d) then None else leased_refusal host d.leased (leased d)

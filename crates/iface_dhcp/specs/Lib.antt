@@ -1,0 +1,5 @@
+pub mod Dhcp
+pub mod Hear
+pub mod Send
+pub mod Poll
+pub mod Apply

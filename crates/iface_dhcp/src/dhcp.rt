@@ -1,0 +1,144 @@
+//! The client, and how it is made.
+ghost use Rattle.std.specs.Prelude.{◌≡◌, IfOk, IfErr, OnErr, None, Some};
+ghost use Rattle.std.specs.Result.{IsErrOf};
+ghost use Rattle.dhcp_client.specs.Client as client;
+ghost use Rattle.iface_dhcp.specs.Dhcp as spec;
+ghost use Rattle.iface_host.specs.declared.refusal.Refusal.{Refusal};
+
+use dhcp_client::{DhcpClient, DhcpLease};
+use dhcp_wire::message::CLIENT_PORT;
+use iface_host::{Host, Leased, Refusal, Room, Rooms};
+use ip_wire::Ipv4Address;
+use net_base::rand::Rand;
+use sockets::IpListenEndpoint;
+use std::alloc::Global;
+
+/// The most octets that wait at the client's socket: as many as two messages of the length that it asks for have.
+pub const RECEIVED_LEN: usize = 2944;
+
+/// What the client's socket holds: some messages that came, and one that goes to its server.
+const ROOMS: Rooms = Rooms {
+    received: Room {
+        packets: 8,
+        octets: RECEIVED_LEN,
+    },
+    to_send: Room {
+        packets: 1,
+        octets: 320,
+    },
+};
+
+/// How a client is to be made.
+#[derive(Clone, Copy, Debug, PartialEq, Eq)]
+pub struct DhcpSettings {
+    /// The seed of the numbers by which its messages are known, another one for each host and each start.
+    pub random_seed: u64,
+    /// An address that it had before, if there is one: it asks for that first (RFC 2131 3.2).
+    pub known: Option<Ipv4Address>,
+}
+
+/// A client of DHCP for a host.
+#[derive(Drop)]
+pub struct Dhcp {
+    /// What it knows, and what it does.
+    pub client: DhcpClient,
+    /// The number of its UDP socket of port 68.
+    pub socket: u32,
+    /// The number of its raw socket, which is open while a message to all servers waits there.
+    pub broadcast: Option<u32>,
+    /// Where its random numbers come from.
+    pub random: Rand,
+    /// What it has given the host.
+    pub leased: Option<Leased>,
+}
+
+impl Dhcp {
+    /// A client for a host, which gives it a UDP socket of port 68. `NotThere` if the host's link has no hardware addresses,
+    /// else `TableFull` if no number or no place for a socket is left, else `NoMemory` if memory for it is refused; then the
+    /// host stays unchanged.
+    pub fn new(
+        alloc: Global,
+        host: &mut Host,
+        settings: &DhcpSettings,
+    ) -> Result<Box<Dhcp>, Refusal>
+        ensures made { IfOk result (λ dhcp. spec.IsNew settings.now dhcp.value host.old host.new) }
+        ensures why { (e : Refusal) → spec.new_refusal host.old ≡ Some e → IsErrOf result e }
+        ensures memory { spec.new_refusal host.old ≡ None → IfErr result (λ e. e ≡ Refusal.NoMemory) }
+        ensures refused { OnErr result (host.new ≡ host.old) }
+    {
+        let Some(hardware_addr) = host.hardware_address() else {
+            return Err(Refusal::NotThere);
+        };
+        host.unused_number()?;
+        let client = Dhcp {
+            client: DhcpClient::new(hardware_addr, settings.known),
+            socket: 0,
+            broadcast: None,
+            random: Rand::new(settings.random_seed),
+            leased: None,
+        };
+        let Ok(mut dhcp) = Box::new(alloc, client) else {
+            return Err(Refusal::NoMemory);
+        };
+        let port = IpListenEndpoint {
+            addr: None,
+            port: CLIENT_PORT,
+        };
+        dhcp.socket = host.open_udp(port, ROOMS)?;
+        Ok(dhcp)
+    }
+
+    /// The lease that it has, if it has one.
+    pub const fn lease(&self) -> Option<DhcpLease>
+        ensures { result ≡ client.lease self.now.client }
+    {
+        self.client.lease()
+    }
+
+    /// Gives up the lease, if there is one, and begins anew, as after a link went down. The next poll tells of a lease that is
+    /// gone. What was given to the host stays until [`Dhcp::apply`].
+    pub fn reset(&mut self)
+        ensures { self.new ≡ record self.old { client = client.after_reset self.old.client } }
+    {
+        self.client.reset();
+    }
+
+    /// When [`Dhcp::poll`] does something if nothing came, in microseconds; before that it changes nothing of the client. `None`
+    /// only for a lease without end.
+    pub fn poll_at(&self) -> Option<i64>
+        ensures { result ≡ spec.poll_at self.now }
+    {
+        let at = self.client.poll_at()?;
+        if at < 0x4000_0000_0000_0000 {
+            Some(at as i64)
+        } else {
+            Some(0x4000_0000_0000_0000)
+        }
+    }
+
+    /// Closes the client's sockets of a host.
+    pub fn close(&mut self, host: &mut Host)
+        ensures sockets { spec.Closes self.old host.old host.new }
+        ensures dhcp { self.new ≡ record self.old { broadcast = None } }
+    {
+        close_one(host, self.socket);
+        close_if(host, &self.broadcast);
+        self.broadcast = None;
+    }
+}
+
+/// Closes a socket of a host, if it is open.
+fn close_one(host: &mut Host, number: u32)
+    ensures { spec.ClosesOne number host.old host.new }
+{
+    let _ = host.close(number);
+}
+
+/// The same, if there is one.
+fn close_if(host: &mut Host, number: &Option<u32>)
+    ensures { spec.ClosesIf number.now host.old host.new }
+{
+    if let Some(number) = number {
+        close_one(host, *number);
+    }
+}

@@ -1,0 +1,95 @@
+//! How the client's messages are queued.
+ghost use Rattle.std.specs.Prelude.{◌≡◌, OnErr, IfOk, true};
+ghost use Rattle.dhcp_sockets.specs.Datagrams as datagrams;
+ghost use Rattle.dhcp_sockets.specs.Packets as packets;
+ghost use Rattle.iface_dhcp.specs.Send as spec;
+
+use crate::dhcp::Dhcp;
+use dhcp_client::DhcpMessage;
+use dhcp_sockets::{DhcpRoom, server_of};
+use iface_host::{Host, Room, Rooms};
+use ip_wire::{IpProtocol, IpVersion};
+
+/// What the raw socket holds: one message with its headers, and nothing that came.
+const ROOMS: Rooms = Rooms {
+    received: Room {
+        packets: 0,
+        octets: 0,
+    },
+    to_send: Room {
+        packets: 1,
+        octets: 348,
+    },
+};
+
+impl Dhcp {
+    /// Queues a message: at a raw socket, which is opened for it, if it goes to all servers, else at the client's UDP socket.
+    /// One for which there is no room counts as lost.
+    pub(crate) fn send(&mut self, host: &mut Host, message: &DhcpMessage)
+        ensures { spec.Sends message.now self.old self.new host.old host.new }
+    {
+        if message.dst.is_broadcast() {
+            self.send_to_all(host, message);
+        } else {
+            send_to_server(host, self.socket, message);
+        }
+    }
+
+    /// Queues a message at the raw socket, which is opened if it isn't open.
+    fn send_to_all(&mut self, host: &mut Host, message: &DhcpMessage)
+        ensures { spec.SendsToAll message.now self.old self.new host.old host.new }
+    {
+        if let Some(number) = self.broadcast {
+            send_packet(host, number, message);
+            return;
+        }
+        if let Ok(number) = host.open_raw(IpVersion::Ipv4, IpProtocol::Udp, ROOMS) {
+            self.broadcast = Some(number);
+            send_packet(host, number, message);
+        }
+    }
+
+    /// Closes the raw socket, if it is open and nothing waits there.
+    pub(crate) fn close_sent(&mut self, host: &mut Host)
+        ensures { spec.ClosesSent self.old self.new host.old host.new }
+    {
+        let Some(number) = self.broadcast else {
+            return;
+        };
+        if is_waiting(host, number) {
+            return;
+        }
+        let _ = host.close(number);
+        self.broadcast = None;
+    }
+}
+
+/// Whether a packet waits to be sent at a socket.
+fn is_waiting(host: &Host, number: u32) -> bool
+    ensures { result ≡ spec.is_waiting host.now number }
+{
+    match host.queues(number) {
+        Some((_, to_send)) => to_send.packets > 0,
+        None => false,
+    }
+}
+
+/// Queues a message at a UDP socket, for port 67 of its destination.
+#[inline(never)]
+fn send_to_server(host: &mut Host, socket: u32, message: &DhcpMessage)
+    ensures { spec.SendsToServer socket message.now host.old host.new }
+{
+    let mut room = DhcpRoom::new();
+    room.build_message(message);
+    let _ = host.send_udp(socket, server_of(message), room.message.as_slice());
+}
+
+/// Queues a message at a raw socket, as a packet.
+#[inline(never)]
+fn send_packet(host: &mut Host, number: u32, message: &DhcpMessage)
+    ensures { spec.SendsPacket number message.now host.old host.new }
+{
+    let mut room = DhcpRoom::new();
+    room.build_packet(message);
+    let _ = host.send_raw(number, room.packet.as_slice());
+}

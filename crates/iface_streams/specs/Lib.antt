@@ -1,0 +1,5 @@
+pub mod Settings
+pub mod Streams
+pub mod Poll
+pub mod Connect
+pub mod Calls
