@@ -46,6 +46,15 @@ fn parts_come_in_any_order(rt: HostRuntime) {
     }
 }
 
+#[test]
+fn octets_beyond_the_total_are_never_complete(rt: HostRuntime) {
+    let mut assembler: PacketAssembler<u8> = PacketAssembler::new();
+    let is_taken = assembler.set_total_size(8) == Ok(()) && assembler.add(&[0; 12], 0) == Ok(());
+    let is_part = assembler.assemble().is_none();
+    let is_taken_again = assembler.add(&[0; 8], 0) == Ok(());
+    assert!(rt; is_taken && is_part && is_taken_again && assembler.assemble().is_none());
+}
+
 // Takes eight octets at each of these places.
 fn takes_at(assembler: &mut PacketAssembler<u8>, offsets: &[usize]) -> bool {
     for offset in offsets {

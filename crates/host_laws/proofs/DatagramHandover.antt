@@ -31,7 +31,7 @@ use Rattle.group_wire.specs.declared.mld.MldRepr.TheVariants.{Query, Report}
 use Rattle.group_table.specs.declared.report.IgmpReportState.TheVariants as igmp_state
 use Rattle.group_table.specs.declared.report.MldReportState.TheVariants as mld_state
 use Rattle.control_wire.specs.declared.icmp.IcmpRepr.{IcmpRepr}
-use Rattle.iface_tables.specs.Neighbor.{after_renewal, expiry_from}
+use Rattle.iface_tables.specs.Neighbor.{first_neighbors, after_renewal, expiry_from}
 use Rattle.slaac.specs.Slaac.{initial_state}
 use Rattle.sockets.specs.declared.socket.SocketOf.TheVariants.{Raw, Icmp, Udp, Tcp}
 use Rattle.sockets.specs.Kinds.{down_udp}
@@ -65,7 +65,7 @@ use Rattle.host_laws.proofs.Places as places
 -- what deliveries read of a host; the rest set to one value
 abbrev pub seen : Host → Host
 seen H = record H {
-  neighbors = record { known = map.empty; silent_until = pos 0 };
+  neighbors = first_neighbors 0;
   ipv4_id = 0;
   reassembly_timeout = 0;
   slots = map.empty;

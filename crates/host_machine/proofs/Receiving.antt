@@ -13,7 +13,9 @@ pub mod RebuiltDelivery
 pub mod RebuiltPings
 pub mod DatagramDeliveryV6
 pub mod EchoReplies
+pub mod ManyDelivery
 pub mod SocketDelivery
+pub mod ClosedTcpPorts
 pub mod FrameRepliesV6
 pub mod ReceivedFrames
 pub mod ForeignFrames
@@ -23,6 +25,7 @@ pub mod WrongRebuilt
 pub mod NeighborOrigins
 pub mod LearntNeighbors
 pub mod ReplyCauses
+pub mod ResetNumbers
 pub mod ReplyOrigins
 pub mod ReplyLaws
 pub mod ReplyOctets

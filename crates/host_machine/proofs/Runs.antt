@@ -1,4 +1,5 @@
 pub mod Walk
+pub mod NeighborRoom
 pub mod DiscoverySpacing
 pub mod ReassemblyOrigin
 pub mod IdentificationOrder
@@ -14,4 +15,7 @@ pub mod TwoHosts
 pub mod RequestsWhileWaiting
 pub mod FramesOfPackets
 pub mod FramesOfCalls
+pub mod OwnSources
+pub mod FrameSizes
 pub mod CallLaws
+pub mod DueReports

@@ -14,7 +14,10 @@ pub mod QueueDecrease
 pub mod DueWork
 pub mod SettledFields
 pub mod OtherSteps
+pub mod ChosenSources
 pub mod HopsByLists
 pub mod GroupReports
 pub mod ReportTimes
 pub mod FirstPackets
+pub mod ManyPackets
+pub mod FrameLengths

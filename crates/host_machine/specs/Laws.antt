@@ -3,6 +3,7 @@ pub mod Rebuilding
 pub mod Order
 pub mod Quiet
 pub mod Real
+pub mod Lengths
 pub mod Requests
 pub mod Ran
 pub mod Unfolded
@@ -14,6 +15,9 @@ pub mod Steps
 pub mod Determined
 pub mod Service
 pub mod Received
+pub mod Resets
+pub mod Many
+pub mod DueReports
 pub mod Reassembled
 pub mod ReplyOctets
 pub mod RequestOctets

@@ -23,6 +23,10 @@ ghost use Rattle.host_machine.specs.Laws.Reassembled.{RebuiltDatagramsAreQueued,
 ghost use Rattle.host_machine.specs.Laws.RequestOctets.{PingFramesAreRead, SolicitationFramesAreRead};
 ghost use Rattle.host_machine.specs.Laws.ReplyOctets.{ArpRequestsAreAnsweredByOctets, PingsAreAnsweredByOctets};
 ghost use Rattle.host_machine.specs.Laws.Received.{EchoRepliesV6AreQueued, RawPacketsAreQueued, SegmentsAreQueued};
+ghost use Rattle.host_machine.specs.Laws.DueReports.{DueReportsGo};
+ghost use Rattle.host_machine.specs.Laws.Lengths.{FramesOfRunsFit};
+ghost use Rattle.host_machine.specs.Laws.Many.{DatagramsToManyAreQueued, DatagramsToManyGo};
+ghost use Rattle.host_machine.specs.Laws.Resets.{ClosedTcpPortsAreReset};
 ghost use Rattle.host_machine.specs.Laws.Service.{ArpRequestsAreAnswered, ClosedPortsAreAnswered, ClosedPortsV6AreAnswered};
 ghost use Rattle.host_machine.specs.Laws.Service.{AdvertisersAreLearnt, ArpSendersAreLearnt};
 ghost use Rattle.host_machine.specs.Laws.Service.{DatagramsAreQueued, DatagramsV6AreQueued, DueIsDone};
@@ -35,6 +39,12 @@ ghost use Rattle.host_machine.specs.Laws.Steps.{IngressIsSingle, MalformedIsDrop
 ghost use Rattle.host_machine.specs.Laws.Unfolded.{RunsUnfold};
 ghost use Rattle.host_machine.specs.Laws.TwoHosts.{PiecesAreRead, RebuildsWhatWasCut};
 ghost use Rattle.host_machine.specs.Laws.Wire.{FragmentsArePieces, StaysReal};
+
+/// No frame of a run is longer than the device allows, whatever is called, from a regular host whose pending fragments
+/// fit, as where there is none. After it they fit, too.
+pub fn frames_of_runs_fit()
+    ensures { FramesOfRunsFit }
+{}
 
 /// A frame with a malformed header of Ethernet, ARP, IPv4 or IPv6 sends nothing. It leaves the host as the same call
 /// without a frame does, which drops slots that have expired.
@@ -424,6 +434,31 @@ pub fn closed_ports_are_answered()
 /// So it is over IPv6 (RFC 4443 3.1).
 pub fn closed_ports_v6_are_answered()
     ensures { ClosedPortsV6AreAnswered }
+{}
+
+/// A right segment to a port at which no TCP socket is, over either family, brings its reset and no other frame: back to
+/// its sender, with the numbers of RFC 9293 3.10.7.1. It is no reset itself, and no raw socket takes the packet.
+pub fn closed_tcp_ports_are_reset()
+    ensures { ClosedTcpPortsAreReset }
+{}
+
+/// A datagram to all hosts of a network, to the group of all hosts or to a group that the host joined, of either family, is
+/// last in the queue of the first UDP socket at its port, if that has room, and nothing is sent (RFC 1122 3.3.6).
+pub fn datagrams_to_many_are_queued()
+    ensures { DatagramsToManyAreQueued }
+{}
+
+/// So the first datagram of a UDP socket that may be asked goes, in a call with every transmit token, if it is to all or to
+/// a group: to the hardware address of all, or of that group. No neighbour has to be known (RFC 1112 6.4, RFC 2464 7).
+pub fn datagrams_to_many_go()
+    ensures { DatagramsToManyGo }
+{}
+
+/// A report in answer to a query for one group, of either family, goes in the first call with every transmit token at its
+/// moment or later, to the hardware address of the group that it goes to; then the answer is over (RFC 2236 3, RFC 3810
+/// 6.3).
+pub fn due_reports_go()
+    ensures { DueReportsGo }
 {}
 
 /// A call that sends, and is granted every transmit token it asks for, sends the first datagram of each UDP socket that

@@ -12,8 +12,9 @@ ghost use Rattle.host_machine.specs.Laws.Restraint.Queries.{JoinsAreToldOnce, Re
 ghost use Rattle.host_machine.specs.Laws.Restraint.Rebuilt.{WrongRebuiltPayloadsAreDropped};
 ghost use Rattle.host_machine.specs.Laws.Restraint.Replies.{AdvertisementsTellItself, ArpRepliesTellItself};
 ghost use Rattle.host_machine.specs.Laws.Restraint.Replies.{ErrorsHaveCause, ErrorsV6HaveCause, ResetsHaveCause};
-ghost use Rattle.host_machine.specs.Laws.Restraint.Settings.{FramesKeepSettings, OtherStepsKeepSettings};
+ghost use Rattle.host_machine.specs.Laws.Restraint.Settings.{FramesKeepSettings, NeighborRoomStays, OtherStepsKeepSettings};
 ghost use Rattle.host_machine.specs.Laws.Restraint.Settings.{SendingKeepsSettings};
+ghost use Rattle.host_machine.specs.Laws.Restraint.Sources.{SourcesAreOwn};
 ghost use Rattle.host_machine.specs.Laws.Restraint.Words.{WordsAreLists};
 
 /// An IPv4 packet to an address in no list of the host's sends nothing: not assigned, no group of the host, no
@@ -30,12 +31,12 @@ pub fn foreign_packets_v6_are_dropped()
     ensures { ForeignPacketsV6AreDropped }
 {}
 
-/// A frame to the hardware address of another host changes nothing and sends nothing (RFC 1122 2.4).
+/// A frame to the hardware address of another host changes nothing and sends nothing (IEEE 802.3 3.2.3).
 pub fn frames_for_others_are_dropped()
     ensures { FramesForOthersAreDropped }
 {}
 
-/// A host takes each frame to its own hardware address, and each one to many hosts (RFC 1122 2.4).
+/// A host takes each frame to its own hardware address, and each one to many hosts (IEEE 802.3 3.2.3).
 pub fn own_frames_are_taken()
     ensures { OwnFramesAreTaken }
 {}
@@ -46,7 +47,8 @@ pub fn packets_from_no_host_are_dropped()
     ensures { PacketsFromNoHostAreDropped }
 {}
 
-/// Nor does an IPv6 packet from a group or from :: (RFC 4291 2.5.2, 2.7).
+/// Nor does an IPv6 packet from a group or from :: (RFC 4291 2.5.2, 2.7). That a solicitation from :: isn't answered is
+/// kept, against RFC 4861 7.2.4.
 pub fn packets_from_no_host_v6_are_dropped()
     ensures { PacketsFromNoHostV6AreDropped }
 {}
@@ -117,8 +119,9 @@ pub fn errors_v6_have_cause()
     ensures { ErrorsV6HaveCause }
 {}
 
-/// A segment in reply to a frame, so each reset, answers a segment that is no reset, between specified addresses. No
-/// raw socket took the packet, unless an aborted TCP socket answers (RFC 9293 3.5.2).
+/// A segment in reply to a frame is the reset of a segment that the frame brought, with the numbers of RFC 9293 3.10.7.1
+/// and without data. It goes back to the sender, from the segment's destination. The segment is no reset itself, and is
+/// between specified addresses. No raw socket took the packet, unless an aborted TCP socket answers.
 pub fn resets_have_cause()
     ensures { ResetsHaveCause }
 {}
@@ -128,6 +131,13 @@ pub fn resets_have_cause()
 /// is asked for, with the host's own hardware address (RFC 1122 3.3.1, 2.3.2).
 pub fn packets_go_by_hops()
     ensures { PacketsGoByHops }
+{}
+
+/// Each packet that a call sends is from an address of the host: the one that the host chooses for its destination, in a
+/// reply the one to which the frame's packet went, or that was asked for. No echo reply is from a broadcast or a group.
+/// What a program bound its socket to, and where the rules depart from an RFC, are cases of their own (RFC 1122 3.2.1.3).
+pub fn sources_are_own()
+    ensures { SourcesAreOwn }
 {}
 
 /// The source for an IPv4 destination is the first address in whose network it is, or without one the first IPv4
@@ -148,8 +158,9 @@ pub fn reports_are_asked()
     ensures { ReportsAreAsked }
 {}
 
-/// A received frame changes no address and no route. It changes what was learnt from routers only if it has a router
-/// advertisement from a link-local address that no router forwarded, to an Ethernet host with SLAAC (RFC 4861 6.1.2).
+/// A received frame changes no address, no route, no group and no setting: AnyIP, the hardware address, the reassembly
+/// timeout, SLAAC. It changes what was learnt from routers only if it has a router advertisement from a link-local
+/// address that no router forwarded, to an Ethernet host with SLAAC (RFC 4861 6.1.2).
 pub fn frames_keep_settings()
     ensures { FramesKeepSettings }
 {}
@@ -160,12 +171,18 @@ pub fn other_steps_keep_settings()
     ensures { OtherStepsKeepSettings }
 {}
 
+/// No run changes how many neighbours there is room for. Its maker chooses that number.
+pub fn neighbor_room_stays()
+    ensures { NeighborRoomStays }
+{}
+
 /// No answer to a query is sent before the moment at which it is due (RFC 2236 3, RFC 3810 6.2).
 pub fn reports_wait()
     ensures { ReportsWait }
 {}
 
-/// Each frame that reports a join takes a group off those whose join is pending (RFC 2236 3, RFC 3810 6.1).
+/// Each frame that reports a join takes a group off those whose join is pending, so it is told of once: kept, against RFC
+/// 2236 3 and RFC 3810 6.1, by which a host tells again.
 pub fn joins_are_told_once()
     ensures { JoinsAreToldOnce }
 {}

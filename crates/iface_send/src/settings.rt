@@ -1,13 +1,14 @@
 //! The settings that calls of an interface change in its context.
-ghost use Rattle.std.specs.Prelude.{◌≡◌, ◌≤◌, List, [], false, pos};
+ghost use Rattle.std.specs.Prelude.{◌≡◌, ◌≤◌, List, [], false, pos, vec_capacity};
 ghost use Rattle.std.specs.FinMap as map;
 ghost use Rattle.net_base.specs.Time.{IsMoment};
 ghost use Rattle.net_base.specs.Checksum.{ip_mtu_of};
 ghost use Rattle.ip_address.specs.Hardware.{IsOf, medium_of};
-ghost use Rattle.host_machine.specs.State.Host.{SocketSet, at, no_sockets};
+ghost use Rattle.host_machine.specs.State.Host.{SocketSet, at, no_sockets, with_neighbor_room};
 ghost use Rattle.host_machine.specs.Sending.Multicast.{after_address_change};
 ghost use Rattle.group_table.specs.declared.report.IgmpReportState.TheVariants as igmp;
 ghost use Rattle.group_table.specs.declared.report.MldReportState.TheVariants as mld;
+ghost use Rattle.iface_tables.specs.Neighbor.{first_neighbors, room_over};
 ghost use Rattle.slaac.specs.Slaac.{initial_state};
 ghost use Rattle.iface_send.specs.Stands.{host_of, with_routes};
 ghost use Rattle.std.specs.Borrow.{sem, Lends};
@@ -18,9 +19,9 @@ use crate::context::{Context, IFACE_MAX_ADDR_COUNT};
 use crate::membership::{Membership, update_solicited_node_groups};
 use arrayvec::ArrayVec;
 use fragmentation::Fragmenter;
-use iface_tables::neighbor::Cache;
+use iface_tables::neighbor::{Cache, Neighbor};
 use iface_tables::route::Routes;
-use ip_wire::{HardwareAddress, IpCidr};
+use ip_wire::{HardwareAddress, IpAddress, IpCidr};
 use net_base::phy::DeviceCapabilities;
 use net_base::rand::Rand;
 use net_base::time::{Duration, Instant};
@@ -48,7 +49,7 @@ pub fn new(
       ip_addrs = [];
       any_ip = false;
       routes = [];
-      neighbors = record { known = map.empty; silent_until = pos 0 };
+      neighbors = first_neighbors 4;
       ipv4_id = ipv4_id;
       reassembly_timeout = 60000000;
       slots = map.empty;
@@ -102,6 +103,15 @@ pub fn set_ip_addrs(context: &mut Context, list: ArrayVec<IpCidr, IFACE_MAX_ADDR
         context.ip_addrs.as_slice(),
         &mut context.multicast.groups,
     );
+}
+
+/// Forgets all neighbours, and keeps them from now on in this storage: as many as it has capacity for. Without capacity
+/// there is room for four.
+pub fn set_neighbor_storage(context: &mut Context, storage: Vec<(IpAddress, Neighbor)>)
+    ensures { (sockets : SocketSet) → host_of context.new sockets
+        ≡ with_neighbor_room (host_of context.old sockets) (room_over (vec_capacity storage)) }
+{
+    context.neighbor_cache.set_storage(storage);
 }
 
 /// Turns AnyIP on or off: whether addresses that are routed to the interface count as its own.

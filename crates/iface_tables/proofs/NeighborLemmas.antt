@@ -3,7 +3,7 @@ use Rattle.std.proofs.Common.{rules, ◌≡◌, ◌≢◌, ℕ, ◌<◌, ◌≤�
 use Rattle.std.proofs.lemmas.Bool.Decides.{nat_tests}
 use Rattle.ip_address.specs.Hardware.{IsOf}
 use Rattle.std.specs.Prelude.{IfSome, Option, is_some, slice_get, nat_lt, IsTrue, if◌then◌else◌}
-use Rattle.std.specs.Prelude.{Bool, ◌==◌, ℤ, pos, ◌≤ℤ◌, true, false, cond, Some, None}
+use Rattle.std.specs.Prelude.{Bool, ℤ, pos, ◌≤ℤ◌, true, false, cond, Some, None}
 use Rattle.std.specs.List.{remove}
 use Rattle.std.specs.Ordering.{nat_cmp, eq_by_cmp}
 use Rattle.std.specs.Cmp.{IsTotalOrder, nat_cmp_total}
@@ -46,9 +46,9 @@ pub known_at : (es : List (IpAddress × Neighbor)) (a : IpAddress) → map.get (
 known_at es a = get-from_entries address_total es a
 
 -- what putting an entry leaves
-pub record PutsIn (es fs : List (IpAddress × Neighbor)) (a : IpAddress) (n : Neighbor) : Type 0 where
+pub record PutsIn (most : ℕ) (es fs : List (IpAddress × Neighbor)) (a : IpAddress) (n : Neighbor) : Type 0 where
   pub kept : IsKept fs
-  pub puts : Puts (from_entries es) (from_entries fs) a n
+  pub puts : Puts most (from_entries es) (from_entries fs) a n
 
 not_none : (n : Neighbor) → Some n ≢ None
 not_none n h = cc
@@ -82,9 +82,9 @@ others_kept es i within kept =
     record { distinct = distinct_after-remove address_total address_same es i within kept.distinct; by_end = taken es i kept.by_end within }
 
 -- a neighbour at an address that is there goes to its place
-pub place_there : (es : List (IpAddress × Neighbor)) (a : IpAddress) (d : IpAddress × Neighbor) (i : ℕ) →
-    IsKept es → i ≡ index_of address_cmp a es → i < length es → HasPlace es es a i
-place_there es a d i kept at within =
+pub place_there : (most : ℕ) (es : List (IpAddress × Neighbor)) (a : IpAddress) (d : IpAddress × Neighbor) (i : ℕ) →
+    IsKept es → i ≡ index_of address_cmp a es → i < length es → HasPlace most es es a i
+place_there most es a d i kept at within =
     let here : index_of address_cmp a es < length es = rw at at within in
     let key : (get_or es i d).0 ≡ a = rw at (key-there address_total address_same a es d here) in
     let is : find address_cmp a es ≡ Some (get_or es (index_of address_cmp a es) d).1 = find-there address_cmp a es d here in
@@ -105,9 +105,9 @@ place_there es a d i kept at within =
     }
 
 -- one at a new address goes to the front of a full table
-pub place_front : (es : List (IpAddress × Neighbor)) (a : IpAddress) (d : IpAddress × Neighbor) (i : ℕ) →
-    IsKept es → i ≡ index_of address_cmp a es → length es ≤ i → length es ≡ 4 → HasPlace es es a 0
-place_front es a d i kept at past four =
+pub place_front : (most : ℕ) (es : List (IpAddress × Neighbor)) (a : IpAddress) (d : IpAddress × Neighbor) (i : ℕ) →
+    IsKept es → i ≡ index_of address_cmp a es → length es ≤ i → 0 < most → most ≤ length es → HasPlace most es es a 0
+place_front most es a d i kept at past any full =
     let none = none_found es a i at past in
     let some : 0 < length es = omega arith in
     let len = len-from_entries address_total address_same es kept.distinct in
@@ -127,9 +127,9 @@ place_front es a d i kept at past four =
     }
 
 -- or behind all others, where there is room
-pub place_after : (es : List (IpAddress × Neighbor)) (a : IpAddress) (e : IpAddress × Neighbor) (i : ℕ) →
-    IsKept es → i ≡ index_of address_cmp a es → length es ≤ i → length es < 4 → HasPlace es (es ++ e ∷ []) a i
-place_after es a e i kept at past room =
+pub place_after : (most : ℕ) (es : List (IpAddress × Neighbor)) (a : IpAddress) (e : IpAddress × Neighbor) (i : ℕ) →
+    IsKept es → i ≡ index_of address_cmp a es → length es ≤ i → length es < most → HasPlace most es (es ++ e ∷ []) a i
+place_after most es a e i kept at past room =
     let none = none_found es a i at past in
     let le = index_of-le address_cmp a es in
     let end : i ≡ length es = omega arith in
@@ -139,13 +139,13 @@ place_after es a e i kept at past room =
       within = omega (arith, length_push es e);
       kept = rw rest kept;
       absent = rw rest (known_at es a ∙ none);
-      puts = λ n. rw rest (record { there = λ _. refl; room = λ _. refl; full = λ _ four. absurd (omega (arith, len)) });
+      puts = λ n. rw rest (record { there = λ _. refl; room = λ _. refl; full = λ _ many. absurd (omega (arith, len)) });
     }
 
 -- a neighbour that has settled at its place was put
-pub put_settled : (old mid new : List (IpAddress × Neighbor)) (a : IpAddress) (n : Neighbor) (i : ℕ) →
-    HasPlace old mid a i → IsSettled (remove mid i) (a, n) new → PutsIn old new a n
-put_settled old mid new a n i h s =
+pub put_settled : (most : ℕ) (old mid new : List (IpAddress × Neighbor)) (a : IpAddress) (n : Neighbor) (i : ℕ) →
+    HasPlace most old mid a i → IsSettled (remove mid i) (a, n) new → PutsIn most old new a n
+put_settled most old mid new a n i h s =
     let none : find address_cmp a (remove mid i) ≡ None = sym (known_at (remove mid i) a) ∙ h.absent in
     record {
       kept = record {
@@ -180,7 +180,7 @@ pub renewed_there : (es fs : List (IpAddress × Neighbor)) (a : IpAddress) (h : 
 renewed_there es fs a h end e i kept at within is same settled =
     let n : Neighbor = record e.1 { expires_at = end } in
     let f = found_is es a e i at within is in
-    let put = put_settled es es fs a n i (place_there es a e i kept at within) settled in
+    let put = put_settled 0 es es fs a n i (place_there 0 es a e i kept at within) settled in
     let there : IsTrue (map.contains_key (from_entries {R = address_cmp} es) a) = rw (known_at es a, f) refl in
     record { kept = put.kept; renews = rw (f, same) (put.puts.there there) }
 
@@ -192,10 +192,6 @@ renewed_other es a h end e i at within is other = rw (found_is es a e i at withi
 pub renewed_none : (es : List (IpAddress × Neighbor)) (a : IpAddress) (h : HardwareAddress) (end : ℤ) (i : ℕ) →
     i ≡ index_of address_cmp a es → length es ≤ i → from_entries es ≡ renewed_from (find address_cmp a es) (from_entries es) a h end
 renewed_none es a h end i at past = rw (none_found es a i at past) refl
-
--- what a test for a full table says
-pub four_of_full : (b : Bool) (n : ℕ) → b ≡ (n == 4) → b ≡ true → n ≡ 4
-four_of_full b n e t = grind (arith, nat_tests)
 
 -- the entries of a map, each of a medium
 abbrev EachOf : Medium → FinMap address_cmp Neighbor → Type 0
@@ -215,13 +211,13 @@ removed_of m k a all b e is = by (eq_by_cmp address_cmp b a) (sym (get-remove ad
   by false h = all b e h
 
 -- what is put keeps the medium
-pub put_of : (m : Medium) (old new : FinMap address_cmp Neighbor) (a : IpAddress) (n : Neighbor) →
-    IsOf m n.hardware_addr → Puts old new a n → EachOf m old → EachOf m new
-put_of m old new a n of p all = by (map.get old a) refl where
+pub put_of : (m : Medium) (most : ℕ) (old new : FinMap address_cmp Neighbor) (a : IpAddress) (n : Neighbor) →
+    IsOf m n.hardware_addr → Puts most old new a n → EachOf m old → EachOf m new
+put_of m most old new a n of p all = by (map.get old a) refl where
   room : (k : ℕ) → map.len old ≡ k → map.get old a ≡ None → EachOf m new
-  room k is none = elim (nat_lt k 4) as (λ b. nat_lt k 4 ≡ b → EachOf m new) [
-    | true ↦ λ t. let h : map.len old < 4 = grind (arith, nat_tests) in rw (p.room h) (inserted_of m old a n of all)
-    | false ↦ λ t. let h : 4 ≤ map.len old = grind (arith, nat_tests) in let f = p.full none h in
+  room k is none = elim (nat_lt k most) as (λ b. nat_lt k most ≡ b → EachOf m new) [
+    | true ↦ λ t. let h : map.len old < most = grind (arith, nat_tests) in rw (p.room h) (inserted_of m old a n of all)
+    | false ↦ λ t. let h : most ≤ map.len old = grind (arith, nat_tests) in let f = p.full none h in
         rw f.2 (inserted_of m (map.remove old f.0) a n of (removed_of m old f.0 all))
   ] refl
 
@@ -247,4 +243,4 @@ pub renewed_in : (m : Medium) (es fs : List (IpAddress × Neighbor)) (a : IpAddr
     from_entries {R = address_cmp} fs ≡ renewed_from (find address_cmp a es) (from_entries es) a h end → EachOf m (from_entries es) →
     EachOf m (from_entries {R = address_cmp} fs)
 renewed_in m es fs a h end e all =
-    rw (e, ← known_at es a) (renewed_of m (record { known = from_entries es; silent_until = pos 0 }) a h end all)
+    rw (e, ← known_at es a) (renewed_of m (record { room = 0; known = from_entries es; silent_until = pos 0 }) a h end all)

@@ -1,11 +1,11 @@
 -- Neighbours (RFC 826, RFC 4861): a finite map from their addresses, and one silence for all discoveries.
-use Rattle.std.specs.Prelude.{◌≡◌, ℕ, ◌<◌, ◌≤◌, ℤ, pos, ◌+ℤ◌, ◌≤ℤ◌, Bool, true, false, IsTrue}
+use Rattle.std.specs.Prelude.{◌≡◌, ℕ, ◌==◌, ◌<◌, ◌≤◌, ℤ, pos, ◌+ℤ◌, ◌≤ℤ◌, Bool, true, false, IsTrue}
 use Rattle.std.specs.Prelude.{List, length, slice_index_or, Option, Some, None, if◌then◌else◌, refl}
 use Rattle.std.specs.List.{insert, remove}
 use Rattle.std.specs.Ordering.{int_cmp, is_lt}
 use Rattle.std.specs.FinMap as map
 use Rattle.std.specs.FinMap.{FinMap}
-use Rattle.std.specs.Coded.{Coded, code_by, coded×, coded_ℤ}
+use Rattle.std.specs.Coded.{Coded, code_by, coded×, coded_ℕ, coded_ℤ}
 use Rattle.ip_address.specs.Ip.{address_cmp, address_code}
 use Rattle.net_base.specs.declared.phy.Medium.{Medium}
 use Rattle.ip_address.specs.Hardware.{IsOf, IsOf-prop, hardware_code}
@@ -14,14 +14,25 @@ use Rattle.ip_address.specs.declared.ip.IpAddress.{IpAddress}
 use Rattle.ip_address.specs.declared.hardware.HardwareAddress.{HardwareAddress}
 use Rattle.ip_address.specs.declared.hardware.HardwareAddress.TheVariants.{Ip, Ethernet}
 use Rattle.iface_tables.specs.Entries.{AreKeysDistinct}
+use Rattle.iface_tables.specs.Store.{Stored}
 use Rattle.iface_tables.specs.declared.neighbor.Neighbor.{Neighbor}
 use Rattle.iface_tables.specs.declared.neighbor.Answer.{Answer}
 use Rattle.iface_tables.specs.declared.neighbor.Answer.TheVariants.{Found, NotFound, RateLimited}
 
--- the neighbours by address, each with its expiry, and the moment until which no discovery is sent
+-- how many neighbours there is room for, the neighbours by address, each with its expiry, and the moment until which no
+-- discovery is sent
 pub record Neighbors : Type 0 where
+  pub room : ℕ
   pub known : FinMap address_cmp Neighbor
   pub silent_until : ℤ
+
+-- the neighbours at first: none is known, and there is no silence
+abbrev pub first_neighbors : ℕ → Neighbors
+first_neighbors room = record { room = room; known = map.empty; silent_until = pos 0 }
+
+-- how many there is room for over storage of this capacity: as many, or four in the cache itself if it has none
+abbrev pub room_over : ℕ → ℕ
+room_over capacity = if capacity == 0 then 4 else capacity
 
 -- the expiry of an entry that is stored or renewed at t: 60 s later
 abbrev pub expiry_from : ℤ → ℤ
@@ -57,11 +68,11 @@ pub record IsLeastEnd (m : FinMap address_cmp Neighbor) (v : IpAddress) : Type 0
   pub is_there : map.get m v ≡ Some entry
   pub least : (b : IpAddress) (n : Neighbor) → map.get m b ≡ Some n → entry.expires_at ≤ℤ n.expires_at
 
--- new is old with n at a. If a is not there and four entries are, any one with the earliest expiry is removed first
-pub record Puts (old new : FinMap address_cmp Neighbor) (a : IpAddress) (n : Neighbor) : Type 0 where
+-- new is old with n at a. If a is not there and no room is, any entry with the earliest expiry is removed first
+pub record Puts (most : ℕ) (old new : FinMap address_cmp Neighbor) (a : IpAddress) (n : Neighbor) : Type 0 where
   pub there : IsTrue (map.contains_key old a) → new ≡ map.insert old a n
-  pub room : map.len old < 4 → new ≡ map.insert old a n
-  pub full : map.get old a ≡ None → 4 ≤ map.len old →
+  pub room : map.len old < most → new ≡ map.insert old a n
+  pub full : map.get old a ≡ None → most ≤ map.len old →
       (v : IpAddress) × IsLeastEnd old v × (new ≡ map.insert (map.remove old v) a n)
 
 -- each known neighbour has an address of that medium
@@ -71,9 +82,10 @@ AreOf m c = (a : IpAddress) (n : Neighbor) → map.get c.known a ≡ Some n → 
 pub AreOf-prop : (m : Medium) (c : Neighbors) → IsProp (AreOf m c)
 AreOf-prop m c p q = λ i a n is. IsOf-prop m n.hardware_addr (p a n is) (q a n is) i
 
--- filling stores n at a, and keeps the silence
+-- filling stores n at a, and keeps the room and the silence
 pub record Fills (old new : Neighbors) (a : IpAddress) (n : Neighbor) : Type 0 where
-  pub puts : Puts old.known new.known a n
+  pub puts : Puts old.room old.known new.known a n
+  pub room : new.room ≡ old.room
   pub silence : new.silent_until ≡ old.silent_until
 
 -- whether two hardware addresses are equal
@@ -104,6 +116,11 @@ pub record IsKept (es : List (IpAddress × Neighbor)) : Type 0 where
   pub distinct : AreKeysDistinct address_cmp es
   pub by_end : IsByEnd es
 
+-- the same of entries in a store, which has room for one at least
+pub record IsKeptIn (s : Stored (IpAddress × Neighbor)) : Type 0 where
+  pub kept : IsKept s.items
+  pub some : 0 < s.room
+
 -- an entry was inserted among others, and all are by rising expiry
 pub record IsSettled (others : List (IpAddress × Neighbor)) (entry : IpAddress × Neighbor)
     (new : List (IpAddress × Neighbor)) : Type 0 where
@@ -114,11 +131,11 @@ pub record IsSettled (others : List (IpAddress × Neighbor)) (entry : IpAddress 
 
 -- the entry at an index of new may be overwritten by a neighbour at a: the others are those of old without a, or
 -- without one with the earliest expiry
-pub record HasPlace (old new : List (IpAddress × Neighbor)) (a : IpAddress) (place : ℕ) : Type 0 where
+pub record HasPlace (most : ℕ) (old new : List (IpAddress × Neighbor)) (a : IpAddress) (place : ℕ) : Type 0 where
   pub within : place < length new
   pub kept : IsKept (remove new place)
   pub absent : map.get (map.from_entries {R = address_cmp} (remove new place)) a ≡ None
-  pub puts : (n : Neighbor) → Puts (map.from_entries old) (map.insert (map.from_entries (remove new place)) a n) a n
+  pub puts : (n : Neighbor) → Puts most (map.from_entries old) (map.insert (map.from_entries (remove new place)) a n) a n
 
 -- a neighbour by its parts
 abbrev pub neighbor_code : Coded Neighbor
@@ -130,7 +147,7 @@ neighbor_code =
 -- a cache by its parts
 abbrev pub neighbors_code : Coded Neighbors
 neighbors_code =
-    code_by (FinMap address_cmp Neighbor × ℤ) (coded× (map.code address_code neighbor_code) coded_ℤ)
-    (λ c. (c.known, c.silent_until))
-    (λ p. record { known = p.0; silent_until = p.1 })
+    code_by (ℕ × (FinMap address_cmp Neighbor × ℤ)) (coded× coded_ℕ (coded× (map.code address_code neighbor_code) coded_ℤ))
+    (λ c. (c.room, (c.known, c.silent_until)))
+    (λ p. record { room = p.0; known = p.1.0; silent_until = p.1.1 })
     (λ _. refl)

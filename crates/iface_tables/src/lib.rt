@@ -4,3 +4,4 @@
 pub mod neighbor;
 pub mod route;
 pub mod route_trie;
+pub mod store;

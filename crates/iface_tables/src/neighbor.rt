@@ -1,6 +1,6 @@
 //! The neighbour cache (RFC 826, RFC 4861): the hardware address of each known IP address, and the moment until which
 //! no discovery is sent.
-ghost use Rattle.std.specs.Prelude.{◌≡◌, ◌<◌, IfSome, true, pos, length, slice_get};
+ghost use Rattle.std.specs.Prelude.{◌≡◌, ◌<◌, [], IfSome, true, pos, length, slice_get, vec_capacity};
 ghost use Rattle.std.specs.List.{remove};
 ghost use Rattle.std.specs.FinMap as map;
 ghost use Rattle.std.specs.FinMap.{find};
@@ -14,15 +14,15 @@ ghost use Rattle.ip_address.specs.Hardware.{medium_of};
 ghost use Rattle.iface_tables.specs.Entries as entry;
 ghost use Rattle.iface_tables.specs.Entries.{AreKeysDistinct};
 ghost use Rattle.iface_tables.specs.Neighbor as spec;
-ghost use Rattle.iface_tables.specs.Neighbor.{AreOf, Puts, Fills, HasPlace, IsByEnd, IsKept, IsSettled};
-ghost use Rattle.iface_tables.specs.Neighbor.{after_renewal, renewed_from, answer_of, expiry_from};
+ghost use Rattle.iface_tables.specs.Neighbor.{AreOf, Puts, Fills, HasPlace, IsByEnd, IsKept, IsKeptIn, IsSettled};
+ghost use Rattle.iface_tables.specs.Neighbor.{after_renewal, renewed_from, answer_of, expiry_from, first_neighbors, room_over};
 
-use arrayvec::ArrayVec;
+use crate::store::Store;
 use ip_wire::{HardwareAddress, IpAddress};
 use net_base::time::{Duration, Instant};
 use std::marker::Model;
 
-/// The maximum number of neighbours in a cache.
+/// The number of neighbours that a cache keeps without storage.
 pub const IFACE_NEIGHBOR_CACHE_COUNT: usize = 4;
 
 /// A neighbour: its hardware address, and the moment from which that is no longer known.
@@ -75,27 +75,32 @@ impl Answer {
     }
 }
 
-/// A cache of at most four neighbours, with one silence for all discoveries.
+// Entries, as many as there is room for.
+type Entries = Store<(IpAddress, Neighbor), IFACE_NEIGHBOR_CACHE_COUNT>;
+
+/// A cache of neighbours, as many as it has room for, with one silence for all discoveries. It takes no memory: it has
+/// room for four in itself, or for more in storage that its maker hands over.
 ///
-/// In contracts it is a finite map from addresses to neighbours, and the moment until which no discovery is sent.
+/// In contracts it is the number of neighbours that it has room for, a finite map from addresses to neighbours, and the
+/// moment until which no discovery is sent.
 #[derive(Drop)]
 pub struct Cache {
     // By rising expiry.
-    entries: ArrayVec<(IpAddress, Neighbor), IFACE_NEIGHBOR_CACHE_COUNT>,
+    entries: Entries,
     silent_until: Instant,
 }
 
 impl Model for Cache {
     ghost use Rattle.std.specs.FinMap as map;
-    ghost use Rattle.iface_tables.specs.Neighbor.{IsKept, Neighbors, neighbors_code};
+    ghost use Rattle.iface_tables.specs.Neighbor.{IsKeptIn, Neighbors, neighbors_code};
 
     ghost Value = { Neighbors };
 
     ghost coded = { neighbors_code };
 
-    ghost view = { λ c. record { known = map.from_entries c.entries.items; silent_until = c.silent_until } };
+    ghost view = { λ c. record { room = c.entries.room; known = map.from_entries c.entries.items; silent_until = c.silent_until } };
 
-    ghost invariant = { λ c. IsKept c.entries.items };
+    ghost invariant = { λ c. IsKeptIn c.entries };
 }
 
 impl Cache {
@@ -105,18 +110,38 @@ impl Cache {
     /// How long a neighbour is known.
     pub const ENTRY_LIFETIME: Duration = Duration { micros: 60_000_000 };
 
-    /// An empty cache that isn't silent.
+    /// An empty cache for four neighbours that isn't silent.
     pub fn new() -> Cache
-        ensures value { result ≡ record { known = map.empty; silent_until = pos 0 } }
+        ensures value { result ≡ first_neighbors 4 }
         ensures of { (m : Medium) → AreOf m result }
     {
         Cache {
-            entries: ArrayVec::new(),
+            entries: Store::new(),
             silent_until: Instant::ZERO,
         }
     }
 
-    /// Stores a neighbour's hardware address for 60 s. If the neighbour is new and four others are stored, one with the
+    /// An empty cache that isn't silent, for as many neighbours as the storage has capacity for, or for four if it has
+    /// none. Entries in the storage are dropped.
+    pub fn with_storage(storage: Vec<(IpAddress, Neighbor)>) -> Cache
+        ensures value { result ≡ first_neighbors (room_over (vec_capacity storage)) }
+        ensures of { (m : Medium) → AreOf m result }
+    {
+        let mut cache = Cache::new();
+        cache.set_storage(storage);
+        cache
+    }
+
+    /// Forgets all neighbours. From now on there is room for as many as the storage has capacity for, or for four if it
+    /// has none. Entries in the storage are dropped. The silence stays unchanged.
+    pub fn set_storage(&mut self, storage: Vec<(IpAddress, Neighbor)>)
+        ensures value { self.new ≡ record self.old { room = room_over (vec_capacity storage); known = map.empty } }
+        ensures of { (m : Medium) → AreOf m self.new }
+    {
+        self.entries = entries_over(storage);
+    }
+
+    /// Stores a neighbour's hardware address for 60 s. If the neighbour is new and there is no room, one with the
     /// earliest expiry is removed. Both addresses must be unicast.
     pub fn fill(
         &mut self,
@@ -136,7 +161,7 @@ impl Cache {
     }
 
     /// Stores a neighbour's hardware address until an expiry, which may be any instant. If the neighbour is new and
-    /// four others are stored, one with the earliest expiry is removed. Both addresses must be unicast.
+    /// there is no room, one with the earliest expiry is removed. Both addresses must be unicast.
     pub fn fill_with_expiration(
         &mut self,
         protocol_addr: IpAddress,
@@ -187,7 +212,7 @@ impl Cache {
         requires { ip.is_unicast protocol_addr.now ≡ true }
         ensures { result ≡ answer_of self.now protocol_addr.now timestamp }
     {
-        match find_in(&self.entries, protocol_addr) {
+        match find_in(self.entries.as_slice(), protocol_addr) {
             Some(neighbor) if timestamp < neighbor.expires_at => {
                 Answer::Found(neighbor.hardware_addr)
             }
@@ -221,6 +246,16 @@ impl Cache {
     {
         self.entries.clear();
     }
+}
+
+// No entries: in storage or, if that has no capacity, in the cache itself.
+fn entries_over(storage: Vec<(IpAddress, Neighbor)>) -> Entries
+    ensures { result ≡ record { items = []; room = room_over (vec_capacity storage) } }
+{
+    if storage.capacity() == 0 {
+        return Store::new();
+    }
+    Store::over(storage)
 }
 
 // Whether two addresses are equal, by family and number. Written so, it takes fewer instructions than `==`.
@@ -322,19 +357,18 @@ fn settle_copy(
 
 // The index for a neighbour: that of its address, or one after all, or in a full table the first, so that the entry
 // with the earliest expiry makes room.
-fn index_for(
-    entries: &mut ArrayVec<(IpAddress, Neighbor), IFACE_NEIGHBOR_CACHE_COUNT>,
-    address: &IpAddress,
-    neighbor: &Neighbor,
-) -> usize
-    requires { IsKept entries.old.items }
-    ensures { HasPlace entries.old.items entries.new.items address.now result }
+fn index_for(entries: &mut Entries, address: &IpAddress, neighbor: &Neighbor) -> usize
+    requires { IsKeptIn entries.old }
+    ensures place { HasPlace entries.old.room entries.old.items entries.new.items address.now result }
+    ensures room { entries.new.room ≡ entries.old.room }
 {
-    let place = index_of(entries.as_slice(), address);
-    if place < entries.len() {
+    let stored = entries.as_slice();
+    let place = index_of(stored, address);
+    let len = stored.len();
+    if place < len {
         return place;
     }
-    if entries.is_full() {
+    if len >= entries.room() {
         return 0;
     }
     entries.push((*address, *neighbor));
@@ -342,14 +376,11 @@ fn index_for(
 }
 
 // Stores a neighbour at its address. In a full table an entry with the earliest expiry makes room.
-fn put_in(
-    entries: &mut ArrayVec<(IpAddress, Neighbor), IFACE_NEIGHBOR_CACHE_COUNT>,
-    address: IpAddress,
-    neighbor: Neighbor,
-)
-    requires { IsKept entries.old.items }
-    ensures kept { IsKept entries.new.items }
-    ensures puts { Puts (map.from_entries entries.old.items) (map.from_entries entries.new.items) address neighbor }
+fn put_in(entries: &mut Entries, address: IpAddress, neighbor: Neighbor)
+    requires { IsKeptIn entries.old }
+    ensures kept { IsKeptIn entries.new }
+    ensures room { entries.new.room ≡ entries.old.room }
+    ensures puts { Puts entries.old.room (map.from_entries entries.old.items) (map.from_entries entries.new.items) address neighbor }
 {
     let place = index_for(entries, &address, &neighbor);
     settle(entries.as_mut_slice(), place, address, neighbor);
@@ -357,22 +388,22 @@ fn put_in(
 
 // Changes the expiry of the entry at an address, if it has this hardware address.
 #[inline(always)]
-fn renew_in(
-    entries: &mut ArrayVec<(IpAddress, Neighbor), IFACE_NEIGHBOR_CACHE_COUNT>,
+fn renew(
+    entries: &mut [(IpAddress, Neighbor)],
     address: &IpAddress,
     hardware_addr: &HardwareAddress,
     expires_at: Instant,
 )
-    requires { IsKept entries.old.items }
-    ensures kept { IsKept entries.new.items }
-    ensures renews { map.from_entries entries.new.items ≡ renewed_from (find address_cmp address.now entries.old.items)
-        (map.from_entries entries.old.items) address.now hardware_addr.now expires_at }
+    requires { IsKept entries.old }
+    ensures kept { IsKept entries.new }
+    ensures renews { map.from_entries entries.new ≡ renewed_from (find address_cmp address.now entries.old)
+        (map.from_entries entries.old) address.now hardware_addr.now expires_at }
 {
-    let place = index_of(entries.as_slice(), address);
+    let place = index_of(entries, address);
     if place >= entries.len() {
         return;
     }
-    let entry = entries.as_slice()[place];
+    let entry = entries[place];
     if entry.1.hardware_addr != *hardware_addr {
         return;
     }
@@ -380,5 +411,22 @@ fn renew_in(
         hardware_addr: entry.1.hardware_addr,
         expires_at,
     };
-    settle_renewed(entries.as_mut_slice(), place, address, &neighbor);
+    settle_renewed(entries, place, address, &neighbor);
+}
+
+// The same in a store.
+#[inline(always)]
+fn renew_in(
+    entries: &mut Entries,
+    address: &IpAddress,
+    hardware_addr: &HardwareAddress,
+    expires_at: Instant,
+)
+    requires { IsKeptIn entries.old }
+    ensures kept { IsKeptIn entries.new }
+    ensures room { entries.new.room ≡ entries.old.room }
+    ensures renews { map.from_entries entries.new.items ≡ renewed_from (find address_cmp address.now entries.old.items)
+        (map.from_entries entries.old.items) address.now hardware_addr.now expires_at }
+{
+    renew(entries.as_mut_slice(), address, hardware_addr, expires_at);
 }

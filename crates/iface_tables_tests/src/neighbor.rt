@@ -30,6 +30,15 @@ fn a_neighbor_is_known_until_its_end(rt: HostRuntime) {
 }
 
 #[test]
+fn a_neighbor_is_replaced(rt: HostRuntime) {
+    let mut cache = Cache::new();
+    cache.fill(FIRST, LINK_A, Instant::ZERO);
+    cache.fill(FIRST, LINK_B, Instant::ZERO);
+    let is_replaced = cache.lookup(&FIRST, Instant::ZERO) == Answer::Found(LINK_B);
+    assert!(rt; is_replaced && cache.by_expiry().len() == 1);
+}
+
+#[test]
 fn one_of_least_end_makes_room(rt: HostRuntime) {
     let mut cache = Cache::new();
     cache.fill(FIRST, LINK_A, Instant::from_millis(100));
@@ -110,4 +119,53 @@ fn neighbors_stand_by_their_ends(rt: HostRuntime) {
         (FIFTH, Instant::from_millis(60_400)),
     ];
     assert!(rt; is_right && are_in_order && is_replaced && lends(&cache, &wanted));
+}
+
+// A cache that has learnt five neighbours, one after the other.
+fn with_five(mut cache: Cache) -> Cache {
+    cache.fill(FIRST, LINK_A, Instant::from_millis(100));
+    cache.fill(SECOND, LINK_A, Instant::from_millis(150));
+    cache.fill(THIRD, LINK_A, Instant::from_millis(200));
+    cache.fill(FOURTH, LINK_A, Instant::from_millis(250));
+    cache.fill(FIFTH, LINK_B, Instant::from_millis(300));
+    cache
+}
+
+#[test]
+fn storage_has_room_for_as_many_as_its_capacity(rt: HostRuntime) {
+    let five = Vec::with_capacity(rt.alloc(), 5).expect(&rt, "room");
+    let one = Vec::with_capacity(rt.alloc(), 1).expect(&rt, "room");
+    let first_five = [
+        (FIRST, Instant::from_millis(60_100)),
+        (SECOND, Instant::from_millis(60_150)),
+        (THIRD, Instant::from_millis(60_200)),
+        (FOURTH, Instant::from_millis(60_250)),
+        (FIFTH, Instant::from_millis(60_300)),
+    ];
+    let all = &first_five[..];
+    let cache = with_five(Cache::with_storage(five));
+    let knows_five = lends(&cache, all);
+    let cache = with_five(Cache::with_storage(one));
+    let knows_one = lends(&cache, &all[4..]);
+    let cache = with_five(Cache::with_storage(Vec::new(rt.alloc())));
+    let knows_four = lends(&cache, &all[1..]);
+    assert!(rt; knows_five && knows_one && knows_four);
+}
+
+#[test]
+fn storage_is_changed_without_a_trace_but_the_silence(rt: HostRuntime) {
+    let two = Vec::with_capacity(rt.alloc(), 2).expect(&rt, "room");
+    let mut cache = with_five(Cache::new());
+    cache.limit_rate(Instant::ZERO);
+    cache.set_storage(two);
+    let soon = Instant::from_millis(100);
+    let is_empty = lends(&cache, &[]) && cache.lookup(&FIRST, soon) == Answer::RateLimited;
+    let mut cache = with_five(cache);
+    cache.flush();
+    let cache = with_five(cache);
+    let last_two = [
+        (FOURTH, Instant::from_millis(60_250)),
+        (FIFTH, Instant::from_millis(60_300)),
+    ];
+    assert!(rt; is_empty && lends(&cache, &last_two));
 }

@@ -18,6 +18,7 @@ use Rattle.iface_send.specs.declared.context.Context.{Context}
 use Rattle.iface_send.specs.Stands.{host_of}
 use Rattle.iface_send.specs.Refines.{StandsFor}
 use Rattle.slaac.specs.Slaac.{initial_state}
+use Rattle.iface_tables.specs.Neighbor.{first_neighbors}
 use Rattle.host_machine.specs.State.Config.{refusal_of, same_medium, first_host, first_id}
 
 -- no reason to refuse holds
@@ -35,7 +36,7 @@ pub made : (c d : DeviceCapabilities) (h : HardwareAddress) (seed id random : â„
       ip_addrs = [];
       any_ip = false;
       routes = [];
-      neighbors = record { known = map.empty; silent_until = pos 0 };
+      neighbors = first_neighbors 4;
       ipv4_id = id;
       reassembly_timeout = 60000000;
       slots = map.empty;

@@ -25,15 +25,17 @@ use iface_multicast::mld::mld_egress;
 use iface_receive::ethernet::process_frame;
 use iface_send::autoconfiguration::sync_slaac;
 use iface_send::context::IFACE_MAX_ADDR_COUNT;
+use iface_send::dispatch::has_neighbor;
 use iface_send::fragments::ipv4_egress;
 use iface_send::multicast::{join_group, leave_group};
 use iface_send::settings::{
-    routes_mut, set_any_ip, set_hardware_addr, set_ip_addrs, set_moment, set_reassembly_timeout,
+    routes_mut, set_any_ip, set_hardware_addr, set_ip_addrs, set_moment, set_neighbor_storage,
+    set_reassembly_timeout,
 };
 use iface_send::transmit::send_frame;
 use iface_send::{Context, settings};
 use iface_sockets::turns::socket_egress;
-use iface_tables::neighbor::Cache;
+use iface_tables::neighbor::{Cache, Neighbor};
 use iface_tables::route::Routes;
 use ip_wire::emit::FrameBuffer;
 use ip_wire::{HardwareAddress, IpAddress, IpCidr, Ipv4Address, Ipv6Address};
@@ -78,7 +80,8 @@ pub struct Interface {
 }
 
 impl Interface {
-    ghost use Rattle.std.specs.Prelude.{◌≡◌, ◌≤◌, List, [], Option, IfOk, IfSome, IsOk, MatchResult, length};
+    ghost use Rattle.std.specs.Prelude.{◌≡◌, ◌≤◌, List, [], Option, IfOk, IfSome, IsOk, MatchResult, length, vec_capacity};
+    ghost use Rattle.iface_tables.specs.Neighbor.{room_over};
     ghost use Rattle.std.specs.Option.{option_copied, option_map};
     ghost use Rattle.std.specs.Io.BufRead.{Rests};
     ghost use Rattle.interface.specs.Receives.{HostRefinesReceiving};
@@ -95,6 +98,7 @@ impl Interface {
     ghost use Rattle.host_machine.specs.Laws.Real.{IsRegular};
     ghost use Rattle.host_machine.specs.State.Host.{Host, at, without_expired};
     ghost use Rattle.host_machine.specs.Sending.Egress.{Egress};
+    ghost use Rattle.host_machine.specs.Sending.Dispatch.{HasNeighbor};
     ghost use Rattle.host_machine.specs.Sending.Multicast.{JoinsGroup, LeavesGroup};
     ghost use Rattle.host_machine.specs.Polling.Polling.{Polls, Receives, Sends, after_maintenance};
     ghost use Rattle.host_machine.specs.Polling.Due.{Due, IsLeast, IsRest};
@@ -359,6 +363,25 @@ impl Interface {
         ensures { (sockets : SocketSet) → result.now ≡ (host_with self.now sockets).neighbors }
     {
         self.context.neighbors()
+    }
+
+    /// Whether the next hop to an address is a neighbour whose hardware address is known at the interface's moment, so that
+    /// a packet for it waits for nobody. The next hop is the address itself in a network of the interface, and otherwise
+    /// the gateway of the best route. `false` for an address that isn't unicast, and on a medium without hardware
+    /// addresses.
+    pub fn has_neighbor(&self, address: &IpAddress) -> bool
+        ensures { (sockets : SocketSet) → HasNeighbor (host_with self.now sockets) address.now result }
+    {
+        has_neighbor(&self.context, address)
+    }
+
+    /// Forgets all neighbours. From now on there is room for as many as the storage has capacity for, or for four in the
+    /// interface itself if it has none. Entries in the storage are dropped; a silence of discovery stays. Without this
+    /// call there is room for four. In a full table a new neighbour replaces the one with the earliest expiry.
+    pub fn set_neighbor_storage(&mut self, storage: Vec<(IpAddress, Neighbor)>)
+        ensures { Becomes self.old self.new (λ H. host.with_neighbor_room H (room_over (vec_capacity storage))) }
+    {
+        set_neighbor_storage(&mut self.context, storage);
     }
 
     /// Mutable access to the routes.

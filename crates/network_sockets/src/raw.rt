@@ -1,5 +1,5 @@
 //! Raw sockets, which send and receive whole packets of one protocol, with their headers.
-ghost use Rattle.std.specs.Prelude.{◌≡◌, ◌≤◌, length, is_ok, IfSome};
+ghost use Rattle.std.specs.Prelude.{◌≡◌, ◌≤◌, ◌+◌, ◌++◌, length, is_ok, IfSome};
 ghost use Rattle.std.specs.Option.{option_map};
 ghost use Rattle.ip_wire.specs.IpPacket.{TellsLength};
 ghost use Rattle.socket_base.specs.Queue.{is_room, first_of};
@@ -139,6 +139,15 @@ impl<L: Drop> SocketOf<L> {
         self.buffers.send(meta, packet)
     }
 
+    /// Queues a packet for sending in two parts, its header and its payload, of which each octet is copied once. Fails with
+    /// `Full` exactly if they don't fit together; then the socket stays unchanged.
+    pub fn send_parts(&mut self, header: &[u8], payload: &[u8]) -> Result<(), Full>
+        ensures fits { is_ok result ≡ is_room self.old.tx (length header.now + length payload.now) }
+        ensures socket { self.new ≡ spec.socket_after_send (header.now ++ payload.now) self.old }
+    {
+        self.buffers.send_parts((), header, payload)
+    }
+
     /// When the socket has to be polled again: immediately, if there is something to send.
     #[inline(always)]
     pub fn poll_at(&self) -> PollAt
@@ -198,7 +207,7 @@ impl<L: Drop> SocketOf<L> {
 /// The packet of an IP version that the octets begin with. The IPv4 header's checksum isn't verified.
 #[inline(always)]
 #[tactic(auto, using(crate::proofs::RawLemmas::is_ipv4_reads, crate::proofs::RawLemmas::reads_is_ipv4, crate::proofs::RawLemmas::is_ipv6_reads, crate::proofs::RawLemmas::reads_is_ipv6))]
-fn packet_in(version: IpVersion, octets: &[u8]) -> Option<Packet<'_>>
+pub fn packet_in(version: IpVersion, octets: &[u8]) -> Option<Packet<'_>>
     ensures { option_map spec.value_of result ≡ spec.packet_in version octets.now }
 {
     match version {

@@ -7,7 +7,7 @@
 #![tactic(auto)]
 
 use anyhow::{Result, bail};
-use simulator::line::script_in;
+use simulation_script::line::script_in;
 use simulator::simulation::{Form, run};
 use std::env;
 use std::io::{self, BufWriter, Write};

@@ -8,7 +8,7 @@
 #![tactic(auto)]
 
 use anyhow::{Context, Result};
-use simulator::line::script_in;
+use simulation_script::line::script_in;
 use simulator::simulation::{Form, run};
 use std::alloc::Global;
 use std::process::ExitCode;

@@ -1,6 +1,5 @@
 //! What a router advertises (RFC 4861 4.2, 4.6.2).
 
-use crate::script::{Router, Script};
 use anyhow::{Result, bail};
 use bitflags::Flags;
 use icmpv6_wire::{
@@ -11,6 +10,7 @@ use ip_wire::{
     EthernetAddress, EthernetProtocol, EthernetRepr, IpAddress, IpCidr, IpProtocol, Ipv6Address,
     Ipv6Repr,
 };
+use simulation_script::script::{Router, Script};
 use std::alloc::Global;
 
 /// Where frames for the group of all nodes go (RFC 2464 7).

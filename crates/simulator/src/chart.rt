@@ -1,7 +1,7 @@
 //! Sequence charts in text: a column for each host, and a line for each copy of a frame.
 
-use crate::script::{MAX_COLUMNS, Script};
 use anyhow::Result;
+use simulation_script::script::{MAX_COLUMNS, Script};
 use std::alloc::Global;
 use std::io::Write;
 

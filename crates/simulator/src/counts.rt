@@ -2,9 +2,9 @@
 
 use crate::kind::{KINDS, Kind};
 use crate::link::Fate;
-use crate::script::{Flow, Script};
 use crate::station::{Attempt, Received, Traffic};
 use anyhow::Result;
+use simulation_script::script::{Flow, Script};
 use std::alloc::Global;
 use std::fmt::{self, Display, Formatter};
 

@@ -5,12 +5,12 @@ use crate::chart::Outcome;
 use crate::kind::{Kind, Label};
 use crate::link::Passage;
 use crate::report;
-use crate::script::Pace;
 use crate::simulation::{Form, Simulation, instant};
 use crate::station::{Attempt, Received, Traffic, Turn};
 use anyhow::{Result, bail};
 use host_machine::{Answer, Command, PollIngressSingleResult};
 use net_base::phy::Device;
+use simulation_script::script::Pace;
 use std::alloc::Global;
 use std::io::Write;
 

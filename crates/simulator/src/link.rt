@@ -1,7 +1,7 @@
 //! What the link does with copies of frames, drawn from a seed.
 
-use crate::script::Treatment;
 use net_base::rand::Rand;
+use simulation_script::script::Treatment;
 
 /// How a copy of a frame comes to a host.
 #[derive(Clone, Copy, PartialEq, Eq, PartialOrd, Ord)]

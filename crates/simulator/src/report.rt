@@ -2,10 +2,10 @@
 
 use crate::counts::{Counts, Origin, Tally};
 use crate::kind::Kind;
-use crate::script::Script;
 use crate::station::{Received, Station};
 use anyhow::Result;
 use host::link::Host;
+use simulation_script::script::Script;
 use std::alloc::Global;
 use std::fmt::{self, Display, Formatter};
 use std::io::Write;

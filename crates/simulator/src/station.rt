@@ -1,5 +1,4 @@
 //! A host with its sockets, and the user of these.
-use crate::script::{HostLine, Script};
 use crate::simulation::instant;
 use anyhow::{Result, bail};
 use arrayvec::ArrayVec;
@@ -11,6 +10,7 @@ use ip_wire::{HardwareAddress, IpAddress, IpProtocol, IpVersion};
 use net_base::MemoryDevice;
 use net_base::phy::{ChecksumCapabilities, DeviceCapabilities, Medium};
 use net_base::time::{Duration, Instant};
+use simulation_script::script::{HostLine, Script};
 use socket_set::{SocketHandle, SocketSet};
 use sockets::{IpEndpoint, IpListenEndpoint, Queue, icmp, raw, udp};
 use std::alloc::Global;

@@ -1,7 +1,7 @@
 //! How frames leave a host, one after another.
 
-use crate::script::Rate;
 use anyhow::Result;
+use simulation_script::script::Rate;
 use std::alloc::Global;
 use std::collections::VecDeque;
 

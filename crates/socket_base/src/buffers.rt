@@ -87,6 +87,15 @@ impl<M: Drop> Buffers<M> {
         self.tx.push(meta, octets)
     }
 
+    /// Queues a packet for sending in two parts, one after the other. Fails with `Full` exactly if it doesn't fit; then the
+    /// queues stay unchanged.
+    pub fn send_parts(&mut self, meta: M, front: &[u8], back: &[u8]) -> Result<(), Full>
+        ensures fits { is_ok result ≡ is_room self.old.tx (length (front.now ++ back.now)) }
+        ensures queues { self.new ≡ spec.buffers_after_send meta (front.now ++ back.now) self.old }
+    {
+        self.tx.push_parts(meta, front, back)
+    }
+
     /// The first packet to send, if any: its metadata and its octets.
     pub fn first(&self) -> Option<(&M, &[u8])>
         ensures { option_map (λ p. (p.0.now, p.1.now)) result ≡ first_of self.now.tx.packets }

@@ -1,11 +1,11 @@
-//! Marks of the places of a set that may have a busy socket, so that a walk over the busy ones passes over 64
-//! others at once.
+//! Marks of the indices of a set whose sockets may be busy, so that a walk over the busy ones skips 64 others at
+//! once.
 ghost use Rattle.std.specs.Prelude.{◌≡◌, ◌≢◌, ◌<◌, ◌≤◌, ◌*◌, ◌↔◌, ℕ, min};
 ghost use Rattle.socket_set.specs.Busy.{IsClear};
 
 use std::marker::Model;
 
-/// How many places have a mark: the first. The places after them always count as busy.
+/// How many indices have a mark: the first ones. Those after them always count as busy.
 pub(crate) const MARKED_PLACES: usize = 1_024;
 
 // How many places share a word.
@@ -14,7 +14,7 @@ const WORD_PLACES: usize = 64;
 // How many words there are.
 const WORDS: usize = 16;
 
-/// A mark for each place, set where its socket may be busy.
+/// A mark for each index, set where its socket may be busy.
 ///
 /// In contracts it is the words of the marks.
 #[derive(Drop)]
@@ -31,7 +31,7 @@ impl Model for BusyMarks {
 }
 
 impl BusyMarks {
-    /// Every place may be busy.
+    /// The socket at every index may be busy.
     pub(crate) fn all() -> BusyMarks
         ensures { (i : ℕ) → IsClear result i → ⊥ }
     {
@@ -40,7 +40,7 @@ impl BusyMarks {
         }
     }
 
-    /// Marks a place as maybe busy. The others keep their marks.
+    /// Sets the mark of an index: its socket may be busy. The others keep their marks.
     #[inline(always)]
     pub(crate) fn set(&mut self, index: usize)
         ensures marked { IsClear self.new index → ⊥ }
@@ -51,7 +51,7 @@ impl BusyMarks {
         }
     }
 
-    /// Clears the mark of a place, if it has one. The others keep theirs.
+    /// Clears the mark of an index, if it has one. The others keep theirs.
     #[inline(always)]
     pub(crate) fn clear(&mut self, index: usize)
         ensures cleared { index < 1024 → IsClear self.new index }
@@ -62,7 +62,7 @@ impl BusyMarks {
         }
     }
 
-    /// The first place from an index on and before an end that may be busy; the end, where there is none.
+    /// Returns the first index from one on and before an end whose socket may be busy; the end, where there is none.
     #[inline(always)]
     pub(crate) fn next(&self, from: usize, end: usize) -> usize
         ensures within { result ≤ end }

@@ -1,4 +1,4 @@
-//! The sockets of a set by the indices of their places, for the layers that serve all of them in turn.
+//! The sockets of a set by their indices, for the layers that serve all of them in turn.
 ghost use Rattle.std.specs.Borrow.{sem, LendsIf};
 ghost use Rattle.std.specs.Prelude.{◌≡◌, ◌≢◌, ◌<◌, ◌≤◌, ℕ, Bool, true, false, Some, IsSome, IsNone, IfSome, length};
 ghost use Rattle.std.specs.Option.{option_copied, option_copied_mut, option_and_then};
@@ -19,21 +19,21 @@ use net_base::time::Instant;
 use sockets::socket::{AnySocketOf, SocketOf};
 use sockets::{IpEndpoint, PollAt};
 
-/// How many places there are, free or not.
+/// Returns how many indices there are, free or not.
 pub fn places<L: Drop>(sockets: &SocketSetOf<L>) -> usize
     ensures { result ≡ length sockets.now.places }
 {
     sockets.places()
 }
 
-/// The index of the place that a handle names.
+/// Returns the index that a handle names.
 pub fn index_of(handle: SocketHandle) -> usize
     ensures { result ≡ handle }
 {
     handle.index()
 }
 
-/// The socket at an index, if it is of a kind. `None` exactly for a free place, a socket of another
+/// Returns the socket at an index, if it is of a kind. `None` exactly for a free index, a socket of another
 /// kind, or an index out of range.
 #[inline(always)]
 pub fn kind<T: AnySocketOf<L>, L: Drop>(sockets: &SocketSetOf<L>, index: usize) -> Option<&T>
@@ -42,15 +42,14 @@ pub fn kind<T: AnySocketOf<L>, L: Drop>(sockets: &SocketSetOf<L>, index: usize) 
     sockets.kind(index)
 }
 
-/// The socket at an index, of whatever kind. `None` exactly for a free place or an index out of
-/// range.
+/// Returns the socket at an index, of whatever kind. `None` exactly for a free index or one out of range.
 pub fn socket<L: Drop>(sockets: &SocketSetOf<L>, index: usize) -> Option<&SocketOf<L>>
     ensures { option_copied result ≡ socket_at sockets.now index }
 {
     sockets.socket(index)
 }
 
-/// The same, for writing. At `None` the set stays as it was.
+/// Returns the socket at an index for writing, if it is of a kind. At `None` the set stays as it was.
 pub fn kind_mut<T: AnySocketOf<L>, L: Drop>(
     sockets: &mut SocketSetOf<L>,
     index: usize,
@@ -64,8 +63,8 @@ pub fn kind_mut<T: AnySocketOf<L>, L: Drop>(
 }
 
 /// Queues a datagram received from an endpoint at the UDP socket of an index, or drops it for lack of room. Returns
-/// whether there is one; otherwise the set stays as it was. What is known of the socket stays known: it gets neither
-/// another port nor anything to send.
+/// whether there is such a socket; otherwise the set stays as it was. Mark and key of the index stay: the socket gets
+/// neither another port nor anything to send.
 #[inline(always)]
 pub fn process_udp<L: Drop>(
     sockets: &mut SocketSetOf<L>,
@@ -80,7 +79,7 @@ pub fn process_udp<L: Drop>(
     sockets.process_udp(index, remote, payload)
 }
 
-/// The socket at an index, of whatever kind. `None` exactly for a free place or an index out of
+/// Returns the socket at an index, of whatever kind, for writing. `None` exactly for a free index or one out of
 /// range; then the set stays as it was.
 pub fn socket_mut<L: Drop>(sockets: &mut SocketSetOf<L>, index: usize) -> Option<&mut SocketOf<L>>
     ensures* lends { sem 𝓛 (LendsIf (set_row L.row) (socket_row L.row) sockets.entry result
@@ -90,16 +89,16 @@ pub fn socket_mut<L: Drop>(sockets: &mut SocketSetOf<L>, index: usize) -> Option
     sockets.socket_mut(index)
 }
 
-/// The neighbour that the socket at an index waits for, and when it may be asked again. `None` exactly where it doesn't
-/// wait, for a free place, or an index out of range. A wait whose end has passed stands until its neighbour is known or
-/// another one begins.
+/// Returns the destination whose next hop the socket at an index waits for, and when it may be asked again. `None`
+/// exactly where it doesn't wait, for a free index, or one out of range. A wait whose end has passed stays recorded
+/// until its next hop is known or another wait begins.
 pub fn wait<L: Drop>(sockets: &SocketSetOf<L>, index: usize) -> Option<(IpAddress, Instant)>
     ensures { result ≡ wait_of sockets.now index }
 {
     sockets.wait_at(index)
 }
 
-/// Lets the socket at an index wait for a neighbour until an instant, or not wait.
+/// Lets the socket at an index wait for the next hop to a destination until an instant, or not wait.
 pub fn set_wait<L: Drop>(
     sockets: &mut SocketSetOf<L>,
     index: usize,
@@ -110,9 +109,8 @@ pub fn set_wait<L: Drop>(
     sockets.set_wait(index, wait);
 }
 
-/// Whether the socket at an index may be asked for packets at a moment: it doesn't wait, or the
-/// neighbour that it waits for is known, which ends the wait, or the wait has passed. A free place,
-/// and an index out of range, has no socket that may.
+/// Whether the socket at an index may be asked for packets at a moment: it doesn't wait, or the next hop that it
+/// waits for is known, which ends the wait, or the wait has passed. `false` for a free index, and one out of range.
 pub fn egress_permitted<L: Drop, F: Fn(IpAddress) -> bool>(
     sockets: &mut SocketSetOf<L>,
     index: usize,
@@ -129,8 +127,8 @@ pub fn egress_permitted<L: Drop, F: Fn(IpAddress) -> bool>(
     sockets.egress_permitted(index, timestamp, has_neighbor)
 }
 
-/// The first place from an index on whose socket may have something to send, now or later, or waits;
-/// the number of places, where there is none. The places passed over are idle.
+/// Returns the first index from one on whose socket may have something to send, now or later, or waits; the number of
+/// indices, where there is none. The sockets at the indices between are idle.
 #[inline(always)]
 pub fn next_busy<L: Drop>(sockets: &SocketSetOf<L>, from: usize) -> usize
     ensures within { result ≤ length sockets.now.places }
@@ -140,7 +138,7 @@ pub fn next_busy<L: Drop>(sockets: &SocketSetOf<L>, from: usize) -> usize
     sockets.next_busy(from)
 }
 
-/// Whether a raw or ICMP socket may be there, which have no ports. Where it says no, there is none.
+/// Whether a raw or ICMP socket may be in the set. Where it returns `false`, there is none.
 #[inline(always)]
 pub fn may_have_portless<L: Drop>(sockets: &SocketSetOf<L>) -> bool
     ensures { result ≡ false → AllHavePorts sockets.now }
@@ -148,9 +146,9 @@ pub fn may_have_portless<L: Drop>(sockets: &SocketSetOf<L>) -> bool
     sockets.may_have_portless()
 }
 
-/// The first place from an index on whose socket may have this port for its own, as UDP and TCP sockets have
-/// one, or no port for `None`, as raw and ICMP sockets have none; the number of places, where there is none.
-/// The places passed over have other sockets, or none.
+/// Returns the first index from one on whose socket may have this own port, as UDP and TCP sockets have one; for
+/// `None` no port, as raw and ICMP sockets; the number of indices, where there is none. The indices between have other
+/// sockets, or none.
 #[inline(always)]
 pub fn next_at<L: Drop>(sockets: &SocketSetOf<L>, from: usize, port: Option<u16>) -> usize
     ensures within { result ≤ length sockets.now.places }
@@ -160,8 +158,8 @@ pub fn next_at<L: Drop>(sockets: &SocketSetOf<L>, from: usize, port: Option<u16>
     sockets.next_at(from, port)
 }
 
-/// Passes over the place of an index from now on, until its socket is lent again, if it is idle, and finds
-/// it by its own port. Answers whether it is idle. In contracts the set stays as it was.
+/// Records whether the socket at an index is idle, and its own port, until it is lent for writing again: an idle one
+/// is skipped. Returns whether it is idle. In contracts the set stays as it was.
 #[inline(always)]
 pub fn rest<L: Drop>(sockets: &mut SocketSetOf<L>, index: usize) -> bool
     ensures idle { result ≡ true → IsIdle sockets.old index }
@@ -170,9 +168,9 @@ pub fn rest<L: Drop>(sockets: &mut SocketSetOf<L>, index: usize) -> bool
     sockets.rest(index)
 }
 
-/// When the socket at an index wants to be asked for a packet: by its own answer, or at the end of
-/// its wait where it has to wait. `has_neighbor` tells whether a neighbour is known. A free place,
-/// and an index out of range, has no socket that does.
+/// Returns when the socket at an index wants to be asked for a packet: by its own answer, or at the end of its wait
+/// where it has to wait. `has_neighbor` says whether the next hop to a destination is known. A free index, and one out
+/// of range, has no socket that does.
 pub fn poll_at<L: Drop, F: Fn(IpAddress) -> bool>(
     sockets: &SocketSetOf<L>,
     index: usize,
@@ -188,7 +186,7 @@ pub fn poll_at<L: Drop, F: Fn(IpAddress) -> bool>(
     sockets.poll_at(index, timestamp, has_neighbor)
 }
 
-/// Lets the socket at an index wait for a neighbour, until 1 s after the moment.
+/// Lets the socket at an index wait for the next hop to a destination, until 1 s after the moment.
 pub fn neighbor_missing<L: Drop>(
     sockets: &mut SocketSetOf<L>,
     index: usize,

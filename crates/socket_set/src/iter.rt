@@ -5,8 +5,7 @@ use crate::socket_set::{SocketHandle, SocketStorageOf};
 use sockets::socket::SocketOf;
 use std::marker::Model;
 
-/// The sockets of a set with their handles, by rising index. In contracts it is the list of those
-/// that are left.
+/// The sockets of a set with their handles, by rising index. In contracts it is the list of those still to come.
 #[derive(Drop)]
 pub struct IterOf<'s, L> {
     pub(crate) places: &'s [SocketStorageOf<L>],
@@ -49,8 +48,7 @@ impl<'s, L> Iterator for IterOf<'s, L> {
     }
 }
 
-/// The handles of a set's sockets, by rising index. In contracts it is the list of those that are
-/// left.
+/// The handles of a set's sockets, by rising index. In contracts it is the list of those still to come.
 #[derive(Drop)]
 pub struct HandlesOf<'s, L> {
     pub(crate) iter: IterOf<'s, L>,

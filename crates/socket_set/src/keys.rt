@@ -1,26 +1,26 @@
-//! Keys of the places of a set, by which a walk for a port finds the sockets that it has to look at.
+//! Keys of the indices of a set, by which a walk for a port finds the sockets that it has to look at.
 ghost use Rattle.std.specs.Prelude.{◌≡◌, ◌<◌, ◌≤◌, ◌+◌, ◌-◌, ℕ, true, false, slice_set};
 ghost use Rattle.socket_set.specs.Keys as spec;
 ghost use Rattle.socket_set.specs.Keys.{is_candidate, key_at};
 
 use std::marker::Model;
 
-/// How many places have a key: the first. Nothing is known of the places after them.
+/// How many indices have a key: the first ones. Nothing is known of those after them.
 pub(crate) const KEYED_PLACES: usize = 1_024;
 
-/// The key of a place of which nothing is known.
+/// The key of an index of which nothing is known.
 pub(crate) const UNKNOWN: u16 = 0;
 
 /// The key of sockets whose kind has no ports, and of those that are bound to none.
 pub(crate) const WITHOUT_PORT: u16 = u16::MAX;
 
-/// The key of places where there is no socket. Any but 0 would be right; hardly anybody listens at port 1.
+/// The key of indices without a socket. Any but 0 would be right; hardly anybody listens at port 1.
 pub(crate) const NOBODY: u16 = 1;
 
 // How many keys are compared at once.
 const ROUND: usize = 8;
 
-/// A key for each place.
+/// A key for each index.
 ///
 /// In contracts it is the list of them.
 #[derive(Drop)]
@@ -48,7 +48,7 @@ impl Keys {
         Keys { keys }
     }
 
-    /// Gives a place a key, if it is one that has keys.
+    /// Sets the key of an index, if it is one that has a key.
     #[inline(always)]
     pub(crate) fn set(&mut self, index: usize, key: u16)
         ensures { self.new ≡ slice_set self.old index key }
@@ -58,7 +58,7 @@ impl Keys {
         }
     }
 
-    /// The first place from an index on and before an end of which nothing is known, or that has this key; the
+    /// Returns the first index from one on and before an end of which nothing is known, or that has this key; the
     /// end, where there is none.
     #[inline(always)]
     pub(crate) fn next(&self, from: usize, end: usize, key: u16) -> usize

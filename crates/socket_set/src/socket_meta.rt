@@ -1,5 +1,4 @@
-//! What an interface keeps for each socket: whether it waits for a neighbour that a packet of it
-//! needs.
+//! What an interface keeps for each socket: whether it waits for the next hop of its first packet.
 ghost use Rattle.std.specs.Prelude.{◌≡◌, Bool, Some, None, is_some};
 ghost use Rattle.net_base.specs.Time.{IsMoment, silence_from};
 ghost use Rattle.socket_set.specs.SocketMeta as spec;
@@ -22,9 +21,9 @@ enum NeighborState {
     },
 }
 
-/// Whether a socket waits, for which neighbour, and until when. The default doesn't wait.
+/// Whether a socket waits, for the next hop to which destination, and until when. The default doesn't wait.
 ///
-/// In contracts it is the neighbour and the moment, if it waits.
+/// In contracts it is the destination and the moment, if it waits.
 #[derive(Clone, Copy, Debug, PartialEq, Eq)]
 pub struct Meta {
     neighbor_state: NeighborState,
@@ -57,7 +56,7 @@ impl Meta {
         neighbor_state: NeighborState::Active,
     };
 
-    /// How long a socket waits before another discovery is sent for it.
+    /// How long a socket waits before it is asked again: a second, in microseconds.
     pub const DISCOVERY_SILENT_TIME: Duration = Duration { micros: 1_000_000 };
 
     // Whether it waits.
@@ -71,7 +70,7 @@ impl Meta {
         }
     }
 
-    /// That of a socket that waits for a neighbour until an instant, or doesn't wait.
+    /// Creates the value of a socket that waits for the next hop to a destination until an instant, or doesn't wait.
     pub(crate) fn of(wait: Option<(IpAddress, Instant)>) -> Meta
         ensures { result ≡ wait }
     {
@@ -85,8 +84,8 @@ impl Meta {
         Meta { neighbor_state }
     }
 
-    /// The neighbour that the socket waits for, and when it may be asked again; `None` if it doesn't wait. A
-    /// wait whose end has passed stands until its neighbour is known or another one begins.
+    /// Returns the destination whose next hop the socket waits for, and when it may be asked again; `None` if it
+    /// doesn't wait. A wait whose end has passed stays recorded until its next hop is known or another wait begins.
     pub fn wait(&self) -> Option<(IpAddress, Instant)>
         ensures { result ≡ self.now }
     {
@@ -99,9 +98,9 @@ impl Meta {
         }
     }
 
-    /// When the socket wants to be asked for a packet, where `socket_poll_at` is its own answer: that,
-    /// unless it has to wait, and then the end of the wait. `has_neighbor` tells whether a neighbour
-    /// is known.
+    /// Returns when the socket wants to be asked for a packet, where `socket_poll_at` is its own answer: that, unless
+    /// it has to wait, and then the end of the wait. `has_neighbor` says whether the next hop to a destination is
+    /// known.
     pub fn poll_at<F: Fn(IpAddress) -> bool>(
         &self,
         socket_poll_at: PollAt,
@@ -127,9 +126,8 @@ impl Meta {
         }
     }
 
-    /// Whether the socket may be asked for a packet: it doesn't wait, or the neighbour is known, which
-    /// ends the wait, or the wait has passed. In that case it stays written down, so that a moment
-    /// that goes back finds it again.
+    /// Whether the socket may be asked for a packet: it doesn't wait, or the next hop is known, which ends the wait, or
+    /// the wait has passed. In the last case it stays recorded, so that a moment that goes back finds it again.
     pub fn egress_permitted<F: Fn(IpAddress) -> bool>(
         &mut self,
         timestamp: Instant,
@@ -155,7 +153,7 @@ impl Meta {
         }
     }
 
-    /// Lets the socket wait for a neighbour, until 1 s after the moment.
+    /// Lets the socket wait for the next hop to a destination, until 1 s after the moment.
     pub fn neighbor_missing(&mut self, timestamp: Instant, neighbor: IpAddress)
         requires { IsMoment timestamp }
         ensures { self.new ≡ Some (neighbor, silence_from timestamp) }

@@ -23,9 +23,9 @@ use sockets::{IpEndpoint, PollAt, udp};
 use std::marker::Model;
 use std::{error, fmt};
 
-/// A place for one socket, with its lifetime as a type parameter.
+/// Storage for one socket, with its lifetime as a type parameter.
 ///
-/// In contracts it is the socket that stands there, if there is one, and whether that waits.
+/// In contracts it is the socket in it, if there is one, and whether that waits.
 #[derive(Drop)]
 pub struct SocketStorageOf<L> {
     inner: Option<SocketOf<L>>,
@@ -33,7 +33,7 @@ pub struct SocketStorageOf<L> {
     meta: Meta,
 }
 
-/// A place for one socket.
+/// Storage for one socket.
 pub type SocketStorage<'a> = SocketStorageOf<&'a ()>;
 
 impl<L> Model for SocketStorageOf<L> {
@@ -45,7 +45,7 @@ impl<L> Model for SocketStorageOf<L> {
 }
 
 impl SocketStorageOf<&'static ()> {
-    /// A free place.
+    /// Storage without a socket.
     pub const EMPTY: SocketStorage<'static> = SocketStorageOf {
         inner: None,
         meta: Meta::ACTIVE,
@@ -184,7 +184,7 @@ impl<L> Default for SocketStorageOf<L> {
     }
 }
 
-/// The name of a socket in a set: the index of its place. It prints as `#` and that number.
+/// The name of a socket in a set: its index. It prints as `#` and that number.
 #[derive(Clone, Copy, Debug, PartialEq, Eq, PartialOrd, Ord, Hash)]
 pub struct SocketHandle(usize);
 
@@ -236,8 +236,8 @@ impl fmt::Display for SocketHandle {
 
 /// A set of sockets, with their lifetime as a type parameter.
 ///
-/// In contracts it is the list of what stands at each place, the list of the waits of the sockets
-/// there, whether more places may be made, and for how many of them memory is reserved.
+/// In contracts it is the list of the sockets by index, the list of their waits, whether more indices may be added,
+/// and for how many of them memory is reserved.
 #[derive(Drop)]
 pub struct SocketSetOf<L> {
     sockets: Vec<SocketStorageOf<L>>,
@@ -268,12 +268,12 @@ impl<L> Model for SocketSetOf<L> {
         × (s.portless ≡ false → AllHavePorts (over s.sockets.items s.grows (vec_capacity s.sockets))) };
 }
 
-/// Why a socket found no place. Both give it back. They print as their names.
+/// Why a socket wasn't added. Each gives it back. They print as their names.
 #[derive(Drop)]
 pub enum AddError<T> {
-    /// No place is free, and the set never grows.
+    /// No index is free, and the set never grows.
     Full(T),
-    /// No place is free, and the memory for another one was refused.
+    /// No index is free, and the memory for another one was refused.
     NoMemory(T),
 }
 
@@ -300,7 +300,7 @@ impl<T> fmt::Debug for AddError<T> {
 impl<T: Drop> error::Error for AddError<T> {}
 
 impl<L: Drop> SocketSetOf<L> {
-    /// A set over these places, which makes more of them where none is free.
+    /// Creates a set over this storage, which grows where no index is free.
     pub fn new(sockets: Vec<SocketStorageOf<L>>) -> SocketSetOf<L>
         ensures { result ≡ over sockets.items true (vec_capacity sockets) }
     {
@@ -315,7 +315,7 @@ impl<L: Drop> SocketSetOf<L> {
         }
     }
 
-    /// A set over these places, which never makes more of them.
+    /// Creates a set over this storage, which never grows.
     pub fn fixed(sockets: Vec<SocketStorageOf<L>>) -> SocketSetOf<L>
         ensures { result ≡ over sockets.items false (vec_capacity sockets) }
     {
@@ -332,7 +332,7 @@ impl<L: Drop> SocketSetOf<L> {
 }
 
 impl<L> SocketSetOf<L> {
-    /// A lemma for proofs about a set: there are as many waits as places. It does nothing.
+    /// A lemma for proofs about a set: there are as many waits as indices. It does nothing.
     pub fn has_a_wait_for_each(&self)
         ensures { length self.now.waits ≡ length self.now.places }
     {
@@ -345,10 +345,10 @@ impl<L: Drop> SocketSetOf<L> {
     ghost use Rattle.sockets.specs.contracts.socket.SocketOf.{the_row as socket_row};
     ghost use Rattle.socket_set.specs.contracts.socket_set.SocketSetOf.{the_row as set_row};
 
-    /// Puts a socket at the least free index, else at a new one after all others, and names it. Where no
-    /// index is free: `Full` if the set never grows, `NoMemory` if the memory for another place was
-    /// refused. Both give the socket back, and then the set stays as it was. Where an index is free it takes no
-    /// memory, and where memory for another one is reserved it isn't refused.
+    /// Adds a socket at the least free index, else at a new one after all others, and returns its handle. Where no
+    /// index is free: `Full` if the set never grows, `NoMemory` if the memory for another index was refused. Both give
+    /// the socket back, and then the set stays as it was. Where an index is free it takes no memory, and where memory
+    /// for another one is reserved it isn't refused.
     pub fn add<T: AnySocketOf<L>>(&mut self, socket: T) -> Result<SocketHandle, AddError<T>>
         ensures free { has_free self.old ≡ true → IsOk result }
         ensures reserved { self.old.grows ≡ true → length self.old.places < self.old.room → IsOk result }
@@ -380,8 +380,8 @@ impl<L: Drop> SocketSetOf<L> {
         Ok(SocketHandle(index))
     }
 
-    /// The socket of a handle. `None` exactly for a free place, a socket of another kind, or an
-    /// index out of range.
+    /// Returns the socket of a handle. `None` exactly for a free index, a socket of another kind, or an index out of
+    /// range.
     pub fn get<T: AnySocketOf<L>>(&self, handle: SocketHandle) -> Option<&T>
         ensures { option_copied result ≡ option_and_then T.down (socket_at self.now handle) }
     {
@@ -389,24 +389,25 @@ impl<L: Drop> SocketSetOf<L> {
         T::downcast(socket)
     }
 
-    /// Whether a socket, of whatever kind, stands at the place of a handle.
+    /// Whether there is a socket, of whatever kind, at the index of a handle.
     pub fn is_open(&self, handle: SocketHandle) -> bool
         ensures { result ≡ is_some (socket_at self.now handle) }
     {
         self.socket(handle.index()).is_some()
     }
 
-    /// The neighbour that the socket of a handle waits for, and when it may be asked again. `None` exactly where it
-    /// doesn't wait, for a free place, or an index out of range. A wait whose end has passed stands until its neighbour
-    /// is known or another one begins.
+    /// Returns the destination whose next hop the socket of a handle waits for, and when it may be asked again. `None`
+    /// exactly where it doesn't wait, for a free index, or one out of range. A wait whose end has passed stays recorded
+    /// until its next hop is known or another wait begins.
     pub fn wait(&self, handle: SocketHandle) -> Option<(IpAddress, Instant)>
         ensures { result ≡ wait_of self.now handle }
     {
         self.wait_at(handle.index())
     }
 
-    /// The same, for writing. At `None` the set stays as it was. Who only reads takes [`SocketSetOf::get`]: a
-    /// socket that was lent for writing is looked at again by the next frame and the next round of sending.
+    /// Returns the socket of a handle for writing, or `None` as [`SocketSetOf::get`] does; then the set stays as it
+    /// was. Who only reads takes `get`: a socket that was lent for writing is tested by the next frames and the next
+    /// round.
     pub fn get_mut<T: AnySocketOf<L>>(&mut self, handle: SocketHandle) -> Option<&mut T>
         ensures* lends { sem 𝓛 (LendsIf (set_row L.row) T.row self.entry result
             (λ w. with_place self.old handle (Some (T.up w))) self.old) }
@@ -416,8 +417,8 @@ impl<L: Drop> SocketSetOf<L> {
         self.kind_mut(handle.index())
     }
 
-    /// The socket at an index, if it is of a kind. `None` exactly for a free place, a socket of another
-    /// kind, or an index out of range.
+    /// Returns the socket at an index, if it is of a kind. `None` exactly for a free index, a socket of another kind,
+    /// or an index out of range.
     #[inline(always)]
     pub(crate) fn kind<T: AnySocketOf<L>>(&self, index: usize) -> Option<&T>
         ensures { option_copied result ≡ option_and_then T.down (socket_at self.now index) }
@@ -426,15 +427,14 @@ impl<L: Drop> SocketSetOf<L> {
         T::downcast(socket)
     }
 
-    /// The socket at an index, of whatever kind. `None` exactly for a free place or an index out of
-    /// range.
+    /// Returns the socket at an index, of whatever kind. `None` exactly for a free index or one out of range.
     pub(crate) fn socket(&self, index: usize) -> Option<&SocketOf<L>>
         ensures { option_copied result ≡ socket_at self.now index }
     {
         self.sockets.get(index)?.socket()
     }
 
-    /// The neighbour that the socket at an index waits for, and until when, if it waits.
+    /// Returns the destination whose next hop the socket at an index waits for, and until when, if it waits.
     pub(crate) fn wait_at(&self, index: usize) -> Option<(IpAddress, Instant)>
         ensures { result ≡ wait_of self.now index }
     {
@@ -444,7 +444,7 @@ impl<L: Drop> SocketSetOf<L> {
         }
     }
 
-    /// The same, for writing. At `None` the set stays as it was.
+    /// Returns the socket at an index for writing, if it is of a kind. At `None` the set stays as it was.
     pub(crate) fn kind_mut<T: AnySocketOf<L>>(&mut self, index: usize) -> Option<&mut T>
         ensures* lends { sem 𝓛 (LendsIf (set_row L.row) T.row self.entry result
             (λ w. with_place self.old index (Some (T.up w))) self.old) }
@@ -459,7 +459,7 @@ impl<L: Drop> SocketSetOf<L> {
         Some(socket)
     }
 
-    /// The socket at an index, of whatever kind. `None` exactly for a free place or an index out of
+    /// Returns the socket at an index, of whatever kind, for writing. `None` exactly for a free index or one out of
     /// range; then the set stays as it was.
     pub(crate) fn socket_mut(&mut self, index: usize) -> Option<&mut SocketOf<L>>
         ensures* lends { sem 𝓛 (LendsIf (set_row L.row) (socket_row L.row) self.entry result
@@ -474,7 +474,7 @@ impl<L: Drop> SocketSetOf<L> {
     }
 
     /// Queues a datagram received from an endpoint at the UDP socket of an index, or drops it for lack of room. Returns
-    /// whether there is one. Mark and key stay, since the socket gets neither another port nor anything to send.
+    /// whether there is such a socket. Mark and key stay: it gets neither another port nor anything to send.
     #[inline(always)]
     pub(crate) fn process_udp(&mut self, index: usize, remote: IpEndpoint, payload: &[u8]) -> bool
         ensures there { result ≡ is_udp (socket_at self.old index) }
@@ -487,7 +487,7 @@ impl<L: Drop> SocketSetOf<L> {
         storage.process_udp(remote, payload)
     }
 
-    /// How many places there are, free or not.
+    /// Returns how many indices there are, free or not.
     pub(crate) fn places(&self) -> usize
         ensures { result ≡ length self.now.places }
     {
@@ -511,9 +511,8 @@ impl<L: Drop> SocketSetOf<L> {
         HandlesOf { iter: self.iter() }
     }
 
-    /// Whether the socket at an index may be asked for packets at a moment: it doesn't wait, or the
-    /// neighbour that it waits for is known, which ends the wait, or the wait has passed. A free place,
-    /// and an index out of range, has no socket that may.
+    /// Whether the socket at an index may be asked for packets at a moment: it doesn't wait, or the next hop that it
+    /// waits for is known, which ends the wait, or the wait has passed. `false` for a free index, and one out of range.
     pub(crate) fn egress_permitted<F: Fn(IpAddress) -> bool>(
         &mut self,
         index: usize,
@@ -536,8 +535,8 @@ impl<L: Drop> SocketSetOf<L> {
         storage.meta.egress_permitted(timestamp, has_neighbor)
     }
 
-    /// The first place from an index on whose socket may have something to send, now or later, or waits;
-    /// the number of places, where there is none. The places before it are idle.
+    /// Returns the first index from one on whose socket may have something to send, now or later, or waits; the number
+    /// of indices, where there is none. The sockets at the indices between are idle.
     #[inline(always)]
     pub(crate) fn next_busy(&self, from: usize) -> usize
         ensures within { result ≤ length self.now.places }
@@ -547,7 +546,7 @@ impl<L: Drop> SocketSetOf<L> {
         self.busy.next(from, self.sockets.len())
     }
 
-    /// Whether a raw or ICMP socket may be there, which have no ports.
+    /// Whether a raw or ICMP socket may be in the set. Where it returns `false`, there is none.
     #[inline(always)]
     pub(crate) fn may_have_portless(&self) -> bool
         ensures { result ≡ false → AllHavePorts self.now }
@@ -555,8 +554,8 @@ impl<L: Drop> SocketSetOf<L> {
         self.portless
     }
 
-    /// The first place from an index on whose socket may have this port for its own, or no port for
-    /// `None`; the number of places, where there is none. The places passed over have other sockets, or none.
+    /// Returns the first index from one on whose socket may have this own port, or no port for `None`; the number of
+    /// indices, where there is none. The indices between have other sockets, or none.
     #[inline(always)]
     pub(crate) fn next_at(&self, from: usize, port: Option<u16>) -> usize
         ensures within { result ≤ length self.now.places }
@@ -566,8 +565,8 @@ impl<L: Drop> SocketSetOf<L> {
         self.keys.next(from, self.sockets.len(), key_of(port))
     }
 
-    /// Passes over the place of an index from now on, until its socket is lent again, if it is idle, and
-    /// finds it by its own port. Answers whether it is idle.
+    /// Records whether the socket at an index is idle, and its own port, until it is lent for writing again: an idle
+    /// one is skipped. Returns whether it is idle.
     #[inline(always)]
     pub(crate) fn rest(&mut self, index: usize) -> bool
         ensures idle { result ≡ true → IsIdle self.old index }
@@ -585,9 +584,9 @@ impl<L: Drop> SocketSetOf<L> {
         true
     }
 
-    /// When the socket at an index wants to be asked for a packet: by its own answer, or at the end of
-    /// its wait where it has to wait. `has_neighbor` tells whether a neighbour is known. A free place,
-    /// and an index out of range, has no socket that does.
+    /// Returns when the socket at an index wants to be asked for a packet: by its own answer, or at the end of its wait
+    /// where it has to wait. `has_neighbor` says whether the next hop to a destination is known. A free index, and one
+    /// out of range, has no socket that does.
     pub(crate) fn poll_at<F: Fn(IpAddress) -> bool>(
         &self,
         index: usize,
@@ -606,7 +605,7 @@ impl<L: Drop> SocketSetOf<L> {
         storage.poll_at(timestamp, has_neighbor)
     }
 
-    /// Lets the socket at an index wait for a neighbour, until 1 s after the moment.
+    /// Lets the socket at an index wait for the next hop to a destination, until 1 s after the moment.
     pub(crate) fn neighbor_missing(&mut self, index: usize, timestamp: Instant, neighbor: IpAddress)
         requires { IsMoment timestamp }
         ensures { self.new ≡ with_wait self.old index (Some (neighbor, silence_from timestamp)) }
@@ -618,7 +617,7 @@ impl<L: Drop> SocketSetOf<L> {
         storage.meta.neighbor_missing(timestamp, neighbor);
     }
 
-    /// Lets the socket at an index wait for a neighbour until an instant, or not wait.
+    /// Lets the socket at an index wait for the next hop to a destination until an instant, or not wait.
     pub(crate) fn set_wait(&mut self, index: usize, wait: Option<(IpAddress, Instant)>)
         ensures { self.new ≡ with_wait self.old index wait }
     {
@@ -629,8 +628,8 @@ impl<L: Drop> SocketSetOf<L> {
         storage.meta = Meta::of(wait);
     }
 
-    /// Takes out the socket of a handle, and frees its place. `None` exactly for a free place or an
-    /// index out of range; then the set stays as it was.
+    /// Removes the socket of a handle, and returns it. `None` exactly for a free index or one out of range; then the
+    /// set stays as it was.
     pub fn remove(&mut self, handle: SocketHandle) -> Option<SocketOf<L>>
         ensures value { result ≡ socket_at self.old handle }
         ensures freed { handle < length self.old.places → self.new ≡ with_place self.old handle None }

@@ -89,6 +89,18 @@ fn udp_at(alloc: Global) -> Result<udp::Socket<'static>, Fail>
 }
 
 #[test]
+fn a_full_queue_keeps_what_it_has(rt: HostRuntime) -> Result<(), Fail> {
+    let mut queue: Queue<u32> = match Queue::new(rt.alloc(), 1, 8) {
+        Ok(queue) => queue,
+        Err(NoMemory) => Queue::new(rt.alloc(), 1, 8)?,
+    };
+    let is_refused = queue.push(1, b"123456789") == Err(Full) && queue.front().is_none();
+    let is_taken = queue.push(2, b"12345678") == Ok(()) && queue.push(3, b"") == Err(Full);
+    assert!(rt; is_refused && is_taken && queue.front() == Some((&2, b"12345678".as_slice())));
+    Ok(())
+}
+
+#[test]
 fn a_datagram_is_handed_out(rt: HostRuntime) -> Result<(), Fail> {
     let mut socket = udp_at(rt.alloc())?;
     let is_accepted_at = socket.accepts(&HOST, &OWN, 6969) && !socket.accepts(&HOST, &OWN, 6970);

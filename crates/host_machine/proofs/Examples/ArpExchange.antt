@@ -34,7 +34,8 @@ request_answered = record {
         (record {
           neighbors = example.neighbors_with_sender;
           filled = record {
-            puts = record { there = λ h. refl; room = λ h. refl; full = λ none four. absurd (omega (arith, len-empty address_cmp Neighbor)) };
+            puts = record { there = λ h. refl; room = λ h. refl; full = λ none many. absurd (omega (arith, len-empty address_cmp Neighbor)) };
+            room = refl;
             silence = refl;
           };
           same = refl;

@@ -8,6 +8,7 @@ use Rattle.host_machine.specs.State.Host.{Host, SocketSet}
 use Rattle.host_machine.specs.Polling.Step.{Act}
 use Rattle.host_machine.specs.Polling.Run.{Transition, Run, Ends, Did, NoAct, ThenAct, events_in, notes_in}
 use Rattle.host_machine.specs.Laws.Ran.{Laws, Ran}
+use Rattle.host_machine.proofs.Runs.FrameSizes.{run_frames_fit}
 use Rattle.host_machine.proofs.Runs.FragmentArrivals.{run_arrivals}
 use Rattle.host_machine.specs.State.Note.{cut_notes}
 use Rattle.host_machine.proofs.Runs.CutIdentifications.{run_carried, distinct_among, keys_own}
@@ -35,6 +36,7 @@ run_laws {first} {last} {transitions} r = record {
   identifications_follow = run_counted r;
   identifications_distinct = distinct _ _ (run_counted r);
   quiet = run_quiet r;
+  frames_fit = λ regular fit. (run_frames_fit first last transitions r regular fit).0;
   calls = run_calls r;
 }
 

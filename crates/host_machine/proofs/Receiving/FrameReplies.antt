@@ -263,9 +263,9 @@ got_itself m a n = get-insert address_total m a n a ∙ rw (tied_itself address_
 filled_in : {old new : Neighbors} {a : IpAddress} {n : Neighbor} → Fills old new a n → map.get new.known a ≡ Some n
 filled_in {old} {new} {a} {n} f = by (map.get old.known a) refl where
   room : (k : ℕ) → map.len old.known ≡ k → map.get old.known a ≡ None → map.get new.known a ≡ Some n
-  room k is none = elim (nat_lt k 4) as (λ b. nat_lt k 4 ≡ b → map.get new.known a ≡ Some n) [
-    | true ↦ λ t. let h : map.len old.known < 4 = grind (arith, nat_tests) in rw (f.puts.room h) (got_itself old.known a n)
-    | false ↦ λ t. let h : 4 ≤ map.len old.known = grind (arith, nat_tests) in let g = f.puts.full none h in
+  room k is none = elim (nat_lt k old.room) as (λ b. nat_lt k old.room ≡ b → map.get new.known a ≡ Some n) [
+    | true ↦ λ t. let h : map.len old.known < old.room = grind (arith, nat_tests) in rw (f.puts.room h) (got_itself old.known a n)
+    | false ↦ λ t. let h : old.room ≤ map.len old.known = grind (arith, nat_tests) in let g = f.puts.full none h in
         rw g.2 (got_itself (map.remove old.known g.0) a n)
   ] refl
 
@@ -373,7 +373,7 @@ pub record GoesWhole (p : Packet) (h : HardwareAddress) (outcome : Outcome) (H :
   pub outcome_is : outcome ≡ Ok tt
   pub host_is : new ≡ with_next_id H
 
-emits_whole : {id : ℕ} {p : Packet} {h : HardwareAddress} {outcome : Outcome} {H new : Host} {frames : List (List ℕ)} {notes : List Note} →
+pub emits_whole : {id : ℕ} {p : Packet} {h : HardwareAddress} {outcome : Outcome} {H new : Host} {frames : List (List ℕ)} {notes : List Note} →
     Emits id p h outcome (with_next_id H) frames notes new →
     total_len p ≤ ip_mtu_of H.capabilities → GoesWhole p h outcome H frames new
 emits_whole (dispatch.Whole fits formed o f n e) short = record { frames_are = f; outcome_is = o; host_is = e }

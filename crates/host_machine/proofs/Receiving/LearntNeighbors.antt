@@ -28,7 +28,8 @@ use Rattle.ip_wire.specs.declared.ipv4_packet.Ipv4Repr.{Ipv4Repr}
 use Rattle.ip_wire.specs.declared.ipv4_packet.Ipv4Fragment.{Ipv4Fragment}
 use Rattle.ip_wire.specs.Arp.{arp_in}
 use Rattle.ip_wire.specs.Ethernet.{header_in}
-use Rattle.ip_wire.specs.IpPacket.{src_addr}
+use Rattle.ip_wire.specs.IpPacket.{dst_addr, src_addr}
+use Rattle.ip_wire.specs.Ipv4Packet.{ipv4_in}
 use Rattle.ipv6_wire.specs.declared.ipv6_packet.Ipv6Repr.{Ipv6Repr}
 use Rattle.ipv6_wire.specs.Ipv6Packet.{ipv6_in}
 use Rattle.ipv6_wire.specs.HopByHop.{hop_by_hop_in}
@@ -45,12 +46,14 @@ use Rattle.group_wire.specs.declared.mld.MldRepr.{MldRepr}
 use Rattle.group_wire.specs.declared.mld.MldRepr.TheVariants.{Query, Report}
 use Rattle.iface_tables.specs.declared.route.Route.{Route}
 use Rattle.iface_tables.specs.Neighbor.{answer_of, is_found}
+use Rattle.iface_tables.specs.Neighbor.{after_renewal, expiry_from}
 use Rattle.iface_tables.specs.Route.{best, is_live, more_specific, prefix_len, router_of}
 use Rattle.socket_base.specs.Source.{is_same}
 use Rattle.host_machine.specs.State.Note.{Note}
 use Rattle.host_machine.specs.State.Host.{Host, has_ip_addr, in_same_network, is_assigned, is_one_assigned}
 use Rattle.host_machine.specs.State.Host.{is_routed_here, with_neighbors}
 use Rattle.host_machine.specs.State.Host.{without_expired}
+use Rattle.host_machine.specs.State.Addresses.{is_unicast}
 use Rattle.host_machine.specs.Receiving.Arp.{ProcessesArp, is_for_us}
 use Rattle.host_machine.specs.Receiving.Arp as arp
 use Rattle.host_machine.specs.Receiving.Ethernet.{ProcessesEthernet, ProcessesEthertype, ProcessesFrame}
@@ -75,13 +78,13 @@ use Rattle.host_machine.specs.Receiving.Udp.{ProcessesUdp}
 use Rattle.host_machine.specs.Receiving.Udp as udp
 use Rattle.host_machine.specs.Sending.Reports as reports
 use Rattle.host_machine.specs.Laws.Restraint.Foreign.{HasPrefixOf}
-use Rattle.host_machine.specs.Laws.Restraint.Neighbors.{CameToBeKnown, Gives, HasMessage, IsAssigned, IsNear}
+use Rattle.host_machine.specs.Laws.Restraint.Neighbors.{CameToBeKnown, Gives, HasMessage, IsAssigned, IsFrom, IsNear}
 use Rattle.host_machine.specs.Laws.Restraint.Neighbors.{IsOneStation, IsOwn}
-use Rattle.host_machine.specs.Laws.Restraint.Neighbors.{NeighborsComeFromFrames, TellsByArp, TellsByMessage}
+use Rattle.host_machine.specs.Laws.Restraint.Neighbors.{NeighborsComeFromFrames, TellsByArp, TellsByMessage, sender_in}
 use Rattle.host_machine.specs.Laws.Restraint.Neighbors as law
-use Rattle.host_machine.specs.Laws.Restraint.Readings.{CarriesV6}
+use Rattle.host_machine.specs.Laws.Restraint.Readings.{CarriesV4, CarriesV6}
 use Rattle.host_machine.proofs.Receiving.ForeignFrames.{has_prefix}
-use Rattle.host_machine.proofs.Receiving.NeighborOrigins.{Came, Come, Nobody, Was, New, come_then, filled_came}
+use Rattle.host_machine.proofs.Receiving.NeighborOrigins.{Came, Come, IsHeard, New, Nobody, Renewed, Unheard, Was, come_so, come_then, filled_came}
 use Rattle.host_machine.proofs.Receiving.NeighborOrigins.{renewed_came, still_known, told_so, unchanged}
 use Rattle.host_machine.proofs.Receiving.ReceivedFrames.{WasHandled, handled, renewal}
 use Rattle.host_machine.proofs.Sending.SettledFields.{Settings, response_settled}
@@ -200,7 +203,7 @@ one_host_v6 a e = by (a.bits / 2 ^ 120 == 0xff) (a.bits == 0) refl refl e where
 
 -- ARP
 arp_came : {own : EthernetAddress} {H new : Host} {frame : List ℕ} {reply : Option Reply} {notes : List Note} →
-    (header_in frame).ethertype ≡ ethertype.Arp → ProcessesArp own H (drop 14 frame) reply notes new → Come (TellsByArp H frame) H new
+    (header_in frame).ethertype ≡ ethertype.Arp → ProcessesArp own H (drop 14 frame) reply notes new → Come (TellsByArp H frame) Unheard H new
 arp_came type (arp.Malformed m d) = unchanged d.unchanged
 arp_came type (arp.NotForUs a l d) = unchanged d.unchanged
 arp_came {own} {H} {new} {frame} type (arp.Learnt a us learns r n) =
@@ -213,7 +216,7 @@ arp_came {own} {H} {new} {frame} type (arp.Learnt a us learns r n) =
     let one = and_both own many two.0 in
     let host = one_host p.source_protocol_addr one.1 in
     let came = filled_came {old = H} {new = with_neighbors H learns.neighbors} refl learns.filled in
-    let here = subst (λ K. Come (λ b g. (b ≡ Ipv4 p.source_protocol_addr) × (g ≡ p.source_hardware_addr)) H K) (sym learns.same) came in
+    let here = subst (λ K. Come (λ b g. (b ≡ Ipv4 p.source_protocol_addr) × (g ≡ p.source_hardware_addr)) Unheard H K) (sym learns.same) came in
     told_so (λ b g t. record {
       type = type;
       is_packet = a;
@@ -258,16 +261,16 @@ advertised_is H r flags target o h e = by (has_override flags || not (is_found (
   by true q = usable_is o target h q
   by false q = absurd cc
 
-learns_came : (H new : Host) (a : Ipv6Address) (o : Option EthernetAddress) → Learns o a H new → Come (λ b g. (b ≡ Ipv6 a) × (o ≡ Some g)) H new
+learns_came : (H new : Host) (a : Ipv6Address) (o : Option EthernetAddress) → Learns o a H new → Come (λ b g. (b ≡ Ipv6 a) × (o ≡ Some g)) Unheard H new
 learns_came H new a None e = unchanged e
 learns_came H new a (Some h) learns =
     let came = filled_came {old = H} {new = with_neighbors H learns.neighbors} refl learns.filled in
-    let here = subst (λ K. Come (λ b g. (b ≡ Ipv6 a) × (g ≡ h)) H K) (sym learns.same) came in
+    let here = subst (λ K. Come (λ b g. (b ≡ Ipv6 a) × (g ≡ h)) Unheard H K) (sym learns.same) came in
     told_so (λ b g t. (t.0, ap Some (sym t.1))) here
 
 heard_came : {own : EthernetAddress} {r : Ipv6Repr} {message : NdiscRepr} {H new : Host} {reply : Option Reply} {notes : List Note} →
     r.hop_limit ≡ 255 → H.hardware_addr ≡ hardware.Ethernet own → ProcessesNdiscMessage own r H reply notes new message →
-    Come (ToldByMessage H r (icmp.Ndisc message)) H new
+    Come (ToldByMessage H r (icmp.Ndisc message)) Unheard H new
 heard_came {own} {r} {message} {H} {new} near mine (ndisc.Advertised flags target lladdr learns e n) =
     told_so (λ a h t.
     let u = advertised_is H r flags target lladdr h t.1 in record {
@@ -295,16 +298,16 @@ heard_came {own} {r} {message} {H} {new} near mine (ndisc.Solicited target lladd
     }) (learns_came H new r.src_addr (usable_lladdr lladdr target) learns)
 
 ndisc_came : {r : Ipv6Repr} {message : NdiscRepr} {H new : Host} {reply : Option Reply} {notes : List Note} →
-    ProcessesNdisc r message H reply notes new → Come (ToldByMessage H r (icmp.Ndisc message)) H new
+    ProcessesNdisc r message H reply notes new → Come (ToldByMessage H r (icmp.Ndisc message)) Unheard H new
 ndisc_came (ndisc.FromAfar far d) = unchanged d.unchanged
 ndisc_came (ndisc.WithoutAddresses without d) = unchanged d.unchanged
 ndisc_came {r = r} (ndisc.FromNeighbor own near mine h) = heard_came ((Decides-eqb r.hop_limit 255).0 near) mine h
 
 -- nothing else that is received tells of a neighbour
 query_came : {Told : IpAddress → EthernetAddress → Type 0} (H : Host) (r : Ipv6Repr) (code : ℕ) (group : Ipv6Address) →
-    Come Told H (reports.host_after_mld_query H r code group)
+    Come Told Unheard H (reports.host_after_mld_query H r code group)
 query_came {Told} H r code group = by (reports.is_near r) where
-  by : (b : Bool) → Come Told H (if b then record H {
+  by : (b : Bool) → Come Told Unheard H (if b then record H {
     mld_report = reports.mld_report_for H r.dst_addr (H.moment +ℤ pos (reports.delay code H.random)) group;
     random = reports.random_after_draw code H.random;
   } else H)
@@ -312,12 +315,12 @@ query_came {Told} H r code group = by (reports.is_near r) where
   by false = unchanged refl
 
 mld_came : {Told : IpAddress → EthernetAddress → Type 0} (r : Ipv6Repr) (m : MldRepr) (H : Host) (reply : Option Reply) (notes : List Note)
-    (new : Host) → reports.ProcessesMld r m H reply notes new → Come Told H new
-mld_came {Told} r (Query code group) H reply notes new t = subst (Come Told H) (sym t.2) (query_came H r code group)
+    (new : Host) → reports.ProcessesMld r m H reply notes new → Come Told Unheard H new
+mld_came {Told} r (Query code group) H reply notes new t = subst (Come Told Unheard H) (sym t.2) (query_came H r code group)
 mld_came r (Report count) H reply notes new t = unchanged t.unchanged
 
 message_came : (r : Ipv6Repr) (m : Icmpv6Repr) (octets : List ℕ) (H : Host) (reply : Option Reply) (notes : List Note) (new : Host) →
-    ProcessesMessage r m octets H reply notes new → Come (ToldByMessage H r m) H new
+    ProcessesMessage r m octets H reply notes new → Come (ToldByMessage H r m) Unheard H new
 message_came r (icmp.EchoRequest ident seq_no) octets H reply notes new t = unchanged t.2
 message_came r (icmp.Ndisc message) octets H reply notes new t = ndisc_came t
 message_came r (icmp.Router message) octets H reply notes new t =
@@ -349,30 +352,30 @@ same_told e t = record {
 }
 
 icmpv6_came : {r : Ipv6Repr} {H new : Host} {octets : List ℕ} {reply : Option Reply} {notes : List Note} →
-    ProcessesIcmpv6 r H octets reply notes new → Come (ToldByOctets H r octets) H new
+    ProcessesIcmpv6 r H octets reply notes new → Come (ToldByOctets H r octets) Unheard H new
 icmpv6_came (icmpv6.Malformed m d) = unchanged d.unchanged
 icmpv6_came {r} {H} {new} {octets} {reply} {notes} (icmpv6.Taken i t) =
     let K = icmpv6.host_after_delivery r octets H in
-    let came : Come (ToldByMessage K r (icmpv6_in octets).0) K new =
+    let came : Come (ToldByMessage K r (icmpv6_in octets).0) Unheard K new =
     message_came r (icmpv6_in octets).0 (icmpv6_in octets).1 K reply notes new t in
     come_then (still_known {old = H} {new = K} refl refl)
     (told_so (λ a h x. record { is_message = i; told = same_told {H = K} {K = H} refl x }) came)
 
 udp_came : {Told : IpAddress → EthernetAddress → Type 0} {b : Bool} {r : IpRepr} {H new : Host} {octets : List ℕ} {reply : Option Reply}
-    {notes : List Note} → ProcessesUdp b r H octets reply notes new → Come Told H new
+    {notes : List Note} → ProcessesUdp b r H octets reply notes new → Come Told Unheard H new
 udp_came (udp.Malformed m d) = unchanged d.unchanged
 udp_came (udp.Delivered places u f e n s) = still_known (ap (λ (K : Host). K.moment) s) (ap (λ (K : Host). K.neighbors.known) s)
 udp_came (udp.NotAccepted u none e n s) = unchanged s
 
 tcp_came : {Told : IpAddress → EthernetAddress → Type 0} {b : Bool} {r : IpRepr} {H new : Host} {octets : List ℕ} {reply : Option Reply}
-    {notes : List Note} → ProcessesTcp b r H octets reply notes new → Come Told H new
+    {notes : List Note} → ProcessesTcp b r H octets reply notes new → Come Told Unheard H new
 tcp_came (tcp.BetweenUnspecified b d) = unchanged d.unchanged
 tcp_came (tcp.Malformed b m d) = unchanged d.unchanged
 tcp_came (tcp.Delivered index place b s f e n same) = still_known (ap (λ (K : Host). K.moment) same) (ap (λ (K : Host). K.neighbors.known) same)
 tcp_came (tcp.NotAccepted b s none e n same) = unchanged same
 
 protocol_v6_came : (p : IpProtocol) (b : Bool) (r : Ipv6Repr) (H : Host) (octets : List ℕ) (reply : Option Reply) (notes : List Note) (new : Host) →
-    ipv6.ProcessesProtocol p b r H octets reply notes new → Come (λ a h. (p ≡ protocol.Icmpv6) × ToldByOctets H r octets a h) H new
+    ipv6.ProcessesProtocol p b r H octets reply notes new → Come (λ a h. (p ≡ protocol.Icmpv6) × ToldByOctets H r octets a h) Unheard H new
 protocol_v6_came protocol.Icmpv6 b r H octets reply notes new t = told_so (λ a h x. (refl, x)) (icmpv6_came t)
 protocol_v6_came protocol.Udp b r H octets reply notes new t = udp_came t
 protocol_v6_came protocol.Tcp b r H octets reply notes new t = tcp_came t
@@ -383,12 +386,15 @@ protocol_v6_came (protocol.Unknown n) b r H octets reply notes new t = unchanged
 
 -- before its payload is looked at
 met_came : {Told : IpAddress → EthernetAddress → Type 0} (source : HardwareAddress) (r : IpRepr) (payload : List ℕ) (H : Host) →
-    Come Told H (sender_renewed source r (raw.host_after_raw_delivery r payload H))
+    Come Told (IsHeard source r) H (sender_renewed source r (raw.host_after_raw_delivery r payload H))
 met_came {Told} source r payload H =
-    let i = renewal source r (raw.host_after_raw_delivery r payload H) in
     come_then (still_known {old = H} {new = raw.host_after_raw_delivery r payload H} refl refl)
-    (subst (Come Told (raw.host_after_raw_delivery r payload H)) (sym i.is)
-    (renewed_came {new = with_neighbors (raw.host_after_raw_delivery r payload H) i.neighbors} (src_addr r) refl i.renewed))
+    (by (is_unicast H.ip_addrs (dst_addr r))) where
+      by : (b : Bool) → Come Told (IsHeard source r) (raw.host_after_raw_delivery r payload H)
+          (if b then with_neighbors (raw.host_after_raw_delivery r payload H)
+          (after_renewal H.neighbors (src_addr r) source (expiry_from H.moment)) else raw.host_after_raw_delivery r payload H)
+      by true = renewed_came source r (raw.host_after_raw_delivery r payload H)
+      by false = unchanged refl
 
 -- what renewal leaves
 record Same (H K : Host) : Type 0 where
@@ -410,12 +416,13 @@ same_octets {H} {K} {r} {octets} s t = record {
 
 datagram_v6_came : {source : HardwareAddress} {p : IpProtocol} {H new : Host} {payload : List ℕ} {reply : Option Reply} {notes : List Note}
     (r : Ipv6Repr) → ProcessesDatagramV6 source r p H payload reply notes new →
-    Come (λ a h. (p ≡ protocol.Icmpv6) × ToldByOctets H r payload a h) H new
+    Come (λ a h. (p ≡ protocol.Icmpv6) × ToldByOctets H r payload a h) (IsHeard source (repr.Ipv6 r)) H new
 datagram_v6_came r (ipv6.NotForUs n d) = unchanged d.unchanged
 datagram_v6_came {source} {p} {H} {new} {payload} {reply} {notes} r (ipv6.Accepted f t) =
     let K = sender_renewed source (repr.Ipv6 r) (raw.host_after_raw_delivery (repr.Ipv6 r) payload H) in
     come_then (met_came source (repr.Ipv6 r) payload H)
-    (told_so (λ a h x. (x.0, same_octets (met_same source (repr.Ipv6 r) payload H) x.1)) (protocol_v6_came p _ r K payload reply notes new t))
+    (come_so (λ a h x. (x.0, same_octets (met_same source (repr.Ipv6 r) payload H) x.1)) (λ a h x. absurd x)
+    (protocol_v6_came p _ r K payload reply notes new t))
 
 -- and those of a packet
 record ToldByPacket (H : Host) (packet : List ℕ) (a : IpAddress) (h : EthernetAddress) : Type 0 where
@@ -426,42 +433,42 @@ record ToldByPacket (H : Host) (packet : List ℕ) (a : IpAddress) (h : Ethernet
 
 module _ {source : HardwareAddress} {H new : Host} {packet : List ℕ} {reply : Option Reply} {notes : List Note} where
   options_came : IsOneHostV6 (ipv6_in packet).0.src_addr →
-      ProcessesHopByHop source (ipv6_in packet).0 H (ipv6_in packet).1 reply notes new → Come (ToldByPacket H packet) H new
+      ProcessesHopByHop source (ipv6_in packet).0 H (ipv6_in packet).1 reply notes new → Come (ToldByPacket H packet) (IsHeard source (repr.Ipv6 (ipv6_in packet).0)) H new
   options_came one (ipv6.MalformedOptions m d) = unchanged d.unchanged
   options_came one (ipv6.Skipped o s t) = told_so (λ a h x.
       record { octets = (hop_by_hop_in (ipv6_in packet).1).1; has_message = law.AfterOptions x.0 refl; told = x.1; host = one })
       (datagram_v6_came (ipv6_in packet).0 t)
   options_came one (ipv6.Discarded failure o s other e n same) = unchanged same
 
-  packet_v6_came : ipv6.ProcessesPacket source (ipv6_in packet).0 H (ipv6_in packet).1 reply notes new → Come (ToldByPacket H packet) H new
+  packet_v6_came : ipv6.ProcessesPacket source (ipv6_in packet).0 H (ipv6_in packet).1 reply notes new → Come (ToldByPacket H packet) (IsHeard source (repr.Ipv6 (ipv6_in packet).0)) H new
   packet_v6_came (ipv6.FromNoHost s d) = unchanged d.unchanged
   packet_v6_came (ipv6.WithOptions s z t) = options_came (one_host_v6 (ipv6_in packet).0.src_addr s) t
   packet_v6_came (ipv6.Bare s z t) = told_so (λ a h x.
       record { octets = (ipv6_in packet).1; has_message = law.AfterHeader x.0 refl; told = x.1; host = one_host_v6 (ipv6_in packet).0.src_addr s })
       (datagram_v6_came (ipv6_in packet).0 t)
 
-  ipv6_came : ProcessesIpv6 source H packet reply notes new → Come (ToldByPacket H packet) H new
+  ipv6_came : ProcessesIpv6 source H packet reply notes new → Come (ToldByPacket H packet) (IsHeard source (repr.Ipv6 (ipv6_in packet).0)) H new
   ipv6_came (ipv6.Malformed m d) = unchanged d.unchanged
   ipv6_came (ipv6.Read i t) = packet_v6_came t
 
 -- IPv4 tells of nobody
-igmp_came : (H : Host) (dst : Ipv4Address) (m : IgmpRepr) → Come Nobody H (reports.host_after_igmp H dst m)
+igmp_came : (H : Host) (dst : Ipv4Address) (m : IgmpRepr) → Come Nobody Unheard H (reports.host_after_igmp H dst m)
 igmp_came H dst (MembershipQuery code group) = still_known refl refl
 igmp_came H dst (MembershipReport group version) = unchanged refl
 igmp_came H dst (LeaveGroup group) = unchanged refl
 
 igmp_taken : {r : Ipv4Repr} {H new : Host} {octets : List ℕ} {reply : Option Reply} {notes : List Note} →
-    reports.ProcessesIgmp r H octets reply notes new → Come Nobody H new
+    reports.ProcessesIgmp r H octets reply notes new → Come Nobody Unheard H new
 igmp_taken (reports.Malformed m d) = unchanged d.unchanged
-igmp_taken {r} {H} {new} {octets} (reports.Taken i e n same) = subst (Come Nobody H) (sym same) (igmp_came H r.dst_addr (igmp_in octets))
+igmp_taken {r} {H} {new} {octets} (reports.Taken i e n same) = subst (Come Nobody Unheard H) (sym same) (igmp_came H r.dst_addr (igmp_in octets))
 
 icmpv4_came : {r : Ipv4Repr} {H new : Host} {octets : List ℕ} {reply : Option Reply} {notes : List Note} →
-    ProcessesIcmpv4 r H octets reply notes new → Come Nobody H new
+    ProcessesIcmpv4 r H octets reply notes new → Come Nobody Unheard H new
 icmpv4_came (icmpv4.Malformed m d) = unchanged d.unchanged
 icmpv4_came (icmpv4.Taken i e n s) = still_known (ap (λ (K : Host). K.moment) s) (ap (λ (K : Host). K.neighbors.known) s)
 
 protocol_came : (p : IpProtocol) (b : Bool) (r : Ipv4Repr) (H : Host) (octets : List ℕ) (reply : Option Reply) (notes : List Note) (new : Host) →
-    ip.ProcessesProtocol p b r H octets reply notes new → Come Nobody H new
+    ip.ProcessesProtocol p b r H octets reply notes new → Come Nobody Unheard H new
 protocol_came protocol.Icmp b r H octets reply notes new t = icmpv4_came t
 protocol_came protocol.Udp b r H octets reply notes new t = udp_came t
 protocol_came protocol.Tcp b r H octets reply notes new t = tcp_came t
@@ -471,22 +478,23 @@ protocol_came protocol.Icmpv6 b r H octets reply notes new t = unchanged t.uncha
 protocol_came (protocol.Unknown n) b r H octets reply notes new t = unchanged t.unchanged
 
 datagram_came : {source : HardwareAddress} {H new : Host} {payload : List ℕ} {reply : Option Reply} {notes : List Note} (r : Ipv4Repr) →
-    ProcessesDatagram source r H payload reply notes new → Come Nobody H new
+    ProcessesDatagram source r H payload reply notes new → Come Nobody (IsHeard source (repr.Ipv4 r)) H new
 datagram_came r (ip.NotForUs n d) = still_known (ap (λ (K : Host). K.moment) d.unchanged) (ap (λ (K : Host). K.neighbors.known) d.unchanged)
 datagram_came {source} {H} {new} {payload} {reply} {notes} r (ip.Accepted f t) =
-    come_then (met_came source (repr.Ipv4 r) payload H) (protocol_came r.next_header _ r _ payload reply notes new t)
+    come_then (met_came source (repr.Ipv4 r) payload H)
+    (come_so (λ a h x. x) (λ a h x. absurd x) (protocol_came r.next_header _ r _ payload reply notes new t))
 
 packet_came : {source : HardwareAddress} {H new : Host} {payload : List ℕ} {reply : Option Reply} {notes : List Note}
-    (r : Ipv4Repr) (f : Ipv4Fragment) → ProcessesPacket source r f H payload reply notes new → Come Nobody H new
+    (r : Ipv4Repr) (f : Ipv4Fragment) → ProcessesPacket source r f H payload reply notes new → Come Nobody (IsHeard source (repr.Ipv4 r)) H new
 packet_came r f (ip.FromNoHost s d) = unchanged d.unchanged
 packet_came r f (ip.Part s p t e) = still_known (ap (λ (K : Host). K.moment) t.changed) (ap (λ (K : Host). K.neighbors.known) t.changed)
 packet_came {H = H} r f (ip.Completed octets mid first rest s p t w e) =
     come_then {old = H} {mid = mid} (still_known (ap (λ (K : Host). K.moment) t.changed) (ap (λ (K : Host). K.neighbors.known) t.changed))
-    (datagram_came _ w)
+    (come_so (λ a h x. x) (λ a h x. x) (datagram_came (ip.datagram_header r octets) w))
 packet_came r f (ip.Whole s w t) = datagram_came r t
 
 ipv4_came : {source : HardwareAddress} {H new : Host} {octets : List ℕ} {reply : Option Reply} {notes : List Note} →
-    ProcessesIpv4 source H octets reply notes new → Come Nobody H new
+    ProcessesIpv4 source H octets reply notes new → Come Nobody (IsHeard source (repr.Ipv4 (ipv4_in octets).0)) H new
 ipv4_came (ip.Malformed m d) = unchanged d.unchanged
 ipv4_came (ip.Read i t) = packet_came _ _ t
 
@@ -496,8 +504,16 @@ record ToldByFrame (H : Host) (frame : List ℕ) (a : IpAddress) (h : EthernetAd
   on_ethernet : H.hardware_addr ≡ hardware.Ethernet own
   told : TellsByArp H frame a h ⊎ TellsByMessage H frame a h
 
-nobody_told : {Told : IpAddress → EthernetAddress → Type 0} {H new : Host} → Come Nobody H new → Come Told H new
-nobody_told {Told} c = told_so {Told = Nobody} {Other = Told} (λ a h x. absurd x) c
+-- and who is heard in it
+heard_v4 : (H : Host) (frame packet : List ℕ) (source : HardwareAddress) (a : IpAddress) (h : HardwareAddress) →
+    CarriesV4 H.hardware_addr frame packet → source ≡ sender_in H.hardware_addr frame → IsHeard source (repr.Ipv4 (ipv4_in packet).0) a h →
+    IsFrom H frame a h
+heard_v4 H frame packet source a h carried from x = law.OverIpv4 packet carried x.0 (x.1 ∙ from)
+
+heard_v6 : (H : Host) (frame packet : List ℕ) (source : HardwareAddress) (a : IpAddress) (h : HardwareAddress) →
+    CarriesV6 H.hardware_addr frame packet → source ≡ sender_in H.hardware_addr frame → IsHeard source (repr.Ipv6 (ipv6_in packet).0) a h →
+    IsFrom H frame a h
+heard_v6 H frame packet source a h carried from x = law.OverIpv6 packet carried x.0 (x.1 ∙ from)
 
 by_message : {H : Host} {frame packet : List ℕ} {a : IpAddress} {h : EthernetAddress} → CarriesV6 H.hardware_addr frame packet →
     ToldByPacket H packet a h → ToldByFrame H frame a h
@@ -522,29 +538,38 @@ by_message {H} {frame} {packet} carried p = let x = p.told.told in record {
 }
 
 payload_came : (own source : EthernetAddress) (H : Host) (type : EthernetProtocol) (frame : List ℕ) (reply : Option Reply) (notes : List Note)
-    (new : Host) → H.hardware_addr ≡ hardware.Ethernet own → (header_in frame).ethertype ≡ type →
-    ProcessesEthertype own source H type (drop 14 frame) reply notes new → Come (ToldByFrame H frame) H new
-payload_came own source H ethertype.Arp frame reply notes new mine type t =
-    told_so (λ a h x. record { own = own; on_ethernet = mine; told = inl x }) (arp_came type t)
-payload_came own source H ethertype.Ipv4 frame reply notes new mine type t = nobody_told (ipv4_came t)
-payload_came own source H ethertype.Ipv6 frame reply notes new mine type t =
+    (new : Host) → H.hardware_addr ≡ hardware.Ethernet own → (header_in frame).ethertype ≡ type → source ≡ (header_in frame).src_addr →
+    ProcessesEthertype own source H type (drop 14 frame) reply notes new → Come (ToldByFrame H frame) (IsFrom H frame) H new
+payload_came own source H ethertype.Arp frame reply notes new mine type from t =
+    come_so (λ a h x. record { own = own; on_ethernet = mine; told = inl x }) (λ a h x. absurd x) (arp_came type t)
+payload_came own source H ethertype.Ipv4 frame reply notes new mine type from t =
+    let carried : CarriesV4 H.hardware_addr frame (drop 14 frame) = rw mine (type, refl) in
+    let sent : hardware.Ethernet source ≡ sender_in H.hardware_addr frame = rw mine (ap hardware.Ethernet from) in
+    come_so (λ a h x. absurd x) (λ a h x. heard_v4 H frame (drop 14 frame) (hardware.Ethernet source) a h carried sent x) (ipv4_came t)
+payload_came own source H ethertype.Ipv6 frame reply notes new mine type from t =
     let carried : CarriesV6 H.hardware_addr frame (drop 14 frame) = rw mine (type, refl) in
-    told_so (λ a h x. by_message carried x) (ipv6_came t)
-payload_came own source H (ethertype.Unknown n) frame reply notes new mine type t = unchanged t.unchanged
+    let sent : hardware.Ethernet source ≡ sender_in H.hardware_addr frame = rw mine (ap hardware.Ethernet from) in
+    come_so (λ a h x. by_message carried x) (λ a h x. heard_v6 H frame (drop 14 frame) (hardware.Ethernet source) a h carried sent x) (ipv6_came t)
+payload_came own source H (ethertype.Unknown n) frame reply notes new mine type from t = unchanged t.unchanged
 
 ethernet_came : {own : EthernetAddress} {H new : Host} {frame : List ℕ} {reply : Option Reply} {notes : List Note} →
-    H.hardware_addr ≡ hardware.Ethernet own → ProcessesEthernet own H frame reply notes new → Come (ToldByFrame H frame) H new
+    H.hardware_addr ≡ hardware.Ethernet own → ProcessesEthernet own H frame reply notes new → Come (ToldByFrame H frame) (IsFrom H frame) H new
 ethernet_came mine (ethernet.Malformed m d) = unchanged d.unchanged
 ethernet_came mine (ethernet.NotForUs l f d) = unchanged d.unchanged
-ethernet_came {own} {H} {new} {frame} {reply} {notes} mine (ethernet.Accepted l f t) = payload_came own _ H _ frame reply notes new mine refl t
+ethernet_came {own} {H} {new} {frame} {reply} {notes} mine (ethernet.Accepted l f t) =
+    payload_came own (header_in frame).src_addr H (header_in frame).ethertype frame reply notes new mine refl refl t
 
 frame_came : (h : HardwareAddress) (H : Host) (frame : List ℕ) (reply : Option Reply) (notes : List Note) (new : Host) →
-    H.hardware_addr ≡ h → ProcessesFrame h H frame reply notes new → Come (ToldByFrame H frame) H new
+    H.hardware_addr ≡ h → ProcessesFrame h H frame reply notes new → Come (ToldByFrame H frame) (IsFrom H frame) H new
 frame_came (hardware.Ethernet own) H frame reply notes new mine t = ethernet_came mine t
-frame_came hardware.Ip H frame reply notes new mine (ethernet.Ipv4 v t) = nobody_told (ipv4_came t)
+frame_came hardware.Ip H frame reply notes new mine (ethernet.Ipv4 v t) =
+    let carried : CarriesV4 H.hardware_addr frame frame = rw mine (v, refl) in
+    let sent : hardware.Ip ≡ sender_in H.hardware_addr frame = rw mine refl in
+    come_so (λ a h x. absurd x) (λ a h x. heard_v4 H frame frame hardware.Ip a h carried sent x) (ipv4_came t)
 frame_came hardware.Ip H frame reply notes new mine (ethernet.Ipv6 v t) =
     let carried : CarriesV6 H.hardware_addr frame frame = rw mine (v, refl) in
-    told_so (λ a h x. by_message carried x) (ipv6_came t)
+    let sent : hardware.Ip ≡ sender_in H.hardware_addr frame = rw mine refl in
+    come_so (λ a h x. by_message carried x) (λ a h x. heard_v6 H frame frame hardware.Ip a h carried sent x) (ipv6_came t)
 frame_came hardware.Ip H frame reply notes new mine (ethernet.OtherVersion v w d) = unchanged d.unchanged
 
 -- slots that expire tell of nobody
@@ -591,10 +616,16 @@ neighbors_came t frame old new told notes w a n is =
       come : (h : WasHandled t frame old told notes new) →
           (ProcessesFrame old.hardware_addr (without_expired old t) frame h.reply h.first h.taken
           ⊎ IsDropped (without_expired old t) h.reply h.first h.taken) →
-          Come (ToldByFrame (without_expired old t) frame) (without_expired old t) h.taken
+          Come (ToldByFrame (without_expired old t) frame) (IsFrom (without_expired old t) frame) (without_expired old t) h.taken
       come h (inl p) = frame_came old.hardware_addr (without_expired old t) frame h.reply h.first h.taken refl p
       come h (inr d) = unchanged d.unchanged
 
-      by : Came (ToldByFrame (without_expired old t) frame) (without_expired old t) a n → CameToBeKnown t frame old a n
-      by (Was m get same end) = law.WasKnown m get same end
+      from_before : {b : IpAddress} {h : HardwareAddress} → IsFrom (without_expired old t) frame b h → IsFrom old frame b h
+      from_before (law.OverIpv4 packet carried sender hardware) = law.OverIpv4 packet carried sender hardware
+      from_before (law.OverIpv6 packet carried sender hardware) = law.OverIpv6 packet carried sender hardware
+
+      by : Came (ToldByFrame (without_expired old t) frame) (IsFrom (without_expired old t) frame) (without_expired old t) a n →
+          CameToBeKnown t frame old a n
+      by (Was get) = law.WasKnown get
+      by (Renewed m get e heard) = law.WasRenewed m get e (from_before heard)
       by (New h e told) = law.WasTold told.own h told.on_ethernet e (told_before t told.told)

@@ -72,7 +72,7 @@ use Rattle.host_machine.specs.Receiving.Ipv4 as ipv4
 use Rattle.host_machine.specs.Receiving.Ipv6.{ProcessesIpv6, ProcessesPacket, ProcessesHopByHop}
 use Rattle.host_machine.specs.Receiving.Ipv6.{ProcessesDatagramV6, unknown_option, unrecognized_next_header}
 use Rattle.host_machine.specs.Receiving.Ipv6 as ipv6
-use Rattle.host_machine.proofs.State.UnchangedFields.{Keeps, rest_of, kept, kept_by, kept_then, unread, heard_kept, sender_kept}
+use Rattle.host_machine.proofs.State.UnchangedFields.{Keeps, emptied, rest_of, kept, kept_by, kept_then, unread, heard_kept, sender_kept}
 use Rattle.host_machine.proofs.State.MediumAddresses.{filled_of, of_six}
 use Rattle.host_machine.proofs.Sending.OwnMessages.{is_own}
 use Rattle.host_machine.specs.Sending.Packet.{payload_of}
@@ -261,7 +261,7 @@ learns_kept : (H new : Host) (own : EthernetAddress) (a : Ipv6Address) (o : Opti
     H.hardware_addr ≡ hardware.Ethernet own → IsLinkLayerAddr o → Learns o a H new → Keeps H new
 learns_kept H new own a None mine six e = kept e
 learns_kept H new own a (Some h) mine six learns = kept_by learns.same (record {
-  same = ap (λ s. rest_of (record H { neighbors = record { known = map.empty; silent_until = s } })) learns.filled.silence;
+  same = ap (λ n. rest_of (record H { neighbors = n })) (emptied learns.filled);
   real = λ r.
       let there : IsOf H.capabilities.medium (hardware.Ethernet own) = rw mine at r.own in
       record {

@@ -9,6 +9,7 @@ use Rattle.ip_address.specs.declared.ip.IpAddress.{IpAddress}
 use Rattle.ip_address.specs.declared.protocol.IpProtocol.{IpProtocol}
 use Rattle.ip_address.specs.declared.protocol.IpVersion.{IpVersion}
 use Rattle.ip_wire.specs.declared.arp.ArpRepr.{ArpRepr}
+use Rattle.ip_wire.specs.declared.tcp.TcpRepr.{TcpRepr}
 use Rattle.control_wire.specs.declared.icmpv4.Icmpv4Repr.{Icmpv4Repr}
 use Rattle.control_wire.specs.declared.icmpv4.Icmpv4Repr.TheVariants.{EchoReply}
 use Rattle.control_wire.specs.Icmpv4 as icmpv4
@@ -47,7 +48,7 @@ reply_origin {t} {frame} {old} {new} {told} {notes} w = by (frame_of_call w) whe
   by (inr d) = Silent d.silent
 
 -- slots that expired have nothing to do with it
-own_before : {old : Host} {a : IpAddress} (t : ℤ) → IsOwn (without_expired old t) a → IsOwn old a
+pub own_before : {old : Host} {a : IpAddress} (t : ℤ) → IsOwn (without_expired old t) a → IsOwn old a
 own_before t (neighbors.Assigned i) = neighbors.Assigned i
 own_before t (neighbors.Routed i r on here prefix gateway) = neighbors.Routed i r on here prefix gateway
 
@@ -120,7 +121,8 @@ segment_before : {old : Host} {frame segment : List ℕ} {v : IpVersion} {p : Ip
 segment_before t (law.OverIpv4 packet r carried brings is) = law.OverIpv4 packet r carried brings is
 segment_before t (law.OverIpv6 packet carried brings) = law.OverIpv6 packet carried brings
 
-reset_before : {old : Host} {frame : List ℕ} (t : ℤ) → HasSegmentCause (without_expired old t) frame → HasSegmentCause old frame
+reset_before : {old : Host} {frame : List ℕ} {q : Packet} {header : TcpRepr} {octets : List ℕ} (t : ℤ) →
+    HasSegmentCause (without_expired old t) frame q header octets → HasSegmentCause old frame q header octets
 reset_before t c = record {
   segment = c.segment;
   of_version = c.of_version;
@@ -132,6 +134,9 @@ reset_before t c = record {
   from_someone = c.from_someone;
   to_someone = c.to_someone;
   untaken = c.untaken;
+  goes_back = c.goes_back;
+  header_is = c.header_is;
+  without_data = c.without_data;
 }
 
 -- by the kind of the reply
@@ -155,10 +160,10 @@ arp_told t frame old new told notes w own r on is = by (reply_origin w) where
       let same : mine ≡ own = let both : hardware.Ethernet mine ≡ hardware.Ethernet own = sym here ∙ on in cc in
       subst (λ x. AnswersByArp own old frame x) (same_arp e is) (subst (λ x. AnswersByArp x old frame s) same (arp_before t a))
   by (ByAdvertisement mine q message here e p a) = let bad : Some (Ip (packet.Ipv6 q)) ≡ Some (Arp r) = sym e ∙ is in absurd cc
-  by (ByEcho q ident seq_no octets e p) = let bad : Some (Ip (packet.Ipv4 q)) ≡ Some (Arp r) = sym e ∙ is in absurd cc
+  by (ByEcho q ident seq_no octets e p s) = let bad : Some (Ip (packet.Ipv4 q)) ≡ Some (Arp r) = sym e ∙ is in absurd cc
   by (ByError q message octets e p c) = let bad : Some (Ip (packet.Ipv4 q)) ≡ Some (Arp r) = sym e ∙ is in absurd cc
-  by (ByEchoV6 q ident seq_no octets e p) = let bad : Some (Ip (packet.Ipv6 q)) ≡ Some (Arp r) = sym e ∙ is in absurd cc
-  by (ByErrorV6 q message octets e p few c) = let bad : Some (Ip (packet.Ipv6 q)) ≡ Some (Arp r) = sym e ∙ is in absurd cc
+  by (ByEchoV6 q ident seq_no octets e p s) = let bad : Some (Ip (packet.Ipv6 q)) ≡ Some (Arp r) = sym e ∙ is in absurd cc
+  by (ByErrorV6 q message octets e p few c s) = let bad : Some (Ip (packet.Ipv6 q)) ≡ Some (Arp r) = sym e ∙ is in absurd cc
   by (BySegment q header e p c) = let bad : Some (Ip q) ≡ Some (Arp r) = sym e ∙ is in absurd cc
 
 -- the payload of the packet is one
@@ -189,11 +194,11 @@ advert_told t frame old new told notes w own q message octets on is carries = by
       let both : packet.Icmpv6 (v6.Ndisc m) [] ≡ packet.Icmpv6 (v6.Ndisc message) octets = payload_v6 e c is carries in cc in
       subst (λ x. AdvertisesItself own old frame q x) one
       (subst (λ x. AdvertisesItself own old frame x m) (same_v6 e is) (subst (λ x. AdvertisesItself x old frame p m) same (advert_before t a)))
-  by (ByEcho p ident seq_no o e c) = let bad : Some (Ip (packet.Ipv4 p)) ≡ Some (Ip (packet.Ipv6 q)) = sym e ∙ is in absurd cc
+  by (ByEcho p ident seq_no o e c s) = let bad : Some (Ip (packet.Ipv4 p)) ≡ Some (Ip (packet.Ipv6 q)) = sym e ∙ is in absurd cc
   by (ByError p m o e c cause) = let bad : Some (Ip (packet.Ipv4 p)) ≡ Some (Ip (packet.Ipv6 q)) = sym e ∙ is in absurd cc
-  by (ByEchoV6 p ident seq_no o e c) =
+  by (ByEchoV6 p ident seq_no o e c s) =
       let bad : packet.Icmpv6 (v6.EchoReply ident seq_no) o ≡ packet.Icmpv6 (v6.Ndisc message) octets = payload_v6 e c is carries in absurd cc
-  by (ByErrorV6 p m o e c few cause) =
+  by (ByErrorV6 p m o e c few cause s) =
       let same : m ≡ v6.Ndisc message = let both : packet.Icmpv6 m o ≡ packet.Icmpv6 (v6.Ndisc message) octets = payload_v6 e c is carries in cc in
       absurd (no_error message (subst (λ x. icmpv6.type_of x ≤ 4) same few))
   by (BySegment p header e c cause) =
@@ -205,7 +210,7 @@ errors_caused t frame old new told notes w q message octets is carries other = b
   by (Silent e) = let bad : None ≡ Some (Ip (packet.Ipv4 q)) = sym e ∙ is in absurd cc
   by (ByArp mine s here e a) = let bad : Some (Arp s) ≡ Some (Ip (packet.Ipv4 q)) = sym e ∙ is in absurd cc
   by (ByAdvertisement mine p m here e c a) = let bad : Some (Ip (packet.Ipv6 p)) ≡ Some (Ip (packet.Ipv4 q)) = sym e ∙ is in absurd cc
-  by (ByEcho p ident seq_no o e c) =
+  by (ByEcho p ident seq_no o e c s) =
       let same : EchoReply ident seq_no ≡ message =
       let both : packet.Icmpv4 (EchoReply ident seq_no) o ≡ packet.Icmpv4 message octets = payload_v4 e c is carries in cc in
       absurd (other (ap icmpv4.type_of (sym same)))
@@ -215,8 +220,8 @@ errors_caused t frame old new told notes w q message octets is carries other = b
       let two : o ≡ octets = cc in
       subst (λ x. HasCauseV4 old frame q message x) two
       (subst (λ x. HasCauseV4 old frame q x o) one (subst (λ x. HasCauseV4 old frame x m o) (same_v4 e is) (cause_before t cause)))
-  by (ByEchoV6 p ident seq_no o e c) = let bad : Some (Ip (packet.Ipv6 p)) ≡ Some (Ip (packet.Ipv4 q)) = sym e ∙ is in absurd cc
-  by (ByErrorV6 p m o e c few cause) = let bad : Some (Ip (packet.Ipv6 p)) ≡ Some (Ip (packet.Ipv4 q)) = sym e ∙ is in absurd cc
+  by (ByEchoV6 p ident seq_no o e c s) = let bad : Some (Ip (packet.Ipv6 p)) ≡ Some (Ip (packet.Ipv4 q)) = sym e ∙ is in absurd cc
+  by (ByErrorV6 p m o e c few cause s) = let bad : Some (Ip (packet.Ipv6 p)) ≡ Some (Ip (packet.Ipv4 q)) = sym e ∙ is in absurd cc
   by (BySegment p header e c cause) = let bad : packet.Tcp header [] ≡ packet.Icmpv4 message octets = payload_any e c is carries in absurd cc
 
 pub errors_v6_caused : ErrorsV6HaveCause
@@ -227,13 +232,13 @@ errors_v6_caused t frame old new told notes w q message octets is carries few = 
   by (ByAdvertisement mine p m here e c a) =
       let same : v6.Ndisc m ≡ message = let both : packet.Icmpv6 (v6.Ndisc m) [] ≡ packet.Icmpv6 message octets = payload_v6 e c is carries in cc in
       absurd (no_error m (subst (λ x. icmpv6.type_of x ≤ 4) (sym same) few))
-  by (ByEcho p ident seq_no o e c) = let bad : Some (Ip (packet.Ipv4 p)) ≡ Some (Ip (packet.Ipv6 q)) = sym e ∙ is in absurd cc
+  by (ByEcho p ident seq_no o e c s) = let bad : Some (Ip (packet.Ipv4 p)) ≡ Some (Ip (packet.Ipv6 q)) = sym e ∙ is in absurd cc
   by (ByError p m o e c cause) = let bad : Some (Ip (packet.Ipv4 p)) ≡ Some (Ip (packet.Ipv6 q)) = sym e ∙ is in absurd cc
-  by (ByEchoV6 p ident seq_no o e c) =
+  by (ByEchoV6 p ident seq_no o e c s) =
       let same : v6.EchoReply ident seq_no ≡ message =
       let both : packet.Icmpv6 (v6.EchoReply ident seq_no) o ≡ packet.Icmpv6 message octets = payload_v6 e c is carries in cc in
       let bad : 129 ≤ 4 = subst (λ x. icmpv6.type_of x ≤ 4) (sym same) few in absurd (omega (arith, bad))
-  by (ByErrorV6 p m o e c low cause) =
+  by (ByErrorV6 p m o e c low cause s) =
       let both : packet.Icmpv6 m o ≡ packet.Icmpv6 message octets = payload_v6 e c is carries in
       let one : m ≡ message = cc in
       let two : o ≡ octets = cc in
@@ -243,15 +248,20 @@ errors_v6_caused t frame old new told notes w q message octets is carries few = 
 
 pub resets_caused : ResetsHaveCause
 resets_caused t frame old new told notes w q header octets is carries = by (reply_origin w) where
-  by : Origin (without_expired old t) frame w.call.response.reply → HasSegmentCause old frame
+  by : Origin (without_expired old t) frame w.call.response.reply → HasSegmentCause old frame q header octets
   by (Silent e) = let bad : None ≡ Some (Ip q) = sym e ∙ is in absurd cc
   by (ByArp mine s here e a) = let bad : Some (Arp s) ≡ Some (Ip q) = sym e ∙ is in absurd cc
   by (ByAdvertisement mine p m here e c a) =
       let bad : packet.Icmpv6 (v6.Ndisc m) [] ≡ packet.Tcp header octets = payload_any e c is carries in absurd cc
-  by (ByEcho p ident seq_no o e c) =
+  by (ByEcho p ident seq_no o e c s) =
       let bad : packet.Icmpv4 (EchoReply ident seq_no) o ≡ packet.Tcp header octets = payload_any e c is carries in absurd cc
   by (ByError p m o e c cause) = let bad : packet.Icmpv4 m o ≡ packet.Tcp header octets = payload_any e c is carries in absurd cc
-  by (ByEchoV6 p ident seq_no o e c) =
+  by (ByEchoV6 p ident seq_no o e c s) =
       let bad : packet.Icmpv6 (v6.EchoReply ident seq_no) o ≡ packet.Tcp header octets = payload_any e c is carries in absurd cc
-  by (ByErrorV6 p m o e c few cause) = let bad : packet.Icmpv6 m o ≡ packet.Tcp header octets = payload_any e c is carries in absurd cc
-  by (BySegment p x e c cause) = reset_before t cause
+  by (ByErrorV6 p m o e c few cause s) = let bad : packet.Icmpv6 m o ≡ packet.Tcp header octets = payload_any e c is carries in absurd cc
+  by (BySegment p x e c cause) =
+      let both : packet.Tcp x [] ≡ packet.Tcp header octets = payload_any e c is carries in
+      let one : x ≡ header = cc in
+      let two : [] ≡ octets = cc in
+      subst (λ o. HasSegmentCause old frame q header o) two
+      (subst (λ h. HasSegmentCause old frame q h []) one (subst (λ z. HasSegmentCause old frame z x []) (same_packet e is) (reset_before t cause)))

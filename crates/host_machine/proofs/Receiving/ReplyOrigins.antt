@@ -7,6 +7,7 @@ use Rattle.std.specs.Option.{option_map}
 use Rattle.std.proofs.lemmas.Bool.Decides.{Decides-eqb}
 use Rattle.std.specs.List.{AllByRecursion, list_any}
 use Rattle.net_base.specs.Checksum.{is_tx}
+use Rattle.address_selection.specs.Ipv6.{source_v6}
 use Rattle.ip_address.specs.EthernetAddress as ethernet_address
 use Rattle.ip_address.specs.Ip as ip_address
 use Rattle.ip_address.specs.Ipv4 as ipv4_address
@@ -92,15 +93,20 @@ use Rattle.host_machine.specs.Sending.Packet.{Packet, PacketV4, PacketV6, payloa
 use Rattle.host_machine.specs.Sending.Packet as packet
 use Rattle.host_machine.specs.Sending.Reports as reports
 use Rattle.host_machine.specs.Laws.Restraint.Readings.{AreSameButRaw, CarriesV4, CarriesV6}
-use Rattle.host_machine.specs.Laws.Restraint.Neighbors.{IsOwn}
+use Rattle.host_machine.specs.Laws.Restraint.Chosen.{IsChosenFor, Given}
+use Rattle.host_machine.specs.Laws.Restraint.Neighbors.{IsAssigned, IsOwn}
+use Rattle.host_machine.specs.Laws.Restraint.Sources.{IsReceiver, IsReplyFrom, FromChosen, FromReceiver, OverIpv4, OverIpv6}
 use Rattle.host_machine.specs.Laws.Restraint.Replies.{AdvertisesItself, AnswersByArp, BringsSegment, BringsV4, BringsV6}
-use Rattle.host_machine.specs.Laws.Restraint.Replies.{HasAborted, HasCauseV4}
+use Rattle.host_machine.specs.Laws.Restraint.Replies.{GoesBack, HasAborted, HasCauseV4}
 use Rattle.host_machine.specs.Laws.Restraint.Replies.{HasCauseV6, HasReasonV6, HasSegmentCause, IsNoRawFor}
 use Rattle.host_machine.specs.Laws.Restraint.Replies as law
+use Rattle.host_machine.specs.Laws.Restraint.ResetNumbers.{IsResetFor}
 use Rattle.host_machine.proofs.Receiving.LearntNeighbors.{IsOneHostV6, and_both, one_host_v6, own_of}
 use Rattle.host_machine.proofs.Receiving.ReceivedFrames.{raw_only, renewal}
 use Rattle.host_machine.proofs.Receiving.ReplyCauses.{answered, both_false, no_raw, no_reset_flag, one_host_v4}
 use Rattle.host_machine.proofs.Receiving.ReplyCauses.{tcp_there}
+use Rattle.host_machine.proofs.Receiving.ResetNumbers.{answer_for}
+use Rattle.host_machine.proofs.Sending.ChosenSources.{chosen_v6, first_assigned}
 
 -- the kinds of replies
 pub data Origin (H : Host) (frame : List ℕ) (reply : Option Reply) : Type 0 where
@@ -111,22 +117,26 @@ pub data Origin (H : Host) (frame : List ℕ) (reply : Option Reply) : Type 0 wh
       reply ≡ Some (Ip (packet.Ipv6 q)) → q.payload ≡ packet.Icmpv6 (v6.Ndisc message) [] → AdvertisesItself own H frame q message →
       Origin H frame reply
   ByEcho : (q : PacketV4) (ident seq_no : ℕ) (octets : List ℕ) →
-      reply ≡ Some (Ip (packet.Ipv4 q)) → q.payload ≡ packet.Icmpv4 (EchoReply ident seq_no) octets → Origin H frame reply
+      reply ≡ Some (Ip (packet.Ipv4 q)) → q.payload ≡ packet.Icmpv4 (EchoReply ident seq_no) octets →
+      IsReplyFrom H frame (packet.Ipv4 q) → Origin H frame reply
   ByError : (q : PacketV4) (message : Icmpv4Repr) (octets : List ℕ) → reply ≡ Some (Ip (packet.Ipv4 q)) →
       q.payload ≡ packet.Icmpv4 message octets → HasCauseV4 H frame q message octets → Origin H frame reply
   ByEchoV6 : (q : PacketV6) (ident seq_no : ℕ) (octets : List ℕ) →
-      reply ≡ Some (Ip (packet.Ipv6 q)) → q.payload ≡ packet.Icmpv6 (v6.EchoReply ident seq_no) octets → Origin H frame reply
+      reply ≡ Some (Ip (packet.Ipv6 q)) → q.payload ≡ packet.Icmpv6 (v6.EchoReply ident seq_no) octets →
+      IsReplyFrom H frame (packet.Ipv6 q) → Origin H frame reply
   ByErrorV6 : (q : PacketV6) (message : Icmpv6Repr) (octets : List ℕ) → reply ≡ Some (Ip (packet.Ipv6 q)) →
-      q.payload ≡ packet.Icmpv6 message octets → icmpv6_text.type_of message ≤ 4 → HasCauseV6 H frame q message octets → Origin H frame reply
+      q.payload ≡ packet.Icmpv6 message octets → icmpv6_text.type_of message ≤ 4 → HasCauseV6 H frame q message octets →
+      IsReplyFrom H frame (packet.Ipv6 q) → Origin H frame reply
   BySegment : (q : Packet) (header : TcpRepr) → reply ≡ Some (Ip q) → payload_of q ≡ packet.Tcp header [] →
-      HasSegmentCause H frame → Origin H frame reply
+      HasSegmentCause H frame q header [] → Origin H frame reply
 
 pub silent : {H K new : Host} {frame : List ℕ} {reply : Option Reply} {notes : List Note} → IsDropped K reply notes new → Origin H frame reply
 silent d = Silent d.silent
 
 -- the segments of either family
 module _ (H : Host) (frame segment : List ℕ) (v : IpVersion) (next : IpProtocol) (r : IpRepr) (sender receiver : ℕ)
-    (brings : BringsSegment H frame segment v next sender receiver) (from_someone : sender ≢ 0) (to_someone : receiver ≢ 0) where
+    (brings : BringsSegment H frame segment v next sender receiver) (from_someone : sender ≢ 0) (to_someone : receiver ≢ 0)
+    (back : (t : TcpRepr) → GoesBack v sender receiver (packet.sent_back r (packet.Tcp t []))) where
   sent_back_is : (t : TcpRepr) → payload_of (packet.sent_back r (packet.Tcp t [])) ≡ packet.Tcp t []
   sent_back_is t = by r where
     by : (r : IpRepr) → payload_of (packet.sent_back r (packet.Tcp t [])) ≡ packet.Tcp t []
@@ -134,37 +144,40 @@ module _ (H : Host) (frame segment : List ℕ) (v : IpVersion) (next : IpProtoco
     by (repr.Ipv6 r) = refl
 
   segment_origin : {reply : Option Reply} (o : Option TcpRepr) → reply ≡ option_map (segment_back r) o →
-      ((x : TcpRepr) → o ≡ Some x → HasSegmentCause H frame) → Origin H frame reply
+      ((x : TcpRepr) → o ≡ Some x → HasSegmentCause H frame (packet.sent_back r (packet.Tcp x [])) x []) → Origin H frame reply
   segment_origin None e cause = Silent e
   segment_origin (Some t) e cause = BySegment (packet.sent_back r (packet.Tcp t [])) t e (sent_back_is t) (cause t refl)
 
-  caused : slice_index segment 13 / 4 % 2 ≡ 0 →
-      AllByRecursion (IsNoRawFor v next) H.sockets.places ⊎ HasAborted H → HasSegmentCause H frame
-  caused flag untaken = record {
+  caused : (x : TcpRepr) → (slice_index segment 13 / 4 % 2 ≡ 0) × IsResetFor segment x →
+      AllByRecursion (IsNoRawFor v next) H.sockets.places ⊎ HasAborted H → HasSegmentCause H frame (packet.sent_back r (packet.Tcp x [])) x []
+  caused x flag untaken = record {
     segment = segment;
     of_version = v;
     next = next;
     sender = sender;
     receiver = receiver;
     brings = brings;
-    no_reset = flag;
+    no_reset = flag.0;
     from_someone = from_someone;
     to_someone = to_someone;
     untaken = untaken;
+    goes_back = back x;
+    header_is = flag.1;
+    without_data = refl;
   }
 
   -- one that no socket accepts
   reset_origin : {reply : Option Reply} (b : Bool) → list_any (raw.accepts v next) H.sockets.places ≡ b →
       ((x : TcpRepr) → tcp_socket.answer_of (tcp_in segment).0.control
-      (tcp_in segment).0 (length (tcp_in segment).1) ≡ Some x → slice_index segment 13 / 4 % 2 ≡ 0) →
+      (tcp_in segment).0 (length (tcp_in segment).1) ≡ Some x → (slice_index segment 13 / 4 % 2 ≡ 0) × IsResetFor segment x) →
       reply ≡ option_map (segment_back r) (reset_for b (tcp_in segment).0 (tcp_in segment).1) → Origin H frame reply
   reset_origin true taken flag e = Silent e
-  reset_origin false taken flag e = segment_origin _ e (λ x is. caused (flag x is) (inl (no_raw v next H.sockets.places taken)))
+  reset_origin false taken flag e = segment_origin _ e (λ x is. caused x (flag x is) (inl (no_raw v next H.sockets.places taken)))
 
   -- one that an aborted socket answers
   aborted_origin : {reply : Option Reply} (qs : List Storage) (i : ℕ) (place : Storage) → AreSameButRaw H.sockets.places qs →
       slice_get qs i ≡ Some place → ((x : TcpRepr) → tcp_socket.answer_of (tcp_in segment).0.control
-      (tcp_in segment).0 (length (tcp_in segment).1) ≡ Some x → slice_index segment 13 / 4 % 2 ≡ 0) →
+      (tcp_in segment).0 (length (tcp_in segment).1) ≡ Some x → (slice_index segment 13 / 4 % 2 ≡ 0) × IsResetFor segment x) →
       reply ≡ option_map (segment_back r) (socket_reply (tcp_in segment).0 (tcp_in segment).1 place) → Origin H frame reply
   aborted_origin qs i None same there flag e = Silent e
   aborted_origin qs i (Some (Raw s)) same there flag e = Silent e
@@ -175,13 +188,14 @@ module _ (H : Host) (frame segment : List ℕ) (v : IpVersion) (next : IpProtoco
         reply ≡ option_map (segment_back r) (cond b (tcp_socket.answer_of (tcp_in segment).0.control (tcp_in segment).0 (length
         (tcp_in segment).1)) None) →
         Origin H frame reply
-    by true a q = segment_origin _ q (λ x is. caused (flag x is) (inr (i, s, tcp_there H.sockets.places qs i s same there, a)))
+    by true a q = segment_origin _ q (λ x is. caused x (flag x is) (inr (i, s, tcp_there H.sockets.places qs i s same there, a)))
     by false a q = Silent q
 
 -- the flag, where the segment is well formed
 flag_of : {checked : Bool} {src dst : IpAddress} {segment : List ℕ} → IsTcp checked src dst segment → (x : TcpRepr) →
-    tcp_socket.answer_of (tcp_in segment).0.control (tcp_in segment).0 (length (tcp_in segment).1) ≡ Some x → slice_index segment 13 / 4 % 2 ≡ 0
-flag_of {segment = segment} i x is = no_reset_flag (slice_index segment 13) i.flags (answered _ _ _ x is)
+    tcp_socket.answer_of (tcp_in segment).0.control (tcp_in segment).0 (length (tcp_in segment).1) ≡ Some x →
+    (slice_index segment 13 / 4 % 2 ≡ 0) × IsResetFor segment x
+flag_of {segment = segment} i x is = (no_reset_flag (slice_index segment 13) i.flags (answered _ _ _ x is), answer_for i x is)
 
 unspecified_not : (a : IpAddress) → ip_address.is_unspecified a ≡ false → (ip_address.address_key a).1 ≢ 0
 unspecified_not (address.Ipv4 a) e = λ z. let bad : (a.bits == 0) ≡ true = (Decides-eqb a.bits 0).1 z in cc
@@ -190,17 +204,18 @@ unspecified_not (address.Ipv6 a) e = λ z. let bad : (a.bits == 0) ≡ true = (D
 tcp_origin : {b : Bool} {K new : Host} {reply : Option Reply} {notes : List Note} (H : Host) (frame segment : List ℕ) (v : IpVersion)
     (next : IpProtocol) (r : IpRepr) →
     BringsSegment H frame segment v next (ip_address.address_key (src_addr r)).1 (ip_address.address_key (dst_addr r)).1 →
-    list_any (raw.accepts v next) H.sockets.places ≡ b → AreSameButRaw H.sockets.places K.sockets.places →
+    ((t : TcpRepr) → GoesBack v (ip_address.address_key (src_addr r)).1 (ip_address.address_key (dst_addr r)).1
+    (packet.sent_back r (packet.Tcp t []))) → list_any (raw.accepts v next) H.sockets.places ≡ b → AreSameButRaw H.sockets.places K.sockets.places →
     ProcessesTcp b r K segment reply notes new → Origin H frame reply
-tcp_origin H frame segment v next r brings taken same (tcp.BetweenUnspecified u d) = silent d
-tcp_origin H frame segment v next r brings taken same (tcp.Malformed u m d) = silent d
-tcp_origin {K = K} H frame segment v next r brings taken same (tcp.Delivered index place u s f e n x) =
+tcp_origin H frame segment v next r brings back taken same (tcp.BetweenUnspecified u d) = silent d
+tcp_origin H frame segment v next r brings back taken same (tcp.Malformed u m d) = silent d
+tcp_origin {K = K} H frame segment v next r brings back taken same (tcp.Delivered index place u s f e n x) =
     let parts = both_false (ip_address.is_unspecified (src_addr r)) (ip_address.is_unspecified (dst_addr r)) u in
-    aborted_origin H frame segment v next r _ _ brings (unspecified_not (src_addr r) parts.0) (unspecified_not (dst_addr r) parts.1)
+    aborted_origin H frame segment v next r _ _ brings (unspecified_not (src_addr r) parts.0) (unspecified_not (dst_addr r) parts.1) back
     K.sockets.places index place same f.is_there (flag_of s) e
-tcp_origin {b} H frame segment v next r brings taken same (tcp.NotAccepted u s none e n x) =
+tcp_origin {b} H frame segment v next r brings back taken same (tcp.NotAccepted u s none e n x) =
     let parts = both_false (ip_address.is_unspecified (src_addr r)) (ip_address.is_unspecified (dst_addr r)) u in
-    reset_origin H frame segment v next r _ _ brings (unspecified_not (src_addr r) parts.0) (unspecified_not (dst_addr r) parts.1)
+    reset_origin H frame segment v next r _ _ brings (unspecified_not (src_addr r) parts.0) (unspecified_not (dst_addr r) parts.1) back
     b taken (flag_of s) e
 
 -- IPv4
@@ -241,22 +256,43 @@ module _ (H : Host) (frame packet : List ℕ) (carried : CarriesV4 H.hardware_ad
   refusal_origin false own reason same other taken e =
       error_origin own reason same other (no_raw version.Ipv4 r.next_header H.sockets.places taken) e
 
-  echo_origin : {reply : Option Reply} (m : Icmpv4Repr) (ident seq_no : ℕ) (octets : List ℕ) (o : Option Ipv4Address) →
-      reply ≡ option_map (message_back r (EchoReply ident seq_no) octets) o → Origin H frame reply
-  echo_origin m ident seq_no octets None e = Silent e
-  echo_origin m ident seq_no octets (Some a) e = ByEcho _ ident seq_no octets e refl
+  -- the destination of the packet
+  received_at : IsReceiver H frame (address.Ipv4 r.dst_addr)
+  received_at = OverIpv4 packet carried (ap address.Ipv4 (by brings)) where
+    by : {r : Ipv4Repr} {payload : List ℕ} → BringsV4 packet r payload → r.dst_addr ≡ (ipv4_in packet).0.dst_addr
+    by (law.Whole w e p) = ap (λ (x : Ipv4Repr). x.dst_addr) e
+    by (law.Reassembled f e) = ap (λ (x : Ipv4Repr). x.dst_addr) e
 
-  answer_origin : {reply : Option Reply} (own : List IpCidr) (m : Icmpv4Repr) (octets : List ℕ) → reply ≡ answer_to own r m octets →
-      Origin H frame reply
-  answer_origin own (EchoRequest ident seq_no) octets e =
-      echo_origin (EchoRequest ident seq_no) ident seq_no octets (reply_source own r (EchoReply ident seq_no)) e
-  answer_origin own (EchoReply ident seq_no) octets e = Silent e
-  answer_origin own (DstUnreachable reason header) octets e = Silent e
-  answer_origin own (TimeExceeded code header) octets e = Silent e
+  echo_origin : {reply : Option Reply} (own : List IpCidr) (ident seq_no : ℕ) (octets : List ℕ) → own ≡ H.ip_addrs →
+      reply ≡ icmpv4.icmpv4_reply own r (EchoReply ident seq_no) octets → Origin H frame reply
+  echo_origin {reply} own ident seq_no octets same e =
+      by (is_unicast_v4 own r.src_addr) (is_unicast_v4 own r.dst_addr) (is_broadcast_v4 own r.dst_addr) refl e where
+        by_first : (o : Option Ipv4Address) → ipv4_addr own ≡ o → reply ≡ option_map (message_back r (EchoReply ident seq_no) octets) o →
+            Origin H frame reply
+        by_first None f q = Silent q
+        by_first (Some a) f q =
+            ByEcho _ ident seq_no octets q refl (FromChosen (Given (subst (λ o. IsAssigned o (address.Ipv4 a)) same (first_assigned own a f))))
 
-  icmpv4_origin : {K new : Host} {reply : Option Reply} {notes : List Note} → ProcessesIcmpv4 r K payload reply notes new → Origin H frame reply
-  icmpv4_origin (icmpv4.Malformed m d) = silent d
-  icmpv4_origin {K = K} (icmpv4.Taken i e n s) = answer_origin K.ip_addrs (icmpv4_in payload).0 (icmpv4_in payload).1 e
+        by : (s d w : Bool) → is_unicast_v4 own r.dst_addr ≡ d → reply ≡ option_map (message_back r (EchoReply ident seq_no) octets)
+            (if s then if d then Some r.dst_addr else if w then (if true then ipv4_addr own else None) else None else None) →
+            Origin H frame reply
+        by true true w y q = ByEcho _ ident seq_no octets q refl
+            (FromReceiver received_at (subst (λ o. law.IsOneHostV4 o r.dst_addr.bits) same (one_host_v4 own r.dst_addr y)))
+        by true false true y q = by_first (ipv4_addr own) refl q
+        by true false false y q = Silent q
+        by false d w y q = Silent q
+
+  answer_origin : {reply : Option Reply} (own : List IpCidr) (m : Icmpv4Repr) (octets : List ℕ) → own ≡ H.ip_addrs →
+      reply ≡ answer_to own r m octets → Origin H frame reply
+  answer_origin own (EchoRequest ident seq_no) octets same e = echo_origin own ident seq_no octets same e
+  answer_origin own (EchoReply ident seq_no) octets same e = Silent e
+  answer_origin own (DstUnreachable reason header) octets same e = Silent e
+  answer_origin own (TimeExceeded code header) octets same e = Silent e
+
+  icmpv4_origin : {K new : Host} {reply : Option Reply} {notes : List Note} → K.ip_addrs ≡ H.ip_addrs →
+      ProcessesIcmpv4 r K payload reply notes new → Origin H frame reply
+  icmpv4_origin same (icmpv4.Malformed m d) = silent d
+  icmpv4_origin {K = K} same (icmpv4.Taken i e n s) = answer_origin K.ip_addrs (icmpv4_in payload).0 (icmpv4_in payload).1 same e
 
   igmp_origin : {K new : Host} {reply : Option Reply} {notes : List Note} → reports.ProcessesIgmp r K payload reply notes new → Origin H frame reply
   igmp_origin (reports.Malformed m d) = silent d
@@ -272,10 +308,10 @@ module _ (H : Host) (frame packet : List ℕ) (carried : CarriesV4 H.hardware_ad
   protocol_origin : (p : IpProtocol) (b : Bool) (K : Host) (reply : Option Reply) (notes : List Note) (new : Host) → r.next_header ≡ p →
       K.ip_addrs ≡ H.ip_addrs → list_any (raw.accepts version.Ipv4 r.next_header) H.sockets.places ≡ b →
       AreSameButRaw H.sockets.places K.sockets.places → ip.ProcessesProtocol p b r K payload reply notes new → Origin H frame reply
-  protocol_origin protocol.Icmp b K reply notes new is same taken raw t = icmpv4_origin t
+  protocol_origin protocol.Icmp b K reply notes new is same taken raw t = icmpv4_origin same t
   protocol_origin protocol.Udp b K reply notes new is same taken raw t = udp_origin same (λ e. absurd cc) taken t
   protocol_origin protocol.Tcp b K reply notes new is same taken raw t =
-      tcp_origin H frame payload version.Ipv4 r.next_header (repr.Ipv4 r) (law.OverIpv4 packet r carried brings is) taken raw t
+      tcp_origin H frame payload version.Ipv4 r.next_header (repr.Ipv4 r) (law.OverIpv4 packet r carried brings is) (λ t. (refl, refl)) taken raw t
   protocol_origin protocol.Igmp b K reply notes new is same taken raw t = igmp_origin t
   protocol_origin protocol.HopByHop b K reply notes new is same taken raw t =
       refusal_origin b K.ip_addrs _ same (λ e. absurd cc) taken t.replied
@@ -342,49 +378,63 @@ arp_origin {own} {H} {new} {reply} frame mine type (arp.Learnt a us learns e n) 
       })
       by operation.Reply is q own_address = Silent q
 
+-- a message from an address to another
+abbrev message_between : Ipv6Address → Ipv6Address → Icmpv6Repr → List ℕ → Packet
+message_between from to m octets = packet.Ipv6 (record { src_addr = from; dst_addr = to; hop_limit = 64; payload = packet.Icmpv6 m octets })
+
 -- IPv6
 module _ (H : Host) (frame packet : List ℕ) (carried : CarriesV6 H.hardware_addr frame packet) (one : IsOneHostV6 (ipv6_in packet).0.src_addr) where
   abbrev r : Ipv6Repr
   r = (ipv6_in packet).0
 
-  error_v6_origin : {reply : Option Reply} (own : List IpCidr) (m : Icmpv6Repr) (octets : List ℕ) → icmpv6_text.type_of m ≤ 4 →
-      HasReasonV6 H packet m octets → reply ≡ Some (icmpv6.message_back own r m octets) → Origin H frame reply
-  error_v6_origin own m octets few reason e = ByErrorV6 _ m octets e refl few (record {
+  -- where a message in reply comes from
+  from_v6 : (own : List IpCidr) (m : Icmpv6Repr) (octets : List ℕ) → own ≡ H.ip_addrs →
+      IsReplyFrom H frame (message_between (icmpv6.reply_source own r) r.src_addr m octets)
+  from_v6 own m octets same = by (ipv6_address.is_unicast r.dst_addr) refl where
+    by : (b : Bool) → ipv6_address.is_unicast r.dst_addr ≡ b →
+        IsReplyFrom H frame (message_between (if b then r.dst_addr else source_v6 own r.src_addr) r.src_addr m octets)
+    by true e = let host = one_host_v6 r.dst_addr e in FromReceiver (OverIpv6 packet carried refl) (host.not_nobody, host.no_group)
+    by false e =
+        FromChosen (subst (λ o. IsChosenFor o (address.Ipv6 r.src_addr) (address.Ipv6 (source_v6 own r.src_addr))) same (chosen_v6 own r.src_addr))
+
+  error_v6_origin : {reply : Option Reply} (own : List IpCidr) (m : Icmpv6Repr) (octets : List ℕ) → own ≡ H.ip_addrs →
+      icmpv6_text.type_of m ≤ 4 → HasReasonV6 H packet m octets → reply ≡ Some (icmpv6.message_back own r m octets) → Origin H frame reply
+  error_v6_origin own m octets same few reason e = ByErrorV6 _ m octets e refl few (record {
     packet = packet;
     carried = carried;
     not_nobody = one.not_nobody;
     no_group = one.no_group;
     to_sender = refl;
     reason = reason;
-  })
+  }) (from_v6 own m octets same)
 
   module _ (p : IpProtocol) (payload : List ℕ) (brings : BringsV6 packet p payload) where
     of_payload : {m : Icmpv6Repr} → p ≢ protocol.Icmpv6 → list_any (raw.accepts version.Ipv6 r.next_header) H.sockets.places ≡ false →
         HasReasonV6 H packet m (take 1192 payload)
     of_payload other taken = law.OfPayload p payload brings other (no_raw version.Ipv6 r.next_header H.sockets.places taken) refl
 
-    port_origin : {reply : Option Reply} (b : Bool) (own : List IpCidr) → p ≢ protocol.Icmpv6 →
+    port_origin : {reply : Option Reply} (b : Bool) (own : List IpCidr) → own ≡ H.ip_addrs → p ≢ protocol.Icmpv6 →
         list_any (raw.accepts version.Ipv6 r.next_header) H.sockets.places ≡ b →
         reply ≡ icmpv6.port_unreachable b own r payload → Origin H frame reply
-    port_origin true own other taken e = Silent e
-    port_origin false own other taken e =
-        error_v6_origin own (v6.DstUnreachable unreachable_v6.PortUnreachable r) (icmpv6.quotation_of payload) (omega arith)
+    port_origin true own same other taken e = Silent e
+    port_origin false own same other taken e =
+        error_v6_origin own (v6.DstUnreachable unreachable_v6.PortUnreachable r) (icmpv6.quotation_of payload) same (omega arith)
         (of_payload other taken) e
 
-    unrecognized_origin : {reply : Option Reply} (b : Bool) (own : List IpCidr) → p ≢ protocol.Icmpv6 →
+    unrecognized_origin : {reply : Option Reply} (b : Bool) (own : List IpCidr) → own ≡ H.ip_addrs → p ≢ protocol.Icmpv6 →
         list_any (raw.accepts version.Ipv6 r.next_header) H.sockets.places ≡ b →
         reply ≡ unrecognized_next_header b own r payload → Origin H frame reply
-    unrecognized_origin true own other taken e = Silent e
-    unrecognized_origin false own other taken e =
-        error_v6_origin own (v6.ParamProblem problem_v6.UnrecognizedNxtHdr 40 r) (icmpv6.quotation_of payload) (omega arith)
+    unrecognized_origin true own same other taken e = Silent e
+    unrecognized_origin false own same other taken e =
+        error_v6_origin own (v6.ParamProblem problem_v6.UnrecognizedNxtHdr 40 r) (icmpv6.quotation_of payload) same (omega arith)
         (of_payload other taken) e
 
-    udp_v6_origin : {b : Bool} {K new : Host} {reply : Option Reply} {notes : List Note} → p ≢ protocol.Icmpv6 →
+    udp_v6_origin : {b : Bool} {K new : Host} {reply : Option Reply} {notes : List Note} → K.ip_addrs ≡ H.ip_addrs → p ≢ protocol.Icmpv6 →
         list_any (raw.accepts version.Ipv6 r.next_header) H.sockets.places ≡ b →
         ProcessesUdp b (repr.Ipv6 r) K payload reply notes new → Origin H frame reply
-    udp_v6_origin other taken (udp.Malformed m d) = silent d
-    udp_v6_origin other taken (udp.Delivered places u f e n s) = Silent e
-    udp_v6_origin {b} {K} other taken (udp.NotAccepted u none e n s) = port_origin b K.ip_addrs other taken e
+    udp_v6_origin same other taken (udp.Malformed m d) = silent d
+    udp_v6_origin same other taken (udp.Delivered places u f e n s) = Silent e
+    udp_v6_origin {b} {K} same other taken (udp.NotAccepted u none e n s) = port_origin b K.ip_addrs same other taken e
 
   -- what messages of neighbour discovery bring
   advertised_origin : (K : Host) {reply : Option Reply} (own : EthernetAddress) (target : Ipv6Address) → H.hardware_addr ≡ hardware.Ethernet own →
@@ -424,42 +474,44 @@ module _ (H : Host) (frame packet : List ℕ) (carried : CarriesV6 H.hardware_ad
       ((Decides-eqb r.hop_limit 255).0 near) owned h
 
   message_origin : (m : Icmpv6Repr) (octets : List ℕ) (K : Host) (reply : Option Reply) (notes : List Note) (new : Host) →
-      K.hardware_addr ≡ H.hardware_addr → ((a : IpAddress) → has_ip_addr K a ≡ true → IsOwn H a) →
+      K.hardware_addr ≡ H.hardware_addr → K.ip_addrs ≡ H.ip_addrs → ((a : IpAddress) → has_ip_addr K a ≡ true → IsOwn H a) →
       ProcessesMessage r m octets K reply notes new → Origin H frame reply
-  message_origin (v6.EchoRequest ident seq_no) octets K reply notes new same owned t = ByEchoV6 _ ident seq_no octets t.0 refl
-  message_origin (v6.Ndisc message) octets K reply notes new same owned t = ndisc_origin {K = K} same owned t
-  message_origin (v6.Router message) octets K reply notes new same owned t = Silent t.0
-  message_origin (v6.Mld (Query code group)) octets K reply notes new same owned t = Silent t.0
-  message_origin (v6.Mld (Report count)) octets K reply notes new same owned t = silent t
-  message_origin (v6.EchoReply ident seq_no) octets K reply notes new same owned t = silent t
-  message_origin (v6.DstUnreachable reason header) octets K reply notes new same owned t = silent t
-  message_origin (v6.PktTooBig mtu header) octets K reply notes new same owned t = silent t
-  message_origin (v6.TimeExceeded code header) octets K reply notes new same owned t = silent t
-  message_origin (v6.ParamProblem reason pointer header) octets K reply notes new same owned t = silent t
+  message_origin (v6.EchoRequest ident seq_no) octets K reply notes new same addrs owned t =
+      ByEchoV6 _ ident seq_no octets t.0 refl (from_v6 K.ip_addrs (v6.EchoReply ident seq_no) octets addrs)
+  message_origin (v6.Ndisc message) octets K reply notes new same addrs owned t = ndisc_origin {K = K} same owned t
+  message_origin (v6.Router message) octets K reply notes new same addrs owned t = Silent t.0
+  message_origin (v6.Mld (Query code group)) octets K reply notes new same addrs owned t = Silent t.0
+  message_origin (v6.Mld (Report count)) octets K reply notes new same addrs owned t = silent t
+  message_origin (v6.EchoReply ident seq_no) octets K reply notes new same addrs owned t = silent t
+  message_origin (v6.DstUnreachable reason header) octets K reply notes new same addrs owned t = silent t
+  message_origin (v6.PktTooBig mtu header) octets K reply notes new same addrs owned t = silent t
+  message_origin (v6.TimeExceeded code header) octets K reply notes new same addrs owned t = silent t
+  message_origin (v6.ParamProblem reason pointer header) octets K reply notes new same addrs owned t = silent t
 
   icmpv6_origin : {payload : List ℕ} {K new : Host} {reply : Option Reply} {notes : List Note} → K.hardware_addr ≡ H.hardware_addr →
-      ((a : IpAddress) → has_ip_addr K a ≡ true → IsOwn H a) → ProcessesIcmpv6 r K payload reply notes new → Origin H frame reply
-  icmpv6_origin same owned (icmpv6.Malformed m d) = silent d
-  icmpv6_origin {payload} {K} {new} {reply} {notes} same owned (icmpv6.Taken i t) =
-      message_origin (icmpv6_in payload).0 (icmpv6_in payload).1 (icmpv6.host_after_delivery r payload K) reply notes new same owned t
+      K.ip_addrs ≡ H.ip_addrs → ((a : IpAddress) → has_ip_addr K a ≡ true → IsOwn H a) → ProcessesIcmpv6 r K payload reply notes new → Origin H frame reply
+  icmpv6_origin same addrs owned (icmpv6.Malformed m d) = silent d
+  icmpv6_origin {payload} {K} {new} {reply} {notes} same addrs owned (icmpv6.Taken i t) =
+      message_origin (icmpv6_in payload).0 (icmpv6_in payload).1 (icmpv6.host_after_delivery r payload K) reply notes new same addrs owned t
 
   protocol_v6_origin : (p : IpProtocol) (payload : List ℕ) (b : Bool) (K : Host) (reply : Option Reply) (notes : List Note) (new : Host) →
-      BringsV6 packet p payload → K.hardware_addr ≡ H.hardware_addr → ((a : IpAddress) → has_ip_addr K a ≡ true → IsOwn H a) →
+      BringsV6 packet p payload → K.hardware_addr ≡ H.hardware_addr → K.ip_addrs ≡ H.ip_addrs →
+      ((a : IpAddress) → has_ip_addr K a ≡ true → IsOwn H a) →
       list_any (raw.accepts version.Ipv6 r.next_header) H.sockets.places ≡ b → AreSameButRaw H.sockets.places K.sockets.places →
       ipv6.ProcessesProtocol p b r K payload reply notes new → Origin H frame reply
-  protocol_v6_origin protocol.Icmpv6 payload b K reply notes new brings same owned taken raw t = icmpv6_origin {K = K} same owned t
-  protocol_v6_origin protocol.Udp payload b K reply notes new brings same owned taken raw t =
-      udp_v6_origin protocol.Udp payload brings (λ e. absurd cc) taken t
-  protocol_v6_origin protocol.Tcp payload b K reply notes new brings same owned taken raw t =
-      tcp_origin H frame payload version.Ipv6 r.next_header (repr.Ipv6 r) (law.OverIpv6 packet carried brings) taken raw t
-  protocol_v6_origin protocol.Icmp payload b K reply notes new brings same owned taken raw t =
-      unrecognized_origin protocol.Icmp payload brings b K.ip_addrs (λ e. absurd cc) taken t.replied
-  protocol_v6_origin protocol.Igmp payload b K reply notes new brings same owned taken raw t =
-      unrecognized_origin protocol.Igmp payload brings b K.ip_addrs (λ e. absurd cc) taken t.replied
-  protocol_v6_origin protocol.HopByHop payload b K reply notes new brings same owned taken raw t =
-      unrecognized_origin protocol.HopByHop payload brings b K.ip_addrs (λ e. absurd cc) taken t.replied
-  protocol_v6_origin (protocol.Unknown n) payload b K reply notes new brings same owned taken raw t =
-      unrecognized_origin (protocol.Unknown n) payload brings b K.ip_addrs (λ e. absurd cc) taken t.replied
+  protocol_v6_origin protocol.Icmpv6 payload b K reply notes new brings same addrs owned taken raw t = icmpv6_origin {K = K} same addrs owned t
+  protocol_v6_origin protocol.Udp payload b K reply notes new brings same addrs owned taken raw t =
+      udp_v6_origin protocol.Udp payload brings addrs (λ e. absurd cc) taken t
+  protocol_v6_origin protocol.Tcp payload b K reply notes new brings same addrs owned taken raw t =
+      tcp_origin H frame payload version.Ipv6 r.next_header (repr.Ipv6 r) (law.OverIpv6 packet carried brings) (λ t. (refl, refl)) taken raw t
+  protocol_v6_origin protocol.Icmp payload b K reply notes new brings same addrs owned taken raw t =
+      unrecognized_origin protocol.Icmp payload brings b K.ip_addrs addrs (λ e. absurd cc) taken t.replied
+  protocol_v6_origin protocol.Igmp payload b K reply notes new brings same addrs owned taken raw t =
+      unrecognized_origin protocol.Igmp payload brings b K.ip_addrs addrs (λ e. absurd cc) taken t.replied
+  protocol_v6_origin protocol.HopByHop payload b K reply notes new brings same addrs owned taken raw t =
+      unrecognized_origin protocol.HopByHop payload brings b K.ip_addrs addrs (λ e. absurd cc) taken t.replied
+  protocol_v6_origin (protocol.Unknown n) payload b K reply notes new brings same addrs owned taken raw t =
+      unrecognized_origin (protocol.Unknown n) payload brings b K.ip_addrs addrs (λ e. absurd cc) taken t.replied
 
   datagram_v6_origin : {source : HardwareAddress} {new : Host} {reply : Option Reply} {notes : List Note} (p : IpProtocol) (payload : List ℕ) →
       BringsV6 packet p payload → ProcessesDatagramV6 source r p H payload reply notes new → Origin H frame reply
@@ -472,29 +524,29 @@ module _ (H : Host) (frame packet : List ℕ) (carried : CarriesV6 H.hardware_ad
       let there = subst (λ qs. AreSameButRaw H.sockets.places qs) (sym (ap (λ (K : Host). K.sockets.places) i.is)) delivered in
       let owned : (a : IpAddress) → has_ip_addr K a ≡ true → IsOwn H a = λ a e. own_of H a (sym (ap (λ (K : Host). has_ip_addr K a) i.is) ∙ e) in
       protocol_v6_origin p payload (raw.is_taken (repr.Ipv6 r) H) K reply notes new brings (ap (λ
-      (K : Host). K.hardware_addr) i.is) owned refl there t
+      (K : Host). K.hardware_addr) i.is) (ap (λ (K : Host). K.ip_addrs) i.is) owned refl there t
 
-  complaint_origin : {reply : Option Reply} (failure : Ipv6OptionFailureType) (own : List IpCidr) →
+  complaint_origin : {reply : Option Reply} (failure : Ipv6OptionFailureType) (own : List IpCidr) → own ≡ H.ip_addrs →
       first_failure (hop_by_hop_in (ipv6_in packet).1).0.options.items ≢ Skip →
       reply ≡ unknown_option failure own r (ipv6_in packet).1 → Origin H frame reply
-  complaint_origin Skip own other e = Silent e
-  complaint_origin Discard own other e = Silent e
-  complaint_origin DiscardSendAll own other e =
-      error_v6_origin own (v6.ParamProblem problem_v6.UnrecognizedOption 40 r) (icmpv6.quotation_of (ipv6_in packet).1) (omega arith)
+  complaint_origin Skip own same other e = Silent e
+  complaint_origin Discard own same other e = Silent e
+  complaint_origin DiscardSendAll own same other e =
+      error_v6_origin own (v6.ParamProblem problem_v6.UnrecognizedOption 40 r) (icmpv6.quotation_of (ipv6_in packet).1) same (omega arith)
       (law.OfOption other refl) e
-  complaint_origin {reply} DiscardSendUnicast own other e = by (ipv6_address.is_multicast r.dst_addr) e where
+  complaint_origin {reply} DiscardSendUnicast own same other e = by (ipv6_address.is_multicast r.dst_addr) e where
     by : (b : Bool) → reply ≡ (if b then None else Some (icmpv6.problem own problem_v6.UnrecognizedOption r (ipv6_in packet).1)) →
         Origin H frame reply
     by true q = Silent q
     by false q =
-        error_v6_origin own (v6.ParamProblem problem_v6.UnrecognizedOption 40 r) (icmpv6.quotation_of (ipv6_in packet).1) (omega arith)
+        error_v6_origin own (v6.ParamProblem problem_v6.UnrecognizedOption 40 r) (icmpv6.quotation_of (ipv6_in packet).1) same (omega arith)
         (law.OfOption other refl) q
 
   options_origin : {source : HardwareAddress} {new : Host} {reply : Option Reply} {notes : List Note} →
       ProcessesHopByHop source r H (ipv6_in packet).1 reply notes new → Origin H frame reply
   options_origin (ipv6.MalformedOptions m d) = silent d
   options_origin (ipv6.Skipped o s t) = datagram_v6_origin _ _ (law.AfterOptions refl refl) t
-  options_origin (ipv6.Discarded failure o f other e n same) = complaint_origin failure H.ip_addrs (λ s. other (sym f ∙ s)) e
+  options_origin (ipv6.Discarded failure o f other e n same) = complaint_origin failure H.ip_addrs refl (λ s. other (sym f ∙ s)) e
 
 module _ {source : HardwareAddress} {H new : Host} {reply : Option Reply} {notes : List Note} (frame packet : List ℕ)
     (carried : CarriesV6 H.hardware_addr frame packet) where

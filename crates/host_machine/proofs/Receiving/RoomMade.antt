@@ -31,15 +31,13 @@ one_or_other v w = by (address_cmp v w) refl where
   by Equal e = inl (address_same v w e)
   by Greater e = inr (apart Greater refl e)
 
-cache : FinMap address_cmp Neighbor → ℤ → Neighbors
-cache known silent_until = record { known = known; silent_until = silent_until }
-
 -- the host after a neighbour was learnt, by the entries that it has then
 learnt_by : (H : Host) {x : Host} {a : IpAddress} {n : Neighbor} {one : Neighbors} (known : FinMap address_cmp Neighbor) →
     Fills H.neighbors one a n → one.known ≡ known → x ≡ with_neighbors H one →
     x ≡ with_neighbors H (record H.neighbors { known = known })
-learnt_by H {x} {a} {n} {one} known f e is = is ∙ ap (λ k. with_neighbors H (record { known = k; silent_until = one.silent_until })) e
-    ∙ ap (λ s. with_neighbors H (record { known = known; silent_until = s })) f.silence
+learnt_by H {x} {a} {n} {one} known f e is = is ∙ ap (λ k. with_neighbors H (record one { known = k })) e
+    ∙ ap (λ r. with_neighbors H (record { room = r; known = known; silent_until = one.silent_until })) f.room
+    ∙ ap (λ s. with_neighbors H (record { room = H.neighbors.room; known = known; silent_until = s })) f.silence
 
 pub filled_once : (H : Host) {x x' : Host} {a : IpAddress} {n : Neighbor} {one two : Neighbors} →
     Fills H.neighbors one a n → Fills H.neighbors two a n → x ≡ with_neighbors H one → x' ≡ with_neighbors H two →
@@ -48,7 +46,7 @@ filled_once H {x} {x'} {a} {n} {one} {two} f g is is' = by (map.get H.neighbors.
   same : (known : FinMap address_cmp Neighbor) → one.known ≡ known → two.known ≡ known → (x ≡ x') ⊎ OtherMadeRoom x x'
   same known e e' = inl (learnt_by H known f e is ∙ sym (learnt_by H known g e' is'))
 
-  full : map.get H.neighbors.known a ≡ None → 4 ≤ map.len H.neighbors.known → (x ≡ x') ⊎ OtherMadeRoom x x'
+  full : map.get H.neighbors.known a ≡ None → H.neighbors.room ≤ map.len H.neighbors.known → (x ≡ x') ⊎ OtherMadeRoom x x'
   full none many = made (f.puts.full none many) (g.puts.full none many) where
     made : ((v : IpAddress) × IsLeastEnd H.neighbors.known v × (one.known ≡ map.insert (map.remove H.neighbors.known v) a n)) →
         ((w : IpAddress) × IsLeastEnd H.neighbors.known w × (two.known ≡ map.insert (map.remove H.neighbors.known w) a n)) →
@@ -73,10 +71,10 @@ filled_once H {x} {x'} {a} {n} {one} {two} f g is is' = by (map.get H.neighbors.
     ]
 
   room : (k : ℕ) → map.len H.neighbors.known ≡ k → map.get H.neighbors.known a ≡ None → (x ≡ x') ⊎ OtherMadeRoom x x'
-  room k len none = elim (nat_lt k 4) as (λ b. nat_lt k 4 ≡ b → (x ≡ x') ⊎ OtherMadeRoom x x') [
-    | true ↦ λ t. let few : map.len H.neighbors.known < 4 = grind (arith, nat_tests) in
+  room k len none = elim (nat_lt k H.neighbors.room) as (λ b. nat_lt k H.neighbors.room ≡ b → (x ≡ x') ⊎ OtherMadeRoom x x') [
+    | true ↦ λ t. let few : map.len H.neighbors.known < H.neighbors.room = grind (arith, nat_tests) in
         same (map.insert H.neighbors.known a n) (f.puts.room few) (g.puts.room few)
-    | false ↦ λ t. let many : 4 ≤ map.len H.neighbors.known = grind (arith, nat_tests) in full none many
+    | false ↦ λ t. let many : H.neighbors.room ≤ map.len H.neighbors.known = grind (arith, nat_tests) in full none many
   ] refl
 
   by : (o : Option Neighbor) → map.get H.neighbors.known a ≡ o → (x ≡ x') ⊎ OtherMadeRoom x x'

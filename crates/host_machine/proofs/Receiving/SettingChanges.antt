@@ -39,6 +39,7 @@ use Rattle.group_wire.specs.declared.igmp.IgmpRepr.TheVariants.{MembershipQuery,
 use Rattle.group_wire.specs.declared.igmp.IgmpVersion.TheVariants.{Version1, Version2}
 use Rattle.group_wire.specs.declared.mld.MldRepr.TheVariants.{Query, Report}
 use Rattle.group_table.specs.Groups.{ipv4_groups}
+use Rattle.group_table.specs.declared.groups.Group.{Group}
 use Rattle.group_table.specs.declared.report.IgmpReportState.{IgmpReportState}
 use Rattle.group_table.specs.declared.report.IgmpReportState.TheVariants as igmp
 use Rattle.group_table.specs.declared.report.MldReportState.{MldReportState}
@@ -93,7 +94,10 @@ pub record Lists : Type 0 where
   pub moment : ℤ
   pub ip_addrs : List IpCidr
   pub routes : List Route
+  pub any_ip : Bool
+  pub reassembly_timeout : ℕ
   pub slaac_enabled : Bool
+  pub groups : List Group
 
 abbrev pub lists_of : Host → Lists
 lists_of H = record {
@@ -102,7 +106,10 @@ lists_of H = record {
   moment = H.moment;
   ip_addrs = H.ip_addrs;
   routes = H.routes;
+  any_ip = H.any_ip;
+  reassembly_timeout = H.reassembly_timeout;
   slaac_enabled = H.slaac_enabled;
+  groups = H.groups;
 }
 
 -- the answers
@@ -590,6 +597,12 @@ frames_keep t frame old new told notes w =
     record {
       addresses = ap (λ (s : Settings). s.ip_addrs) r ∙ ap (λ (x : Lists). x.ip_addrs) l.lists;
       routes = ap (λ (s : Settings). s.routes) r ∙ ap (λ (x : Lists). x.routes) l.lists;
+      any_ip = ap (λ (s : Settings). s.any_ip) r ∙ ap (λ (x : Lists). x.any_ip) l.lists;
+      hardware_address = ap (λ (s : Settings). s.hardware_addr) r ∙ ap (λ (x : Lists). x.hardware_addr) l.lists;
+      reassembly_timeout = ap (λ (s : Settings). s.reassembly_timeout) r ∙ ap (λ (x : Lists). x.reassembly_timeout) l.lists;
+      slaac_enabled = ap (λ (s : Settings). s.slaac_enabled) r ∙ ap (λ (x : Lists). x.slaac_enabled) l.lists;
+      groups = response_leaves (λ (K : Host). K.groups) (λ H. refl) (λ H. refl) (λ H rest. refl) c.reply c.taken w.call.frames c.notes_responding new c.responds
+          ∙ ap (λ (x : Lists). x.groups) l.lists;
       learnt = by l.learnt (ap (λ (s : Settings). s.prefixes) r) (ap (λ (s : Settings). s.routers) r);
     } where
       by : ((w.call.response.taken.slaac ≡ old.slaac) ⊎ (MayLearn (without_expired old t) × HasAdvertisement (without_expired old t) frame)) →

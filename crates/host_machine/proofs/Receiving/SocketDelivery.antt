@@ -256,7 +256,7 @@ raw_packets_queued t old new told = (raw_v4_queued t old new told, raw_v6_queued
 -- TCP sockets
 
 -- a place where raw sockets heard a packet takes the same segments
-raw_apart : (r q : IpRepr) (segment : TcpRepr) (summed : Bool) (payload : List ℕ) (p : Storage) →
+pub raw_apart : (r q : IpRepr) (segment : TcpRepr) (summed : Bool) (payload : List ℕ) (p : Storage) →
     accepts r segment (to_this (raw.takes q) (raw.storage_after_delivery summed q payload) p) ≡ accepts r segment p
 raw_apart r q segment summed payload None = refl
 raw_apart r q segment summed payload (Some (Raw s)) = by (raw.takes q (Some (Raw s))) where

@@ -17,6 +17,7 @@ use Rattle.host_machine.specs.Polling.Run.{Transition, Run, Ends, Then}
 use Rattle.host_machine.specs.Laws.Calls.{IsCallOf, IsEgress, IsIngress, IsMadeOfCalls, KeepsCallLaws}
 use Rattle.host_machine.specs.Laws.Restraint.Readings.{Receives}
 use Rattle.host_machine.specs.Laws.Calls.{IsRestrained}
+use Rattle.host_machine.proofs.Receiving.ClosedTcpPorts.{ports_reset}
 use Rattle.host_machine.proofs.Receiving.DatagramDelivery.{datagrams_queued, ports_told}
 use Rattle.host_machine.proofs.Receiving.DatagramDeliveryV6.{datagrams_v6_queued, ports_v6_told}
 use Rattle.host_machine.proofs.Receiving.EchoReplies.{replies_queued, replies_v6_queued}
@@ -25,6 +26,7 @@ use Rattle.host_machine.proofs.Receiving.ForeignFrames.{unheard, unheard_v6}
 use Rattle.host_machine.proofs.Receiving.FrameReplies.{arp_served, arp_teaches, pings_served}
 use Rattle.host_machine.proofs.Receiving.FrameRepliesV6.{advertisers_learnt, pings_v6_served, solicitations_served}
 use Rattle.host_machine.proofs.Receiving.LearntNeighbors.{neighbors_came}
+use Rattle.host_machine.proofs.Receiving.ManyDelivery.{many_queued}
 use Rattle.host_machine.proofs.Receiving.RebuiltDelivery.{rebuilt_queued}
 use Rattle.host_machine.proofs.Receiving.RebuiltPings.{rebuilt_pings_served}
 use Rattle.host_machine.proofs.Receiving.ReplyLaws.{advert_told, arp_told, errors_caused, errors_v6_caused, resets_caused}
@@ -32,11 +34,14 @@ use Rattle.host_machine.proofs.Receiving.SettingChanges.{frames_keep, reports_as
 use Rattle.host_machine.proofs.Receiving.SocketDelivery.{raw_packets_queued, segments_queued}
 use Rattle.host_machine.proofs.Receiving.WrongRebuilt.{rebuilt_dropped}
 use Rattle.host_machine.proofs.Receiving.WrongSums.{headers_dropped, payloads_dropped, payloads_v6_dropped}
+use Rattle.host_machine.proofs.Runs.DueReports.{due_reports_go}
+use Rattle.host_machine.proofs.Runs.OwnSources.{sources_own}
 use Rattle.host_machine.proofs.Runs.FramesOfCalls.{ingress_frames, sends_in_order}
 use Rattle.host_machine.proofs.Runs.RequestsWhileWaiting.{requests_go}
 use Rattle.host_machine.proofs.Sending.DueWork.{due_done, pieces_go}
 use Rattle.host_machine.proofs.Sending.FirstPackets.{first_echoes_go, first_packets_go}
 use Rattle.host_machine.proofs.Sending.GrantedEgress.{firsts_go}
+use Rattle.host_machine.proofs.Sending.ManyPackets.{many_go}
 use Rattle.host_machine.proofs.Sending.OtherSteps.{keep_settings, learn_nobody}
 use Rattle.host_machine.proofs.Sending.SettledFields.{sending_settled}
 use Rattle.host_machine.proofs.Polling.OneFrameCalls.{single}
@@ -61,6 +66,7 @@ restrained t frame old new told notes w = record {
   errors = errors_caused t frame old new told notes w;
   errors_v6 = errors_v6_caused t frame old new told notes w;
   resets = resets_caused t frame old new told notes w;
+  sources = sources_own.replied t frame old new told notes w;
   igmp_answers = (reports_asked t frame old new told notes w).0;
   mld_answers = (reports_asked t frame old new told notes w).1;
 }
@@ -90,6 +96,10 @@ received t answer p i = record {
     raw_packets_v6 = (raw_packets_queued t p.before p.after p.told).1;
     segments = (segments_queued t p.before p.after p.told).0;
     segments_v6 = (segments_queued t p.before p.after p.told).1;
+    closed_tcp_ports = (ports_reset t p.before p.after p.told).0;
+    closed_tcp_ports_v6 = (ports_reset t p.before p.after p.told).1;
+    datagrams_to_many = (many_queued t p.before p.after p.told).0;
+    datagrams_to_many_v6 = (many_queued t p.before p.after p.told).1;
   };
   restrained = λ frame w. restrained t frame p.before p.after p.told p.notes w;
 }
@@ -99,10 +109,14 @@ sent t answer p e = let s = sends_in_order t answer p.before p.after p.told p.no
   answer = answer;
   call = e;
   frames = s.frames;
+  sources = sources_own.sent t answer p.before p.after p.told p.notes e;
   igmp_answer = s.igmp_answer;
   mld_answer = s.mld_answer;
   groups = s.groups;
   first_datagrams = firsts_go t answer p.before p.after p.told p.notes e;
+  to_many = many_go t answer p.before p.after p.told p.notes e;
+  due_report = (due_reports_go t answer p.before p.after p.told p.notes e).0;
+  due_report_v6 = (due_reports_go t answer p.before p.after p.told p.notes e).1;
   first_packets = first_packets_go t answer p.before p.after p.told p.notes e;
   first_echoes = first_echoes_go t answer p.before p.after p.told p.notes e;
   pieces = pieces_go t answer p.before p.after p.told p.notes e;

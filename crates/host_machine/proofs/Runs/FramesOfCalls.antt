@@ -87,13 +87,13 @@ module _ {X : Type 0} (read : Host → X) (same_id : (H : Host) → read (with_n
       Dispatches p outcome H frames notes new → read new ≡ read H
   sent_leaves d = dispatch_leaves read same_id same_silence same_left d
 
-  piece_leaves : {H new : Host} {told : List Event} {notes : List Note} → Ipv4Egress H told notes new → read new ≡ read H
+  pub piece_leaves : {H new : Host} {told : List Event} {notes : List Note} → Ipv4Egress H told notes new → read new ≡ read H
   piece_leaves (egress.NoPiece l t n e) = ap read e
   piece_leaves (egress.NotGranted piece rest l t n e) = ap read e
   piece_leaves {H = H} (egress.PieceGoes piece rest l t n e) = ap read e ∙ same_left H rest
 
   module _ (same_slaac : (H : Host) (s : SlaacState) → read (with_slaac H s) ≡ read H) where
-    routers_leave : {H new : Host} {told : List Event} {notes : List Note} → NdiscRsEgress H told notes new → read new ≡ read H
+    pub routers_leave : {H new : Host} {told : List Event} {notes : List Note} → NdiscRsEgress H told notes new → read new ≡ read H
     routers_leave (slaac.NotDue d t n e) = ap read e
     routers_leave (slaac.NotGranted p d t n e) = ap read e
     routers_leave (slaac.Goes p outcome frames mid h d t e) = ap read e ∙ same_slaac mid _ ∙ sent_leaves d
@@ -107,13 +107,13 @@ module _ {X : Type 0} (read : Host → X) (same_id : (H : Host) → read (with_n
     each_leaves (multicast.Refused a p w f q) = each_leaves w
     each_leaves (multicast.Reported a p outcome frames more new w f q d) = same_groups new _ ∙ sent_leaves d ∙ each_leaves w
 
-    reports_leave : {old new : Host} {told : List Event} {notes : List Note} →
+    pub reports_leave : {old new : Host} {told : List Event} {notes : List Note} →
         ReportsAll state packet_for after_report old told notes new → read new ≡ read old
     reports_leave (multicast.All w n) = each_leaves w
     reports_leave (multicast.UpToRefusal w) = each_leaves w
 
   module _ (same_igmp : (H : Host) (r : IgmpReportState) → read (with_igmp_report H r) ≡ read H) where
-    igmp_leaves : {H new : Host} {told : List Event} {notes : List Note} → IgmpEgress H told notes new → read new ≡ read H
+    pub igmp_leaves : {H new : Host} {told : List Event} {notes : List Note} → IgmpEgress H told notes new → read new ≡ read H
     igmp_leaves (reports.NotDue h t n e) = ap read e
     igmp_leaves {H = H} (reports.NoFurtherGroup h g t n e) = ap read e ∙ same_igmp H _
     igmp_leaves (reports.NoAddress next h g a t n e) = ap read e
@@ -121,7 +121,7 @@ module _ {X : Type 0} (read : Host → X) (same_id : (H : Host) → read (with_n
     igmp_leaves (reports.Sent p outcome frames mid h r d t e) = ap read e ∙ same_igmp mid _ ∙ sent_leaves d
 
   module _ (same_mld : (H : Host) (r : MldReportState) → read (with_mld_report H r) ≡ read H) where
-    mld_leaves : {H new : Host} {told : List Event} {notes : List Note} → MldEgress H told notes new → read new ≡ read H
+    pub mld_leaves : {H new : Host} {told : List Event} {notes : List Note} → MldEgress H told notes new → read new ≡ read H
     mld_leaves (reports.NotYet h t n e) = ap read e
     mld_leaves {H = H} (reports.GivenUp h t n e) = ap read e ∙ same_mld H _
     mld_leaves (reports.ReportGoes outcome frames mid h d t e) = ap read e ∙ same_mld mid _ ∙ sent_leaves d
@@ -145,7 +145,7 @@ module _ {X : Type 0} (read : Host → X) (same_id : (H : Host) → read (with_n
     walk_leaves (egress.Goes turn told notes _ w s t) = served_leaves s ∙ walk_leaves w
     walk_leaves (egress.Stops turn told notes _ w s t) = served_leaves s ∙ walk_leaves w
 
-    sockets_leave : {old new : Host} {changed : Bool} {told : List Event} {notes : List Note} →
+    pub sockets_leave : {old new : Host} {changed : Bool} {told : List Event} {notes : List Note} →
         SocketEgress old changed told notes new → read new ≡ read old
     sockets_leave (egress.Whole w) = walk_leaves w
     sockets_leave (egress.Stopped n w) = walk_leaves w
@@ -582,10 +582,10 @@ arp_own : {H : Host} {frame : List ℕ} {reply : Option Reply} {r : ArpRepr} →
 arp_own (Silent e) is = absurd cc
 arp_own (ByArp own s on e a) is = (own, on)
 arp_own (ByAdvertisement own q message on e p a) is = absurd cc
-arp_own (ByEcho q ident seq_no octets e p) is = absurd cc
+arp_own (ByEcho q ident seq_no octets e p s) is = absurd cc
 arp_own (ByError q message octets e p c) is = absurd cc
-arp_own (ByEchoV6 q ident seq_no octets e p) is = absurd cc
-arp_own (ByErrorV6 q message octets e p few c) is = absurd cc
+arp_own (ByEchoV6 q ident seq_no octets e p s) is = absurd cc
+arp_own (ByErrorV6 q message octets e p few c s) is = absurd cc
 arp_own (BySegment q header e p c) is = absurd cc
 
 arp_sent : {t : ℤ} {answer : PollIngressSingleResult} {old new : Host} {told : List Event} {notes : List Note}

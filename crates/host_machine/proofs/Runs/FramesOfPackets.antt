@@ -2,7 +2,7 @@
 use Rattle.std.proofs.Common.{◌≡◌, ◌⊎◌, ℕ, ◌+◌, ◌%◌, ◌^◌, Bool, true, false, List, [], ◌∷◌, ◌++◌, refl, sym, ◌∙◌, ap, subst, inl, inr}
 use Rattle.std.proofs.Common.{Option, Some, None, arith}
 use Rattle.std.proofs.lemmas.Int.{ints}
-use Rattle.std.specs.Prelude.{ℤ, ◌≤ℤ◌, slice_get, if◌then◌else◌}
+use Rattle.std.specs.Prelude.{ℤ, ◌≤ℤ◌, ◌<ℤ◌, slice_get, if◌then◌else◌}
 use Rattle.std.specs.FinMap.{FinMap}
 use Rattle.std.specs.FinMap as map
 use Rattle.std.specs.List.{AllByRecursion}
@@ -14,6 +14,7 @@ use Rattle.ip_address.specs.declared.ethernet_address.EthernetAddress.{EthernetA
 use Rattle.ip_address.specs.declared.hardware.HardwareAddress.{HardwareAddress}
 use Rattle.ip_address.specs.declared.hardware.HardwareAddress.TheVariants as hardware
 use Rattle.ip_address.specs.declared.ip.IpAddress.{IpAddress}
+use Rattle.ip_address.specs.declared.ip.IpAddress.TheVariants as address
 use Rattle.ip_address.specs.declared.ipv6.Ipv6Address.{Ipv6Address}
 use Rattle.ip_wire.specs.declared.ethernet.EthernetProtocol.TheVariants as protocol
 use Rattle.icmpv6_wire.specs.declared.icmpv6.Icmpv6Repr.TheVariants.{Ndisc}
@@ -31,7 +32,8 @@ use Rattle.host_machine.specs.Sending.Frame.{ip_frame, link_header, packet_text,
 use Rattle.host_machine.specs.Sending.Dispatch.{Outcome, IsUnsent, Emits, Discovers, DispatchesByHop}
 use Rattle.host_machine.specs.Sending.Dispatch.{DispatchesEthernet, SendsOver, Dispatches, datagram_of, destination_of, with_next_id}
 use Rattle.host_machine.specs.Sending.Dispatch as dispatch
-use Rattle.host_machine.specs.Laws.Restraint.NextHop.{AreApart, AsksFor, GoesByHop, HopIs, IsLongest, IsOneHost}
+use Rattle.host_machine.specs.Laws.Restraint.Chosen.{IsChosenFor}
+use Rattle.host_machine.specs.Laws.Restraint.NextHop.{AreApart, AsksFor, GoesByHop, HopIs, IsLive, IsLongest, IsOneHost}
 use Rattle.host_machine.specs.Laws.Restraint.NextHop.{IsSentTo, IsSourceFor, IsToAll, MayBeUsed}
 use Rattle.host_machine.specs.Laws.Restraint.NextHop as law
 use Rattle.host_machine.specs.Laws.Restraint.Neighbors.{IsNear}
@@ -140,28 +142,14 @@ as_after a d = as_then a (dispatch_leaves ways_of (λ H. refl) (λ H. refl) (λ 
 pub as_kept : {H K L : Host} → ways_of L ≡ ways_of K → L.neighbors.silent_until ≡ K.neighbors.silent_until → SendsAs H K → SendsAs H L
 as_kept e s a = as_then a e (inl s)
 
--- answers of a lookup
-found_too : (o : Option Neighbor) (s s' t : ℤ) (h : HardwareAddress) → answer_from o s t ≡ Found h → answer_from o s' t ≡ Found h
-found_too o s s' t h = by o where
-  none : answer_without_entry s t ≡ Found h → answer_without_entry s' t ≡ Found h
-  none = by_before (is_before t s) where
-    by_before : (b : Bool) → (if b then RateLimited else NotFound) ≡ Found h → answer_without_entry s' t ≡ Found h
-    by_before true e = absurd cc
-    by_before false e = absurd cc
-
-  by : (o : Option Neighbor) → answer_from o s t ≡ Found h → answer_from o s' t ≡ Found h
-  by None e = none e
-  by (Some n) e = by_end (is_before t n.expires_at) e where
-    by_end : (b : Bool) → (if b then Found n.hardware_addr else answer_without_entry s t) ≡ Found h →
-        (if b then Found n.hardware_addr else answer_without_entry s' t) ≡ Found h
-    by_end true e = e
-    by_end false e = none e
-
-found_as : {H K : Host} (a : IpAddress) (h : HardwareAddress) → SendsAs H K →
-    answer_of K.neighbors a K.moment ≡ Found h → answer_of H.neighbors a H.moment ≡ Found h
-found_as {H} {K} a h s e =
-    found_too (map.get H.neighbors.known a) K.neighbors.silent_until H.neighbors.silent_until H.moment h
-    (subst (λ (w : Ways). answer_from (map.get w.known a) K.neighbors.silent_until w.moment ≡ Found h) (ways_same s) e)
+-- a live entry
+live_as : {H K : Host} (a : IpAddress) (h : HardwareAddress) → SendsAs H K → IsLive K a h → IsLive H a h
+live_as {H} {K} a h s l = record {
+  entry = l.entry;
+  there = subst (λ (w : Ways). map.get w.known a ≡ Some l.entry) (ways_same s) l.there;
+  hardware_address = l.hardware_address;
+  live = subst (λ (w : Ways). w.moment <ℤ l.entry.expires_at) (ways_same s) l.live;
+}
 
 -- no request was sent in this call before
 unknown_as : {H K : Host} (a : IpAddress) → SendsAs H K →
@@ -213,13 +201,13 @@ solicitation own a source = packet.Ipv6 (record {
 
 asks_as : {own : EthernetAddress} {H K : Host} {frame : List ℕ} {a : IpAddress} → SendsAs H K → AsksFor own K frame a → AsksFor own H frame a
 asks_as s (law.ByArp a source is e) = law.ByArp a source (subst (λ (w : Ways). IsSourceFor w.ip_addrs a source) (ways_same s) is) e
-asks_as {own} s (law.BySolicitation a source group e) =
-    law.BySolicitation a source group (e ∙ ip_frame_as (hardware.Ethernet group) (solicitation own a source) s)
+asks_as {own} s (law.BySolicitation a source group chosen e) =
+    law.BySolicitation a source group (subst (λ (w : Ways). IsChosenFor w.ip_addrs (address.Ipv6 a) (address.Ipv6 source)) (ways_same s) chosen) (e ∙ ip_frame_as (hardware.Ethernet group) (solicitation own a source) s)
 
 goes_as : {own : EthernetAddress} {H K : Host} {p : Packet} {next : Option IpAddress} {outcome : Outcome} {frames : List (List ℕ)} →
     (frames ≡ [] → ⊥) → SendsAs H K → GoesByHop own K p next outcome frames → GoesByHop own H p next outcome frames
 goes_as some s (law.NoHop n o f) = law.NoHop n o f
-goes_as {p = p} {frames = frames} some s (law.Known a h n k o all) = law.Known a h n (found_as a h s k) o (all_as h p frames s all)
+goes_as {p = p} {frames = frames} some s (law.Known a h n k o all) = law.Known a h n (live_as a h s k) o (all_as h p frames s all)
 goes_as some s (law.Silent a n r o f) = absurd (some f)
 goes_as some s (law.Asked a frame n u o f asks) = law.Asked a frame n (unknown_as a s u) o f (asks_as s asks)
 goes_as some s (law.NoSource a n u o f none) = absurd (some f)

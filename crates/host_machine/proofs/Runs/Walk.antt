@@ -66,7 +66,7 @@ use Rattle.host_machine.specs.Sending.Egress.{SocketTurn, Serves, Walks, SocketE
 use Rattle.host_machine.specs.Sending.Parts.{Part}
 use Rattle.host_machine.specs.Polling.Polling.{Polls, after_maintenance}
 use Rattle.host_machine.proofs.Receiving.Malformed.{sent_frames-sends}
-use Rattle.host_machine.proofs.State.UnchangedFields.{Keeps, rest_of, kept, kept_by, unread}
+use Rattle.host_machine.proofs.State.UnchangedFields.{Keeps, emptied, rest_of, kept, kept_by, unread}
 use Rattle.host_machine.proofs.Receiving.PacketEffects.{IsPlain, whole_plain, ipv6_plain}
 use Rattle.host_machine.proofs.Polling.PollCalls.{both, polled}
 use Rattle.host_machine.specs.Sending.Egress as egress
@@ -129,7 +129,7 @@ module _ (Law : Host → List (List ℕ) → List Note → Host → Type 0)
   arp_taken mine (arp.Malformed m d) = dropped d
   arp_taken mine (arp.NotForUs a l d) = dropped d
   arp_taken {own = own} {H = H} {payload = payload} mine (arp.Learnt a l learns r n) = keeping refl n (kept_by learns.same (record {
-    same = ap (λ s. rest_of (record H { neighbors = record { known = map.empty; silent_until = s } })) learns.filled.silence;
+    same = ap (λ n. rest_of (record H { neighbors = n })) (emptied learns.filled);
     real = λ r.
         let there : IsOf H.capabilities.medium (hardware.Ethernet own) = rw mine at r.own in
         record {

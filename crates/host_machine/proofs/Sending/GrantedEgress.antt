@@ -197,7 +197,7 @@ pub record IsAfter (told last : List Event) : Type 0 where
   pub front : List Event
   pub is : told ≡ front ++ last
 
-then_after : {told last : List Event} (one two : List Event) → told ≡ one ++ two → IsAfter two last → IsAfter told last
+pub then_after : {told last : List Event} (one two : List Event) → told ≡ one ++ two → IsAfter two last → IsAfter told last
 then_after {told} {last} one two e b = record { front = one ++ b.front; is = e ∙ ap (λ x. one ++ x) b.is ∙ sym (append_assoc one b.front last) }
 
 -- the sockets' turns, behind all else
@@ -522,7 +522,7 @@ pub first_packet : (H : Host) (i : ℕ) (s : UdpSocket) (p : Packet) (rest : Lis
 first_packet H i s p rest f =
     rw (f.first, f.source_is) (between_is (record { addr = f.source; port = s.endpoint.port }) f.remote s.hop_limit f.octets p f.packet_is)
 
-first_left : (H K : Host) (i : ℕ) (s : UdpSocket) (p : Packet) (rest : List (IpEndpoint × List ℕ)) → HasFirst H i s p rest → sans K ≡ sans H →
+pub first_left : (H K : Host) (i : ℕ) (s : UdpSocket) (p : Packet) (rest : List (IpEndpoint × List ℕ)) → HasFirst H i s p rest → sans K ≡ sans H →
     socket_after_told true (socket_after_asking K (Udp s)) ≡ Udp (record s { tx = record s.tx { packets = rest } })
 first_left H K i s p rest f e =
     let here : socket_after_asking K (Udp s) ≡ socket_after_asking H (Udp s) = ap (λ (x : Host). socket_after_asking x (Udp s)) e in

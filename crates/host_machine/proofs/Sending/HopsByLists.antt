@@ -2,6 +2,7 @@
 use Rattle.std.proofs.Common.{◌≡◌, ◌≢◌, ℕ, zero, suc, ◌+◌, ◌-◌, ◌*◌, ◌/◌, ◌%◌, ◌^◌, ◌≤◌, Bool, true, false, List, []}
 use Rattle.std.proofs.Common.{◌∷◌, ◌++◌, refl, sym, ◌∙◌}
 use Rattle.std.proofs.Common.{ap, subst, Option, Some, None, arith}
+use Rattle.std.specs.FinMap as finite
 use Rattle.std.specs.Prelude.{ℤ, ◌≤ℤ◌, ◌<ℤ◌, ◌==◌, ◌<◌, ◌||◌, ◌&&◌, nat_lt, map, slice_get, Ok, if◌then◌else◌}
 use Rattle.std.specs.Option.{option_and_then, option_map}
 use Rattle.std.specs.List.{AllByRecursion, list_any}
@@ -30,13 +31,14 @@ use Rattle.ip_address.specs.declared.ipv4.Ipv4Address.{Ipv4Address}
 use Rattle.ip_address.specs.declared.ipv6.Ipv6Address.{Ipv6Address}
 use Rattle.fragmentation.specs.Fragments.{Fragment}
 use Rattle.fragmentation.specs.Cuts.{Datagram, Piece, piece_of}
-use Rattle.iface_tables.specs.declared.neighbor.Answer.TheVariants.{NotFound}
+use Rattle.iface_tables.specs.declared.neighbor.Answer.TheVariants.{Found, NotFound, RateLimited}
+use Rattle.iface_tables.specs.declared.neighbor.Neighbor.{Neighbor}
 use Rattle.iface_tables.specs.declared.route.Route.{Route}
-use Rattle.iface_tables.specs.Neighbor.{answer_of}
+use Rattle.iface_tables.specs.Neighbor.{answer_from, answer_of, answer_without_entry, is_before}
 use Rattle.iface_tables.specs.Route.{IsBest, IsBestAt, is_live, is_until, matches}
 use Rattle.host_machine.specs.State.Note.{Note}
 use Rattle.host_machine.specs.State.Host.{Host, in_same_network}
-use Rattle.host_machine.specs.State.Addresses.{ipv4_addr, is_broadcast_of, near_addr, or_else, source_v4}
+use Rattle.host_machine.specs.State.Addresses.{ipv4_addr, is_broadcast, is_broadcast_of, near_addr, or_else, source_v4}
 use Rattle.host_machine.specs.Sending.Packet.{Packet}
 use Rattle.host_machine.specs.Sending.Dispatch.{Outcome, IsNextHop, OnLink, ByRouter, Emits, Discovers, DispatchesByHop}
 use Rattle.host_machine.specs.Sending.Dispatch.{DispatchesEthernet, SendsOver, Dispatches}
@@ -46,13 +48,15 @@ use Rattle.host_machine.specs.Sending.Dispatch.{with_next_id}
 use Rattle.host_machine.specs.Sending.Dispatch as dispatch
 use Rattle.host_machine.specs.Laws.Restraint.Foreign.{HasPrefixOf, IsNoBroadcastOf}
 use Rattle.host_machine.specs.Laws.Restraint.NextHop.{AreApart, AsksFor, GoesByHop, GroupsHaveTheirAddresses, HopIs}
-use Rattle.host_machine.specs.Laws.Restraint.NextHop.{Includes, IsGroup, IsLongest}
+use Rattle.host_machine.specs.Laws.Restraint.NextHop.{Includes, IsGroup, IsLive, IsLongest}
 use Rattle.host_machine.specs.Laws.Restraint.NextHop.{IsOfGroup, IsOneHost, IsSentTo, IsSourceFor, IsToAll, MayBeUsed}
 use Rattle.host_machine.specs.Laws.Restraint.NextHop.{PacketsGoByHops, SourcesAreNear}
 use Rattle.host_machine.specs.Laws.Restraint.NextHop as law
 use Rattle.host_machine.specs.Laws.Restraint.Replies.{IsOneHostV4}
 use Rattle.host_machine.proofs.Polling.EarliestInstant.{hop_is_one}
 use Rattle.host_machine.proofs.Receiving.ForeignFrames.{has_prefix, no_broadcast, same_bits}
+use Rattle.host_machine.proofs.Sending.ChosenSources.{chosen_v6}
+use Rattle.host_machine.proofs.Sending.DueWork.{lt_of}
 
 -- prefixes
 contains_it : (c : IpCidr) (a : IpAddress) → HasPrefixOf c a → contains c a ≡ true
@@ -282,12 +286,30 @@ discovered {own} {a} {p} {outcome} {H} hop is unknown (dispatch.Asked target sou
 discovered {own} {a} {p} {outcome} {H} hop is unknown (dispatch.NoSource target h s o u) =
     law.NoSource a is unknown o u.silent (no_source H.ip_addrs target s)
 discovered {own} {a} {p} {outcome} {H} hop is unknown (dispatch.Solicited target h o f n e) =
-    law.Asked a _ is unknown o f (subst (AsksFor own H _) (sym h) (law.BySolicitation target _ _ refl))
+    law.Asked a _ is unknown o f (subst (AsksFor own H _) (sym h) (law.BySolicitation target _ _ (chosen_v6 H.ip_addrs target) refl))
+
+-- an answer is that of a live entry
+live_of : (H : Host) (a : IpAddress) (h : HardwareAddress) → answer_of H.neighbors a H.moment ≡ Found h → IsLive H a h
+live_of H a h found = by (finite.get H.neighbors.known a) refl found where
+  nobody : (b : Bool) → (if b then RateLimited else NotFound) ≡ Found h → ⊥
+  nobody true e = absurd cc
+  nobody false e = absurd cc
+
+  by_end : (n : Neighbor) → finite.get H.neighbors.known a ≡ Some n → (b : Bool) → is_before H.moment n.expires_at ≡ b →
+      (if b then Found n.hardware_addr else answer_without_entry H.neighbors.silent_until H.moment) ≡ Found h → IsLive H a h
+  by_end n there true later e =
+      let same : n.hardware_addr ≡ h = cc in
+      record { entry = n; there = there; hardware_address = same; live = lt_of H.moment n.expires_at later }
+  by_end n there false later e = absurd (nobody (is_before H.moment H.neighbors.silent_until) e)
+
+  by : (o : Option Neighbor) → finite.get H.neighbors.known a ≡ o → answer_from o H.neighbors.silent_until H.moment ≡ Found h → IsLive H a h
+  by None there e = absurd (nobody (is_before H.moment H.neighbors.silent_until) e)
+  by (Some n) there e = by_end n there (is_before H.moment n.expires_at) refl e
 
 by_hop : {id : ℕ} {own : EthernetAddress} {p : Packet} {a : IpAddress} {outcome : Outcome} {H new : Host} {frames : List (List ℕ)}
     {notes : List Note} (hop : Option IpAddress) → hop ≡ Some a →
     DispatchesByHop id own p a outcome (with_next_id H) frames notes new → GoesByHop own H p hop outcome frames
-by_hop {a = a} hop is (dispatch.Known h k e) = let d = emitted e in law.Known a h is k d.ok d.sent
+by_hop {a = a} {H = H} hop is (dispatch.Known h k e) = let d = emitted e in law.Known a h is (live_of H a h k) d.ok d.sent
 by_hop {a = a} hop is (dispatch.Silent s o u) = law.Silent a is s o u.silent
 by_hop hop is (dispatch.Unknown u d) = discovered hop is u d
 
@@ -334,9 +356,9 @@ no_broadcasts (cidr.Ipv4 n ∷ own) a apart = ((λ short is. apart.0 (broadcast_
 no_broadcasts (cidr.Ipv6 n ∷ own) a apart = (tt, no_broadcasts own a apart.1)
 
 -- a group's address
-record IsManysAddress (own : List IpCidr) (a : IpAddress) (h : EthernetAddress) : Type 0 where
-  specified : is_unspecified a ≡ false
-  is : multicast_hardware_addr own a ≡ Some h
+pub record IsManysAddress (own : List IpCidr) (a : IpAddress) (h : EthernetAddress) : Type 0 where
+  pub specified : is_unspecified a ≡ false
+  pub is : multicast_hardware_addr own a ≡ Some h
 
 some_v4 : (n : ℕ) → n / 2 ^ 28 ≡ 14 → n ≢ 0
 some_v4 n group e = omega (arith, group, e)
@@ -371,7 +393,7 @@ of_group_v6 g = record {
   low = low_bits_v6 g.bits;
 }
 
-many_address : (own : List IpCidr) (a : IpAddress) → IsGroup a → AreApart own a → (h : EthernetAddress) × IsOfGroup a h × IsManysAddress own a h
+pub many_address : (own : List IpCidr) (a : IpAddress) → IsGroup a → AreApart own a → (h : EthernetAddress) × IsOfGroup a h × IsManysAddress own a h
 many_address own (Ipv4 g) group apart = (group_address_v4 g, of_group_v4 g, many_v4 own g group apart)
 many_address own (Ipv6 g) group apart = (group_address_v6 g, of_group_v6 g, many_v6 own g group)
 
@@ -411,7 +433,12 @@ last_is_all n a short same =
     let bits : (last_of 32 n.prefix_len n.address.bits == a.bits) ≡ true = (Decides-eqb (last_of 32 n.prefix_len n.address.bits) a.bits).1 (sym same) in
     rw (few, bits) refl
 
-all_address : (own : List IpCidr) (a : IpAddress) → IsToAll own a → multicast_hardware_addr own a ≡ Some broadcast
+pub all_broadcast : (own : List IpCidr) (a : IpAddress) → IsToAll own a → is_broadcast own a ≡ true
+all_broadcast own _ (law.OnLink a e) = let all : (a.bits == 0xffff_ffff) ≡ true = (Decides-eqb a.bits 0xffff_ffff).1 e in rw all refl
+all_broadcast own _ (law.OnNetwork a i n here short e) =
+    or_right (ipv4_address.is_broadcast a) _ (is_all own a i (cidr.Ipv4 n) here (last_is_all n a short e))
+
+pub all_address : (own : List IpCidr) (a : IpAddress) → IsToAll own a → multicast_hardware_addr own a ≡ Some broadcast
 all_address own _ (law.OnLink a e) = let all : (a.bits == 0xffff_ffff) ≡ true = (Decides-eqb a.bits 0xffff_ffff).1 e in rw all refl
 all_address own _ (law.OnNetwork a i n here short e) =
     let network = or_right (ipv4_address.is_broadcast a) _ (is_all own a i (cidr.Ipv4 n) here (last_is_all n a short e)) in rw network refl

@@ -52,6 +52,8 @@ pub record Settings : Type 0 where
   pub known : FinMap address_cmp Neighbor
   pub prefixes : List Prefix
   pub routers : List slaac_route.Route
+  pub reassembly_timeout : ℕ
+  pub slaac_enabled : Bool
 
 abbrev pub settings_of : Host → Settings
 settings_of H = record {
@@ -64,6 +66,8 @@ settings_of H = record {
   known = H.neighbors.known;
   prefixes = H.slaac.prefixes;
   routers = H.slaac.routers;
+  reassembly_timeout = H.reassembly_timeout;
+  slaac_enabled = H.slaac_enabled;
 }
 
 abbrev pub Settled : Host → Host → Type 0
@@ -221,6 +225,8 @@ sending_settled t answer old new told notes e =
       routes = ap (λ (s : Settings). s.routes) same;
       any_ip = ap (λ (s : Settings). s.any_ip) same;
       hardware_address = ap (λ (s : Settings). s.hardware_addr) same;
+      reassembly_timeout = ap (λ (s : Settings). s.reassembly_timeout) same;
+      slaac_enabled = ap (λ (s : Settings). s.slaac_enabled) same;
       prefixes = ap (λ (s : Settings). s.prefixes) same;
       routers = ap (λ (s : Settings). s.routers) same;
     }

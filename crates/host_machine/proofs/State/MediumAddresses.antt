@@ -38,13 +38,13 @@ removed kind m a all b e is = by (eq_by_cmp address_cmp b a) (sym (get-remove ad
   by true h = absurd cc
   by false h = all b e h
 
-put : (kind : Medium) (old new : FinMap address_cmp Neighbor) (a : IpAddress) (n : Neighbor) →
-    IsOf kind n.hardware_addr → Puts old new a n → Have kind old → Have kind new
-put kind old new a n of p all = by (map.get old a) refl where
+put : (kind : Medium) (most : ℕ) (old new : FinMap address_cmp Neighbor) (a : IpAddress) (n : Neighbor) →
+    IsOf kind n.hardware_addr → Puts most old new a n → Have kind old → Have kind new
+put kind most old new a n of p all = by (map.get old a) refl where
   room : (k : ℕ) → map.len old ≡ k → map.get old a ≡ None → Have kind new
-  room k is none = elim (nat_lt k 4) as (λ b. nat_lt k 4 ≡ b → Have kind new) [
-    | true ↦ λ t. let h : map.len old < 4 = grind (arith, nat_tests) in rw (p.room h) (inserted kind old a n of all)
-    | false ↦ λ t. let h : 4 ≤ map.len old = grind (arith, nat_tests) in let f = p.full none h in
+  room k is none = elim (nat_lt k most) as (λ b. nat_lt k most ≡ b → Have kind new) [
+    | true ↦ λ t. let h : map.len old < most = grind (arith, nat_tests) in rw (p.room h) (inserted kind old a n of all)
+    | false ↦ λ t. let h : most ≤ map.len old = grind (arith, nat_tests) in let f = p.full none h in
         rw f.2 (inserted kind (map.remove old f.0) a n of (removed kind old f.0 all))
   ] refl
 
@@ -54,7 +54,7 @@ put kind old new a n of p all = by (map.get old a) refl where
 
 pub filled_of : (kind : Medium) (old new : Neighbors) (a : IpAddress) (n : Neighbor) →
     IsOf kind n.hardware_addr → Fills old new a n → AreOf kind old → AreOf kind new
-filled_of kind old new a n of f all = put kind old.known new.known a n of f.puts all
+filled_of kind old new a n of f all = put kind old.room old.known new.known a n of f.puts all
 
 pub renewed_of : (kind : Medium) (n : Neighbors) (a : IpAddress) (h : HardwareAddress) (end : ℤ) → AreOf kind n → AreOf kind (after_renewal n a h end)
 renewed_of kind n a h end all = by (map.get n.known a) refl where

@@ -5,7 +5,9 @@ use Rattle.std.specs.FinMap as map
 use Rattle.ip_address.specs.declared.hardware.HardwareAddress.{HardwareAddress}
 use Rattle.ip_wire.specs.declared.ip_packet.IpRepr.{IpRepr}
 use Rattle.ip_wire.specs.IpPacket.{src_addr, dst_addr}
-use Rattle.iface_tables.specs.Neighbor.{after_renewal, expiry_from}
+use Rattle.ip_address.specs.declared.ip.IpAddress.{IpAddress}
+use Rattle.iface_tables.specs.declared.neighbor.Neighbor.{Neighbor}
+use Rattle.iface_tables.specs.Neighbor.{Neighbors, Fills, after_renewal, expiry_from}
 use Rattle.group_table.specs.declared.report.IgmpReportState.TheVariants as igmp
 use Rattle.group_table.specs.declared.report.MldReportState.TheVariants as mld
 use Rattle.slaac.specs.Slaac.{initial_state}
@@ -16,13 +18,19 @@ use Rattle.host_machine.specs.Laws.Real.{IsReal}
 use Rattle.host_machine.specs.Receiving.Renewal.{sender_renewed}
 use Rattle.host_machine.proofs.State.MediumAddresses.{renewed_of}
 
+-- where a neighbour is learnt, all but who is known stays
+pub emptied : {old new : Neighbors} {a : IpAddress} {n : Neighbor} → Fills old new a n →
+    record new { known = map.empty } ≡ record old { known = map.empty }
+emptied {old} {new} f = ap (λ r. record { room = r; known = map.empty; silent_until = new.silent_until }) f.room
+    ∙ ap (λ s. record { room = old.room; known = map.empty; silent_until = s }) f.silence
+
 -- what no such law reads, set to one value
 abbrev pub rest_of : Host → Host
 rest_of H = record H {
   moment = pos 0;
   any_ip = false;
   routes = [];
-  neighbors = record { known = map.empty; silent_until = H.neighbors.silent_until };
+  neighbors = record H.neighbors { known = map.empty };
   groups = [];
   igmp_report = igmp.Inactive;
   mld_report = mld.Inactive;

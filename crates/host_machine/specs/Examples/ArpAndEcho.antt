@@ -61,6 +61,7 @@ sender_hardware = hardware.Ethernet (record { 0 = 2 ∷ 0 ∷ 0 ∷ 0 ∷ 0 ∷ 
 
 abbrev pub neighbors_with_sender : Neighbors
 neighbors_with_sender = record {
+  room = 4;
   known = map.insert map.empty sender (record { hardware_addr = sender_hardware; expires_at = pos 60000000 });
   silent_until = pos 0;
 }
@@ -71,7 +72,7 @@ neighbors_after_renewal = after_renewal neighbors_with_sender sender sender_hard
 
 -- no neighbour is known, and discovery is silent until a moment
 abbrev pub no_neighbors : ℤ → Neighbors
-no_neighbors silent_until = record { known = map.empty; silent_until = silent_until }
+no_neighbors silent_until = record { room = 4; known = map.empty; silent_until = silent_until }
 
 abbrev pub host : ℕ → Neighbors → Host
 host ipv4_id neighbors = record {

@@ -43,6 +43,7 @@ sender = ip.Ipv6 neighbor
 
 abbrev pub neighbors_with_sender : Neighbors
 neighbors_with_sender = record {
+  room = 4;
   known = map.insert map.empty sender (record { hardware_addr = example.sender_hardware; expires_at = pos 60000000 });
   silent_until = pos 0;
 }

@@ -20,6 +20,9 @@ use Rattle.host_machine.specs.Laws.Service.{QueuesEchoReplies, SendsFirstDatagra
 use Rattle.host_machine.specs.Laws.Service.{SendsPieces, SendsRequests}
 use Rattle.host_machine.specs.Laws.Received.{QueuesEchoRepliesV6, QueuesRawPackets, QueuesRawPacketsV6}
 use Rattle.host_machine.specs.Laws.Received.{QueuesSegments, QueuesSegmentsV6}
+use Rattle.host_machine.specs.Laws.DueReports.{SendsDueReport, SendsDueReportV6}
+use Rattle.host_machine.specs.Laws.Many.{QueuesToMany, QueuesToManyV6, SendsToMany}
+use Rattle.host_machine.specs.Laws.Resets.{ResetsClosedPorts, ResetsClosedPortsV6}
 use Rattle.host_machine.specs.Laws.Reassembled.{AnswersRebuiltPings, QueuesRebuiltDatagrams}
 use Rattle.host_machine.specs.Laws.Unfolded.{Unfolds}
 use Rattle.host_machine.specs.Laws.Restraint.Checksums.{DropsWrongHeaders, DropsWrongPayloads, DropsWrongPayloadsV6}
@@ -33,6 +36,7 @@ use Rattle.host_machine.specs.Laws.Restraint.Rebuilt.{DropsWrongRebuiltPayloads}
 use Rattle.host_machine.specs.Laws.Restraint.Replies.{AdvertisesOnlyItself, SendsErrorsV6WithCause, SendsErrorsWithCause}
 use Rattle.host_machine.specs.Laws.Restraint.Replies.{SendsResetsWithCause, TellsItselfByArp}
 use Rattle.host_machine.specs.Laws.Restraint.SentFrames.{IsOfReply, SendsInOrder}
+use Rattle.host_machine.specs.Laws.Restraint.Sources.{RepliesFromOwn, SendsFromOwn}
 use Rattle.host_machine.specs.Laws.Restraint.Settings.{KeepsAddressesAndRoutes, KeepsAtFrame, KeepsSettings, MaySet}
 
 -- what a call at t that receives does for others
@@ -55,6 +59,10 @@ pub record ServesOthers (t : ℤ) (old : Host) (told : List Event) (new : Host) 
   pub raw_packets_v6 : QueuesRawPacketsV6 t old told new
   pub segments : QueuesSegments t old told new
   pub segments_v6 : QueuesSegmentsV6 t old told new
+  pub closed_tcp_ports : ResetsClosedPorts t old told new
+  pub closed_tcp_ports_v6 : ResetsClosedPortsV6 t old told new
+  pub datagrams_to_many : QueuesToMany t old told new
+  pub datagrams_to_many_v6 : QueuesToManyV6 t old told new
 
 -- what a call at t that received this frame, and answered it by this reply if any, leaves alone
 pub record IsRestrained (t : ℤ) (frame : List ℕ) (reply : Option Reply) (old : Host) (told : List Event)
@@ -75,6 +83,7 @@ pub record IsRestrained (t : ℤ) (frame : List ℕ) (reply : Option Reply) (old
   pub errors : SendsErrorsWithCause frame old reply
   pub errors_v6 : SendsErrorsV6WithCause frame old reply
   pub resets : SendsResetsWithCause frame old reply
+  pub sources : RepliesFromOwn frame old reply
   pub igmp_answers : IgmpIsAsked t frame old new
   pub mld_answers : MldIsAsked t frame old new
 
@@ -95,10 +104,14 @@ pub record IsEgress (t : ℤ) (p : Transition) : Type 0 where
   pub answer : PollResult
   pub call : Egress t answer p.before p.told p.notes p.after
   pub frames : SendsInOrder (at p.before t) (sent_frames p.told) p.after
+  pub sources : SendsFromOwn t p.before p.told
   pub igmp_answer : IgmpGoesOn t p.before.igmp_report p.after.igmp_report
   pub mld_answer : MldGoesOn t p.before.mld_report p.after.mld_report
   pub groups : MakesNonePending p.before p.after
   pub first_datagrams : SendsFirstDatagrams t p.before p.told p.after
+  pub to_many : SendsToMany t p.before p.told p.after
+  pub due_report : SendsDueReport t p.before p.told p.after
+  pub due_report_v6 : SendsDueReportV6 t p.before p.told p.after
   pub first_packets : SendsFirstPackets t p.before p.told p.after
   pub first_echoes : SendsFirstEchoes t p.before p.told p.after
   pub pieces : SendsPieces p.before p.told

@@ -54,7 +54,7 @@ pub record OtherMadeRoom (new new' : Host) : Type 0 where
   pub address : IpAddress
   pub neighbor : Neighbor
   pub unknown : finite.get before.neighbors.known address ≡ None
-  pub full : 4 ≤ finite.len before.neighbors.known
+  pub full : before.neighbors.room ≤ finite.len before.neighbors.known
   pub one : IpAddress
   pub other : IpAddress
   pub one_ends_first : IsLeastEnd before.neighbors.known one

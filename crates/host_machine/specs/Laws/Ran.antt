@@ -12,6 +12,7 @@ use Rattle.host_machine.specs.Laws.Order.{IsBeginning, sent_of_this, AreBeginnin
 use Rattle.host_machine.specs.Laws.Order.{AreDistinctIfFew, cut_identifications, IsAmong}
 use Rattle.host_machine.specs.Laws.Real.{IsReal, IsRegular}
 use Rattle.host_machine.specs.Laws.Frames.{ArrivesInFrames}
+use Rattle.host_machine.specs.Laws.Lengths.{FramesFit, PiecesFit}
 use Rattle.host_machine.specs.Laws.Wire.{Shows}
 use Rattle.host_machine.specs.Laws.TwoHosts.{HaveOwnKeys, cuts_in}
 use Rattle.host_machine.specs.Laws.Requests.{NoSocketSpeaks, requests_in}
@@ -48,6 +49,8 @@ pub record Laws (first : Host) (transitions : List Transition) : Type 0 where
   pub own_keys : length (identifications (notes_in transitions)) < 2 ^ 16 → HaveOwnKeys (cuts_in transitions)
   -- from an answer of `poll_at` to its instant, polls that nothing disturbs send nothing and change no socket
   pub quiet : AreQuiet transitions
+  -- no frame is longer than the device allows
+  pub frames_fit : IsRegular first → PiecesFit first → FramesFit first transitions
   -- it is made of single calls, each of which serves others and is restrained
   pub calls : IsMadeOfCalls first transitions
 

@@ -3,9 +3,12 @@ pub mod Foreign
 pub mod Checksums
 pub mod Rebuilt
 pub mod Neighbors
+pub mod ResetNumbers
 pub mod Replies
+pub mod Chosen
 pub mod NextHop
 pub mod Queries
 pub mod SentFrames
+pub mod Sources
 pub mod Settings
 pub mod Words

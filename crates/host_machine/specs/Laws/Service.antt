@@ -563,7 +563,8 @@ abbrev pub DatagramsV6AreQueued : Type 0
 DatagramsV6AreQueued = (t : ℤ) (old new : Host) (told : List Event) → QueuesDatagramsV6 t old told new
 
 -- if no socket listens at its port, and no raw socket accepts the packet, the call sends the port unreachable error and
--- nothing else. The error quotes the packet's header and the first octets of its payload (RFC 4443 2.4, 3.1)
+-- nothing else. The error quotes the packet's header and the first octets of its payload (RFC 4443 3.1). What it quotes
+-- behind options, and that each such datagram brings one, is kept, against RFC 4443 2.4 (c) and (f)
 abbrev pub AnswersClosedPortsV6 : ℤ → Host → List Event → Host → Type 0
 AnswersClosedPortsV6 t old told new =
     (own : HardwareAddress) (frame : List ℕ) (r : Ipv6Repr) (ports : UdpRepr) (octets : List ℕ)
@@ -600,7 +601,8 @@ pub record Solicits (own : EthernetAddress) (H : Host) (frame : List ℕ) (r : I
       || (is_assigned H.ip_addrs (Ipv6 r.dst_addr) && not (ipv6.is_loopback r.dst_addr))) ≡ true
   pub target_is_own : is_assigned H.ip_addrs (Ipv6 target) ≡ true
 
--- it is answered by an advertisement, and its sender is known from then on
+-- it is answered by an advertisement, and its sender is known from then on. The advertisement's flag Override is off: kept,
+-- against RFC 4861 7.2.4
 abbrev pub AnswersSolicitations : ℤ → Host → List Event → Host → Type 0
 AnswersSolicitations t old told new =
     (own : EthernetAddress) (frame : List ℕ) (r : Ipv6Repr) (target : Ipv6Address) (h : EthernetAddress) →

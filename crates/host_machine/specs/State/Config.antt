@@ -18,6 +18,7 @@ use Rattle.host_machine.specs.declared.results.NewError.TheVariants.{MediumMisma
 use Rattle.host_machine.specs.declared.results.NewError.TheVariants.{MtuTooSmall, MtuTooLarge}
 use Rattle.group_table.specs.declared.report.IgmpReportState.TheVariants as igmp
 use Rattle.group_table.specs.declared.report.MldReportState.TheVariants as mld
+use Rattle.iface_tables.specs.Neighbor.{first_neighbors}
 use Rattle.slaac.specs.Slaac.{initial_state}
 use Rattle.host_machine.specs.State.Host.{Host, SocketSet}
 
@@ -41,7 +42,7 @@ refusal_of c h =
 abbrev pub first_id : ℕ → ℕ
 first_id seed = if next seed / 2 ^ 48 == 0 then 1 else next seed / 2 ^ 48
 
--- a host at first, with SLAAC or without: no address, route, neighbour, silence, fragment, pending fragment or group,
+-- a host at first, with SLAAC or without: room for four neighbours, no address, route, neighbour, silence, fragment, pending fragment or group,
 -- and nothing learnt from routers; the reassembly timeout is 60 s (RFC 1122 3.3.2), and one word was drawn from its
 -- source of random words
 abbrev pub first_host : DeviceCapabilities → HardwareAddress → ℕ → Bool → ℤ → SocketSet → Host
@@ -52,7 +53,7 @@ first_host c h seed slaac t sockets = record {
   ip_addrs = [];
   any_ip = false;
   routes = [];
-  neighbors = record { known = map.empty; silent_until = pos 0 };
+  neighbors = first_neighbors 4;
   ipv4_id = first_id seed;
   reassembly_timeout = 60000000;
   slots = map.empty;

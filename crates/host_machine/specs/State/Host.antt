@@ -2,6 +2,7 @@
 use Rattle.std.specs.Prelude.{ℕ, ℤ, Bool, false, ◌&&◌, ◌||◌, List, [], Option, Some, None}
 use Rattle.std.specs.Borrow.{Bor}
 use Rattle.std.specs.List.{list_any, list_all}
+use Rattle.std.specs.FinMap as map
 use Rattle.net_base.specs.declared.phy.DeviceCapabilities.{DeviceCapabilities}
 use Rattle.ip_address.specs.declared.ip.IpAddress.{IpAddress}
 use Rattle.ip_address.specs.declared.cidr.IpCidr.{IpCidr}
@@ -77,6 +78,10 @@ with_left H left = record H { left = left }
 -- the host with other neighbours
 abbrev pub with_neighbors : Host → Neighbors → Host
 with_neighbors H n = record H { neighbors = n }
+
+-- the host with room for so many neighbours, none of which is known yet; a silence stays
+abbrev pub with_neighbor_room : Host → ℕ → Host
+with_neighbor_room H room = record H { neighbors = record H.neighbors { room = room; known = map.empty } }
 
 -- the host with other groups
 abbrev pub with_groups : Host → List Group → Host

@@ -58,7 +58,8 @@ returns c = record {
         (record {
           neighbors = neighbors_with_sender;
           filled = record {
-            puts = record { there = λ h. refl; room = λ h. refl; full = λ none four. absurd (omega (arith, len-empty address_cmp Neighbor)) };
+            puts = record { there = λ h. refl; room = λ h. refl; full = λ none many. absurd (omega (arith, len-empty address_cmp Neighbor)) };
+            room = refl;
             silence = refl;
           };
           same = refl;

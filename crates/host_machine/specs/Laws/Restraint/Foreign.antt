@@ -1,5 +1,5 @@
--- Not ours, not touched: a frame to another host, and a packet to an address that is in no list of the host's (RFC 1122
--- 2.4, 3.2.1.3, RFC 922 7, RFC 1112 7.2, RFC 4291 2.8), or from one that is no host's, has no effect.
+-- Not ours, not touched: a frame to another host (IEEE 802.3 3.2.3), and a packet to an address that is in no list of the
+-- host's (RFC 1122 3.2.1.3, RFC 922 7, RFC 1112 7.2, RFC 4291 2.8), or from one that is no host's, has no effect.
 use Rattle.std.specs.Prelude.{◌≡◌, ◌≢◌, ◌⊎◌, ℕ, ◌+◌, ◌-◌, ◌*◌, ◌/◌, ◌%◌, ◌^◌, ◌<◌, ℤ, false, true}
 use Rattle.std.specs.Prelude.{List, [], slice_get, slice_index, Some}
 use Rattle.std.specs.List.{AllByRecursion}
@@ -126,7 +126,8 @@ FramesForOthersAreDropped =
     (t : ℤ) (frame : List ℕ) (old new : Host) (told : List Event) (notes : List Note) →
     Receives t frame old told notes new → DropsFramesForOthers t frame old told notes new
 
--- a host takes the other frames: those to its own hardware address, and those whose first octet is odd, to many hosts
+-- a host takes the other frames: those to its own hardware address, and those whose first octet is odd, to many hosts.
+-- This is of two addresses, and no call is in it
 abbrev pub OwnFramesAreTaken : Type 0
 OwnFramesAreTaken = (own destination : EthernetAddress) →
     (destination.0 ≡ own.0) ⊎ (slice_index destination.0 0 % 2 ≡ 1) → is_for own destination ≡ true
@@ -148,7 +149,8 @@ PacketsFromNoHostAreDropped =
     (t : ℤ) (frame : List ℕ) (old new : Host) (told : List Event) (notes : List Note) →
     Receives t frame old told notes new → DropsPacketsFromNoHost t frame old told notes new
 
--- an IPv6 packet from a group (ff00::/8) or from :: (RFC 4291 2.5.2, 2.7)
+-- an IPv6 packet from a group (ff00::/8) or from :: (RFC 4291 2.5.2, 2.7). Among those from :: are the solicitations of
+-- hosts without an address: kept, against RFC 4861 7.2.4, by which all nodes are told
 abbrev pub DropsPacketsFromNoHostV6 : ℤ → List ℕ → Host → List Event → List Note → Host → Type 0
 DropsPacketsFromNoHostV6 t frame old told notes new = (packet : List ℕ) → CarriesV6 old.hardware_addr frame packet →
     ((ipv6_in packet).0.src_addr.bits ≡ 0) ⊎ ((ipv6_in packet).0.src_addr.bits / 2 ^ 120 ≡ 0xff) →

@@ -9,6 +9,7 @@ use Rattle.net_base.specs.Device.{Event}
 use Rattle.ip_address.specs.Cidr.{address_of}
 use Rattle.ip_address.specs.declared.cidr.IpCidr.{IpCidr}
 use Rattle.ip_address.specs.declared.ethernet_address.EthernetAddress.{EthernetAddress}
+use Rattle.ip_address.specs.declared.hardware.HardwareAddress.{HardwareAddress}
 use Rattle.ip_address.specs.declared.hardware.HardwareAddress.TheVariants as hardware
 use Rattle.ip_address.specs.declared.ip.IpAddress.{IpAddress}
 use Rattle.ip_address.specs.declared.ip.IpAddress.TheVariants.{Ipv4, Ipv6}
@@ -31,7 +32,7 @@ use Rattle.host_machine.specs.State.Note.{Note}
 use Rattle.host_machine.specs.State.Host.{Host}
 use Rattle.host_machine.specs.Polling.Step.{Act, Step}
 use Rattle.host_machine.specs.Laws.Restraint.Foreign.{HasPrefixOf}
-use Rattle.host_machine.specs.Laws.Restraint.Readings.{CarriesV6, Receives}
+use Rattle.host_machine.specs.Laws.Restraint.Readings.{CarriesV4, CarriesV6, Receives, sender_v4, sender_v6}
 
 -- an address was assigned to the host
 abbrev pub IsAssigned : List IpCidr → IpAddress → Type 0
@@ -94,12 +95,26 @@ pub record TellsByMessage (H : Host) (frame : List ℕ) (a : IpAddress) (h : Eth
   pub no_group : (ipv6_in packet).0.src_addr.bits / 2 ^ 120 ≢ 0xff
   pub one : IsOneStation h
 
--- a neighbour that is known after a call at t: it was known at that hardware address before, until the same moment or
--- until less than 60 s after t; or the frame told of it, and it is known until 60 s after t
+-- the hardware address from which a frame came, on a medium with such addresses
+abbrev pub sender_in : HardwareAddress → List ℕ → HardwareAddress
+sender_in (hardware.Ethernet own) frame = hardware.Ethernet (header_in frame).src_addr
+sender_in hardware.Ip frame = hardware.Ip
+
+-- a frame has an IP packet from this address, and came from this hardware address
+pub data IsFrom (H : Host) (frame : List ℕ) (a : IpAddress) (h : HardwareAddress) : Type 0 where
+  OverIpv4 : (packet : List ℕ) → CarriesV4 H.hardware_addr frame packet → a ≡ sender_v4 packet →
+      h ≡ sender_in H.hardware_addr frame → IsFrom H frame a h
+  OverIpv6 : (packet : List ℕ) → CarriesV6 H.hardware_addr frame packet → a ≡ sender_v6 packet →
+      h ≡ sender_in H.hardware_addr frame → IsFrom H frame a h
+
+-- A neighbour that is known after a call at t: it was known so before. Or it was known at that hardware address, the frame
+-- has a packet of just this pair, and it is known until 60 s after t; also one that had ended and wasn't replaced: kept,
+-- against RFC 1122 2.3.2.1. Or the frame told of it, and it is known until 60 s after t
 pub data CameToBeKnown (t : ℤ) (frame : List ℕ) (old : Host) (a : IpAddress) (n : Neighbor) : Type 0 where
-  WasKnown : (before : Neighbor) → map.get old.neighbors.known a ≡ Some before →
-      n.hardware_addr ≡ before.hardware_addr →
-      (n.expires_at ≡ before.expires_at) ⊎ (n.expires_at ≡ t +ℤ pos 60000000) → CameToBeKnown t frame old a n
+  WasKnown : map.get old.neighbors.known a ≡ Some n → CameToBeKnown t frame old a n
+  WasRenewed : (before : Neighbor) → map.get old.neighbors.known a ≡ Some before →
+      n ≡ record before { expires_at = t +ℤ pos 60000000 } → IsFrom old frame a before.hardware_addr →
+      CameToBeKnown t frame old a n
   WasTold : (own h : EthernetAddress) → old.hardware_addr ≡ hardware.Ethernet own →
       n ≡ record { hardware_addr = hardware.Ethernet h; expires_at = t +ℤ pos 60000000 } →
       TellsByArp old frame a h ⊎ TellsByMessage old frame a h → CameToBeKnown t frame old a n

@@ -1,8 +1,9 @@
 -- The next hop of a packet on Ethernet, said by the lists of addresses, routes and neighbours (RFC 1122 3.3.1, 2.3.2,
 -- RFC 4861 5.2, 7.2.2), the source for an IPv4 destination, and the hardware addresses of groups (RFC 1112 6.4, RFC
 -- 2464 7).
-use Rattle.std.specs.Prelude.{◌≡◌, ◌≢◌, ℕ, ◌+◌, ◌-◌, ◌*◌, ◌/◌, ◌%◌, ◌^◌, ◌≤◌, ◌<◌, ℤ, ◌≤ℤ◌}
+use Rattle.std.specs.Prelude.{◌≡◌, ◌≢◌, ℕ, ◌+◌, ◌-◌, ◌*◌, ◌/◌, ◌%◌, ◌^◌, ◌≤◌, ◌<◌, ℤ, ◌≤ℤ◌, ◌<ℤ◌}
 use Rattle.std.specs.Prelude.{List, [], ◌∷◌, ◌++◌, slice_get, Option, Some, None, Ok, Err}
+use Rattle.std.specs.FinMap as map
 use Rattle.std.specs.List.{AllByRecursion}
 use Rattle.ip_address.specs.Cidr.{prefix_len_of}
 use Rattle.ip_address.specs.declared.cidr.IpCidr.{IpCidr}
@@ -19,7 +20,8 @@ use Rattle.ip_wire.specs.declared.arp.ArpOperation.TheVariants.{Request}
 use Rattle.icmpv6_wire.specs.declared.icmpv6.Icmpv6Repr.TheVariants.{Ndisc}
 use Rattle.icmpv6_wire.specs.declared.ndisc.NdiscRepr.TheVariants.{NeighborSolicit}
 use Rattle.fragmentation.specs.Cuts.{Piece, pieces_of}
-use Rattle.iface_tables.specs.declared.neighbor.Answer.TheVariants.{Found, NotFound, RateLimited}
+use Rattle.iface_tables.specs.declared.neighbor.Answer.TheVariants.{NotFound, RateLimited}
+use Rattle.iface_tables.specs.declared.neighbor.Neighbor.{Neighbor}
 use Rattle.iface_tables.specs.declared.route.Route.{Route}
 use Rattle.iface_tables.specs.Neighbor.{answer_of}
 use Rattle.host_machine.specs.declared.results.DispatchError.TheVariants.{NoRoute, NeighborPending}
@@ -30,6 +32,7 @@ use Rattle.host_machine.specs.Sending.Packet.{Packet, PacketV4, Icmpv6}
 use Rattle.host_machine.specs.Sending.Packet as packet
 use Rattle.host_machine.specs.Sending.Frame.{arp_frame, ip_frame, piece_frame}
 use Rattle.host_machine.specs.Sending.Dispatch.{Outcome, Dispatches, datagram_of, destination_of}
+use Rattle.host_machine.specs.Laws.Restraint.Chosen.{IsChosenFor}
 use Rattle.host_machine.specs.Laws.Restraint.Foreign.{HasPrefixOf, last_address}
 use Rattle.host_machine.specs.Laws.Restraint.Neighbors.{IsNear}
 use Rattle.host_machine.specs.Laws.Restraint.Replies.{IsOneHostV4}
@@ -91,8 +94,8 @@ abbrev pub SourcesAreNear : Type 0
 SourcesAreNear = (own : List IpCidr) (a source : Ipv4Address) →
     source_for own (Ipv4 a) ≡ Some (Ipv4 source) → IsSourceFor own a source
 
--- a request for the hardware address of a hop, with the host's own: by ARP, from the source for it, to all hosts (RFC
--- 826); or a solicitation to its solicited-node group (RFC 4861 4.3, 7.2.2)
+-- a request for the hardware address of a hop, with the host's own, from the source that the host chooses for it: by ARP,
+-- to all hosts (RFC 826); or a solicitation to its solicited-node group (RFC 4861 4.3, 7.2.2)
 pub data AsksFor (own : EthernetAddress) (H : Host) (frame : List ℕ) : IpAddress → Type 0 where
   ByArp : (a source : Ipv4Address) → IsSourceFor H.ip_addrs a source → frame ≡ arp_frame (record {
     operation = Request;
@@ -101,7 +104,7 @@ pub data AsksFor (own : EthernetAddress) (H : Host) (frame : List ℕ) : IpAddre
     target_hardware_addr = record { 0 = 255 ∷ 255 ∷ 255 ∷ 255 ∷ 255 ∷ 255 ∷ [] };
     target_protocol_addr = a;
   }) → AsksFor own H frame (Ipv4 a)
-  BySolicitation : (a source : Ipv6Address) (group : EthernetAddress) →
+  BySolicitation : (a source : Ipv6Address) (group : EthernetAddress) → IsChosenFor H.ip_addrs (Ipv6 a) (Ipv6 source) →
       frame ≡ ip_frame H (hardware.Ethernet group) (packet.Ipv6 (record {
         src_addr = source;
         dst_addr = record { bits = 0xff02_0000_0000_0000_0000_0001_ff00_0000 + a.bits % 2 ^ 24 };
@@ -109,12 +112,19 @@ pub data AsksFor (own : EthernetAddress) (H : Host) (frame : List ℕ) : IpAddre
         payload = Icmpv6 (Ndisc (NeighborSolicit a (Some own))) [];
       })) → AsksFor own H frame (Ipv6 a)
 
+-- a neighbour is known at a hardware address: its entry is in the table, and ends later
+pub record IsLive (H : Host) (a : IpAddress) (h : HardwareAddress) : Type 0 where
+  pub entry : Neighbor
+  pub there : map.get H.neighbors.known a ≡ Some entry
+  pub hardware_address : entry.hardware_addr ≡ h
+  pub live : H.moment <ℤ entry.expires_at
+
 -- what becomes of a packet, by its next hop: without one it isn't sent; it is sent to the hardware address of a known
--- one; an unknown one is asked for, if there is no silence and there is a source
+-- one, whose entry hasn't ended; an unknown one is asked for, if there is no silence and there is a source
 pub data GoesByHop (own : EthernetAddress) (H : Host) (p : Packet) (hop : Option IpAddress) (outcome : Outcome)
     (frames : List (List ℕ)) : Type 0 where
   NoHop : hop ≡ None → outcome ≡ Err NoRoute → frames ≡ [] → GoesByHop own H p hop outcome frames
-  Known : (a : IpAddress) (h : HardwareAddress) → hop ≡ Some a → answer_of H.neighbors a H.moment ≡ Found h →
+  Known : (a : IpAddress) (h : HardwareAddress) → hop ≡ Some a → IsLive H a h →
       outcome ≡ Ok tt → AllByRecursion (IsSentTo H h p) frames → GoesByHop own H p hop outcome frames
   Silent : (a : IpAddress) → hop ≡ Some a → answer_of H.neighbors a H.moment ≡ RateLimited →
       outcome ≡ Err NeighborPending → frames ≡ [] → GoesByHop own H p hop outcome frames

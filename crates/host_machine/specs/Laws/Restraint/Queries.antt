@@ -1,5 +1,6 @@
 -- Reports of groups: a pending answer was asked for by a query, and is due within the query's maximum response time,
--- not before (RFC 2236 3, RFC 3810 5.1.3, 6.2); a join is told of once (RFC 2236 3, RFC 3810 6.1).
+-- not before (RFC 2236 3, RFC 3810 5.1.3, 6.2). A join is told of once: kept, against RFC 2236 3 and RFC 3810 6.1, by
+-- which it is told of again after a while.
 use Rattle.std.specs.Prelude.{◌≡◌, ℕ, ◌+◌, ◌*◌, ◌/◌, ◌^◌, ◌≤◌, ℤ, pos, ◌+ℤ◌, ◌≤ℤ◌, ◌<ℤ◌, ◌==◌}
 use Rattle.std.specs.Prelude.{List, [], length, slice_get, slice_index, Some, if◌then◌else◌}
 use Rattle.net_base.specs.Checksum.{is_rx}

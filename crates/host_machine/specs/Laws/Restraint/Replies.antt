@@ -2,7 +2,7 @@
 -- reset has a cause in the packet that brought it (RFC 826, RFC 4861 7.2.4, RFC 1122 3.2.2, RFC 4443 2.4, RFC 9293
 -- 3.5.2). Where the machine sends more than an RFC allows, as errors of ICMPv6 for packets to groups, nothing is said.
 use Rattle.std.specs.Prelude.{◌≡◌, ◌≢◌, ◌⊎◌, ℕ, ◌/◌, ◌%◌, ◌^◌, ◌≤◌, ℤ, true, false}
-use Rattle.std.specs.Prelude.{List, length, take, drop, slice_get, slice_index, Option, Some, None}
+use Rattle.std.specs.Prelude.{List, [], length, take, drop, slice_get, slice_index, Option, Some, None}
 use Rattle.std.specs.List.{AllByRecursion}
 use Rattle.net_base.specs.Device.{Event}
 use Rattle.ip_address.specs.Protocol.{number_of}
@@ -46,6 +46,7 @@ use Rattle.host_machine.specs.Sending.Packet as packet
 use Rattle.host_machine.specs.Laws.Restraint.Foreign.{IsNoBroadcastOf}
 use Rattle.host_machine.specs.Laws.Restraint.Neighbors.{IsOwn}
 use Rattle.host_machine.specs.Laws.Restraint.Readings.{CarriesV4, CarriesV6, Receives}
+use Rattle.host_machine.specs.Laws.Restraint.ResetNumbers.{IsResetFor}
 
 -- Hardware addresses
 
@@ -207,9 +208,18 @@ abbrev pub HasAborted : Host → Type 0
 HasAborted H = (i : ℕ) × (s : TcpSocket)
     × (slice_get H.sockets.places i ≡ Some (Some (Tcp s))) × (s.is_aborted ≡ true)
 
--- a segment is sent for one that is no reset, between specified addresses. No raw socket took the packet, unless an
--- aborted TCP socket answers
-pub record HasSegmentCause (H : Host) (frame : List ℕ) : Type 0 where
+-- a packet goes to the sender of another one, and comes from where that went
+abbrev pub GoesBack : IpVersion → ℕ → ℕ → Packet → Type 0
+GoesBack version.Ipv4 sender receiver (packet.Ipv4 q) = (q.dst_addr.bits ≡ sender) × (q.src_addr.bits ≡ receiver)
+GoesBack version.Ipv6 sender receiver (packet.Ipv6 q) = (q.dst_addr.bits ≡ sender) × (q.src_addr.bits ≡ receiver)
+GoesBack version.Ipv4 sender receiver (packet.Ipv6 q) = ⊥
+GoesBack version.Ipv6 sender receiver (packet.Ipv4 q) = ⊥
+
+-- a segment is sent for one that is no reset, between specified addresses: its reset, back to its sender and without
+-- data. No raw socket took the packet, unless an aborted TCP socket answers. Where the segment was sent to a broadcast
+-- or a group, the reset comes from that address: kept, against RFC 1122 4.2.3.10
+pub record HasSegmentCause (H : Host) (frame : List ℕ) (q : Packet) (header : TcpRepr)
+    (octets : List ℕ) : Type 0 where
   pub segment : List ℕ
   pub of_version : IpVersion
   pub next : IpProtocol
@@ -220,11 +230,14 @@ pub record HasSegmentCause (H : Host) (frame : List ℕ) : Type 0 where
   pub from_someone : sender ≢ 0
   pub to_someone : receiver ≢ 0
   pub untaken : AllByRecursion (IsNoRawFor of_version next) H.sockets.places ⊎ HasAborted H
+  pub goes_back : GoesBack of_version sender receiver q
+  pub header_is : IsResetFor segment header
+  pub without_data : octets ≡ []
 
 -- each segment in reply to a frame, so each reset, is one
 abbrev pub SendsResetsWithCause : List ℕ → Host → Option Reply → Type 0
 SendsResetsWithCause frame old reply = (q : Packet) (header : TcpRepr) (octets : List ℕ) →
-    reply ≡ Some (Ip q) → packet.payload_of q ≡ packet.Tcp header octets → HasSegmentCause old frame
+    reply ≡ Some (Ip q) → packet.payload_of q ≡ packet.Tcp header octets → HasSegmentCause old frame q header octets
 
 abbrev pub ResetsHaveCause : Type 0
 ResetsHaveCause =

@@ -20,6 +20,7 @@ use Rattle.host_machine.specs.declared.results.PollResult.{PollResult}
 use Rattle.host_machine.specs.State.Note.{Note}
 use Rattle.host_machine.specs.State.Host.{Host}
 use Rattle.host_machine.specs.Polling.Step.{Act, Step}
+use Rattle.host_machine.specs.Polling.Run.{Transition, Run}
 use Rattle.host_machine.specs.Sending.Egress.{Egress}
 use Rattle.host_machine.specs.Laws.Restraint.Neighbors.{HasMessage}
 use Rattle.host_machine.specs.Laws.Restraint.Readings.{CarriesV6, Receives}
@@ -52,6 +53,8 @@ pub record KeepsSettings (old new : Host) : Type 0 where
   pub routes : new.routes ≡ old.routes
   pub any_ip : new.any_ip ≡ old.any_ip
   pub hardware_address : new.hardware_addr ≡ old.hardware_addr
+  pub reassembly_timeout : new.reassembly_timeout ≡ old.reassembly_timeout
+  pub slaac_enabled : new.slaac_enabled ≡ old.slaac_enabled
   pub prefixes : new.slaac.prefixes ≡ old.slaac.prefixes
   pub routers : new.slaac.routers ≡ old.slaac.routers
 
@@ -61,11 +64,16 @@ pub record MayLearn (H : Host) : Type 0 where
   pub own : EthernetAddress
   pub on_ethernet : H.hardware_addr ≡ hardware.Ethernet own
 
--- a call that receives a frame keeps all of that; but an advertisement to a host that may learn may change what was
--- learnt from routers
+-- a call that receives a frame keeps all of that, and each group with its state, so no message of others joins or leaves
+-- one; but an advertisement to a host that may learn may change what was learnt from routers
 pub record KeepsAtFrame (frame : List ℕ) (old new : Host) : Type 0 where
   pub addresses : new.ip_addrs ≡ old.ip_addrs
   pub routes : new.routes ≡ old.routes
+  pub any_ip : new.any_ip ≡ old.any_ip
+  pub hardware_address : new.hardware_addr ≡ old.hardware_addr
+  pub reassembly_timeout : new.reassembly_timeout ≡ old.reassembly_timeout
+  pub slaac_enabled : new.slaac_enabled ≡ old.slaac_enabled
+  pub groups : new.groups ≡ old.groups
   pub learnt : ((new.slaac.prefixes ≡ old.slaac.prefixes) × (new.slaac.routers ≡ old.slaac.routers))
       ⊎ (MayLearn old × HasAdvertisement old frame)
 
@@ -100,3 +108,9 @@ abbrev pub OtherStepsKeepSettings : Type 0
 OtherStepsKeepSettings =
     (command : Command) (answer : Answer) (old new : Host) (told : List Event) (acts : List Act) (notes : List Note) →
     Step command answer old told acts notes new → (MaySet command → ⊥) → KeepsAddressesAndRoutes old new
+
+-- no run changes how many neighbours there is room for
+abbrev pub NeighborRoomStays : Type 0
+NeighborRoomStays =
+    (first last : Host) (transitions : List Transition) →
+    Run first transitions last → last.neighbors.room ≡ first.neighbors.room

@@ -1,0 +1,54 @@
+-- A report in answer to a query for one group goes in the first call that sends at its moment or later (RFC 2236 3,
+-- RFC 3810 6.3).
+use Rattle.std.specs.Prelude.{◌≡◌, ℕ, ◌≤◌, ℤ, ◌≤ℤ◌, true, List, [], ◌∷◌, ◌++◌, Some}
+use Rattle.net_base.specs.Checksum.{ip_mtu_of}
+use Rattle.net_base.specs.Device.{Event, sent_frames}
+use Rattle.ip_address.specs.declared.hardware.HardwareAddress.{HardwareAddress}
+use Rattle.ip_address.specs.declared.ipv4.Ipv4Address.{Ipv4Address}
+use Rattle.ip_address.specs.declared.ipv6.Ipv6Address.{Ipv6Address}
+use Rattle.group_wire.specs.declared.igmp.IgmpVersion.{IgmpVersion}
+use Rattle.group_wire.specs.declared.mld.MldRecordType.TheVariants.{ModeIsExclude}
+use Rattle.group_table.specs.declared.report.IgmpReportState.TheVariants as igmp
+use Rattle.group_table.specs.declared.report.MldReportState.TheVariants as mld
+use Rattle.host_machine.specs.declared.results.PollResult.{PollResult}
+use Rattle.host_machine.specs.State.Note.{Note}
+use Rattle.host_machine.specs.State.Host.{Host}
+use Rattle.host_machine.specs.Sending.Dispatch.{destination_of}
+use Rattle.host_machine.specs.Sending.Egress.{Egress}
+use Rattle.host_machine.specs.Sending.Frame.{ip_frame}
+use Rattle.host_machine.specs.Sending.Multicast.{igmp_report, mld_report}
+use Rattle.host_machine.specs.Sending.Packet.{Packet, total_len}
+use Rattle.host_machine.specs.Laws.Many.{IsManysAddress, IsToMany}
+use Rattle.host_machine.specs.Laws.Service.{all_granted}
+
+-- a packet went, whole, to the hardware address of its group
+pub record WentToMany (old : Host) (p : Packet) (told : List Event) : Type 0 where
+  pub hardware : HardwareAddress
+  pub many : IsManysAddress old (destination_of p) hardware
+  pub front : List (List ℕ)
+  pub back : List (List ℕ)
+  pub frames : sent_frames told ≡ front ++ ip_frame old hardware p ∷ back
+
+-- a call that sends, and is granted every transmit token, sends the report of a group whose moment has come, if the host
+-- has an address to send it from; then the answer is over
+abbrev pub SendsDueReport : ℤ → Host → List Event → Host → Type 0
+SendsDueReport t old told new =
+    (version : IgmpVersion) (moment : ℤ) (group : Ipv4Address) (p : Packet) →
+    all_granted told ≡ true → old.igmp_report ≡ igmp.ToSpecificQuery version moment group → moment ≤ℤ t →
+    igmp_report old.ip_addrs version group ≡ Some p → IsToMany old (destination_of p) →
+    total_len p ≤ ip_mtu_of old.capabilities →
+    WentToMany old p told × (new.igmp_report ≡ igmp.Inactive)
+
+-- so it is over IPv6, where a report may come from the unspecified address (RFC 3810 5.2.13)
+abbrev pub SendsDueReportV6 : ℤ → Host → List Event → Host → Type 0
+SendsDueReportV6 t old told new =
+    (moment : ℤ) (group : Ipv6Address) →
+    all_granted told ≡ true → old.mld_report ≡ mld.ToSpecificQuery group moment → moment ≤ℤ t →
+    IsToMany old (destination_of (mld_report old.ip_addrs ModeIsExclude (group ∷ []))) →
+    total_len (mld_report old.ip_addrs ModeIsExclude (group ∷ [])) ≤ ip_mtu_of old.capabilities →
+    WentToMany old (mld_report old.ip_addrs ModeIsExclude (group ∷ [])) told × (new.mld_report ≡ mld.Inactive)
+
+abbrev pub DueReportsGo : Type 0
+DueReportsGo =
+    (t : ℤ) (answer : PollResult) (old new : Host) (told : List Event) (notes : List Note) →
+    Egress t answer old told notes new → SendsDueReport t old told new × SendsDueReportV6 t old told new
