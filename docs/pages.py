@@ -1,10 +1,12 @@
 #!/usr/bin/env python3
-"""Tests the pages: that each link leads to a file and to a heading there, that tables and lines aren't too long, that the
-lists of CONTRIBUTING.md name the files that such a change touches, and that THEOREM.md has each law, and no other.
+"""Tests the pages: that each link leads to a file and to a heading there, that each file that a page names is there,
+that tables and lines aren't too long, that the lists of CONTRIBUTING.md name the files that such a change touches and
+names that stand in them, that numbers of crates are those of crates.txt, and that THEOREM.md has each law, and no other.
 
 usage: pages.py            names what is wrong; its status is 1 if something is
        pages.py --words    prints how many words each page has
 """
+import os
 import pathlib
 import re
 import sys
@@ -28,6 +30,14 @@ LISTS = {
 # clients, which only use what is there
 CLIENTS = {"interface_client"}
 FILE = re.compile(r"`([\w/]+\.(?:rt|antt|c|h|rs|md))`")
+NAME = re.compile(r"`([A-Za-z_]\w*)`")
+# what stands between blanks, but no line between cells of a table
+WORD = re.compile(r"(?<!\S)(?=\S*\w)\S+")
+# a file at any place of the tree, by the end of its path, but none with a letter in place of a name, as `specs/X.antt`
+ANY_FILE = re.compile(r"`(?:\.{1,2}/)*([\w/-]+\.(?:rt|antt|c|h|rs|md|py|sh|txt|edit))`")
+LETTER = re.compile(r"(^|/)[XCxmf][/.]")
+# what only an installed library or an archive has
+ELSEWHERE = {"include/iface.h"}
 
 
 def headings(text):
@@ -52,6 +62,23 @@ def test_links(page, text, texts):
             yield f"there is no page {name}"
 
 
+def ends_of_paths():
+    """The path of each file of the repository, and each end of it."""
+    ends = set()
+    for folder, folders, files in os.walk(TOP):
+        folders[:] = [name for name in folders if name not in {".git", "out", "target"}]
+        parts = pathlib.Path(folder).relative_to(TOP).parts
+        ends.update("/".join((*parts[i:], file)) for file in files for i in range(len(parts) + 1))
+    return ends
+
+
+def test_files(text, ends):
+    """Names each file that a page names and that isn't there."""
+    for name in ANY_FILE.findall(text):
+        if name not in ends | ELSEWHERE and not LETTER.search(name):
+            yield f"there is no file {name}"
+
+
 def test_lines(text):
     """Names each cell of a table with more than 260 characters, without its links, and each line with more than 160."""
     for number, line in enumerate(text.split("\n"), 1):
@@ -65,11 +92,25 @@ def test_lines(text):
                 yield f"line {number}: a cell of {len(cell)} characters"
 
 
-def files_in(section):
-    """The files that a list names: each line of it begins with a crate, or with a folder at the top."""
+def entries_of(section):
+    """The entries of a list, each with the files that it names: an entry begins with a crate, or with a folder at the
+    top."""
     for folder, entry in re.findall(r"^- `(\w+)`(.*?)(?=^- |^$|\Z)", section, re.M | re.S):
         top = folder if folder in ("c", "rust") else f"crates/{folder}"
-        yield from (f"{top}/{name}" for name in FILE.findall(entry))
+        yield entry, [f"{top}/{name}" for name in FILE.findall(entry)]
+
+
+def files_in(section):
+    """The files that a list names."""
+    return [name for _, files in entries_of(section) for name in files]
+
+
+def lost_names(section):
+    """The names in a list that stand in no file of their entry, and are no crates."""
+    for entry, files in entries_of(section):
+        there = [TOP / name for name in files if (TOP / name).exists()]
+        words = set(re.findall(r"\w+", "\n".join(path.read_text(encoding="utf-8") for path in there)))
+        yield from (name for name in NAME.findall(entry) if name not in words and not (TOP / "crates" / name).exists())
 
 
 def files_with(words):
@@ -81,7 +122,7 @@ def files_with(words):
 
 
 def test_lists(text):
-    """Names each file of a list that isn't there, and each file that a list lacks."""
+    """Names each file of a list that isn't there, each file that a list lacks, and each name that is gone."""
     sections = dict(re.findall(r"^## (.*?)\n(.*?)(?=^## |\Z)", text, re.M | re.S))
     for heading, (words, needed) in LISTS.items():
         named = set(files_in(sections.get(heading, "")))
@@ -90,6 +131,18 @@ def test_lists(text):
                 yield f"'{heading}': {name} isn't there"
         for name in sorted((files_with(words) | set(needed)) - named):
             yield f"'{heading}' lacks {name}"
+        for name in lost_names(sections.get(heading, "")):
+            yield f"'{heading}': {name} stands in no file of its entry"
+
+
+def test_counts(text, lines):
+    """Names each number of crates that isn't that of crates.txt, or of what a client copies."""
+    client = (TOP / "docs" / "CLIENT.md").read_text(encoding="utf-8")
+    copied = re.search(r"as files, into `crates/`:\n\n((?:    .*\n)+)", client).group(1)
+    due = (str(len(copied.split())), str(lines))
+    for found in re.findall(r"(\d+) of the (\d+) crates", text):
+        if found != due:
+            yield f"{' of '.join(found)} crates, and not {' of '.join(due)}"
 
 
 def test_laws(text):
@@ -115,11 +168,12 @@ def main(arguments):
     texts = {page: page.read_text(encoding="utf-8") for page in PAGES}
     if arguments == ["--words"]:
         for page, text in texts.items():
-            print(f"{len(text.split()):6} {page.relative_to(TOP)}")
+            print(f"{len(re.findall(WORD, text)):6} {page.relative_to(TOP)}")
         return False
-    problems = []
+    problems, ends = [], ends_of_paths()
+    crates = len(re.findall(r"^\w", (TOP / "crates.txt").read_text(encoding="utf-8"), re.M))
     for page, text in texts.items():
-        found = list(test_links(page, text, texts))
+        found = [*test_links(page, text, texts), *test_files(text, ends), *test_counts(text, crates)]
         found += [] if page.name in OF_ANY_LENGTH else test_lines(text)
         problems += [f"{page.relative_to(TOP)}: {problem}" for problem in found]
     for name, test in (("CONTRIBUTING.md", test_lists), ("THEOREM.md", test_laws)):
