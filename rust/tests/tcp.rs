@@ -613,6 +613,11 @@ fn a_socket_that_is_dropped_lets_go() {
     assert_eq!(world.server.states(&[server]), [State::Closed]);
 }
 
+/// Lets the other thread run, also where one runs at a time.
+fn rest() {
+    std::thread::sleep(std::time::Duration::from_millis(1));
+}
+
 /// `README.md`, Threads: sockets in a set of another thread than the one that polls.
 #[test]
 fn another_thread_serves() {
@@ -628,7 +633,7 @@ fn another_thread_serves() {
             if socket.may_recv() {
                 came.extend(socket.recv(|octets| (octets.len(), octets.to_vec())).unwrap());
             }
-            std::thread::yield_now();
+            rest();
         }
         came
     });
@@ -639,6 +644,7 @@ fn another_thread_serves() {
             socket.connect(world.client.iface.context(), (SERVER, 7), 49152).unwrap();
         }
         world.run(Duration::from_millis(20));
+        rest();
     }
     let octets: Vec<u8> = (0..100_000_u32).map(|place| (place % 251) as u8).collect();
     let mut sent = 0;
@@ -646,6 +652,7 @@ fn another_thread_serves() {
         // The server's socket is dropped when it has all.
         sent += world.client.get(client).send_slice(&octets[sent..]).unwrap_or(0);
         world.run(Duration::from_millis(20));
+        rest();
     }
     assert_eq!(server.join().unwrap(), octets);
 }
