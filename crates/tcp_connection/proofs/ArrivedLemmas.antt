@@ -125,11 +125,6 @@ opened_is items room all =
     ap (λ (cs : List (Option ℕ)). record { base = 1; cells = cs; stop = None })
     (no_cells_of room (take room (drop 0 items)) (window_len room 0 items (omega arith) all))
 
--- an assembler that takes SYN
-pub syn_taken : {E : Type 0} (r : Result (Unit {0}) E) (new : List Range) → (IsErr r ↔ (4 < 1)) → OnOk r (new ≡ syn) → new ≡ syn
-syn_taken (Ok u) new f o = o
-syn_taken (Err e) new f o = absurd (omega (arith, f.0 refl))
-
 pub room_of : (base : ℕ) (items : List ℕ) (start room : ℕ) (rs : List Range) (stop : Option ℕ) → start ≤ room → length items ≡ room + room →
     length (receiver_of base items start room rs stop).cells ≡ room
 room_of base items start room rs stop low all =

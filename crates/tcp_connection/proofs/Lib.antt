@@ -6,3 +6,4 @@ pub mod KeptLemmas
 pub mod GapLemmas
 pub mod WindowLemmas
 pub mod ActionLemmas
+pub mod BlockLemmas

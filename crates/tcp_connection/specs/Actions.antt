@@ -1,8 +1,10 @@
 -- What a connection sends, as code has it: pieces without their octets.
 use Rattle.std.specs.Prelude.{◌≡◌, ℕ, List, Option, Some, None}
+use Rattle.tcp_machine.specs.declared.sack.SackBlock.{SackBlock}
 use Rattle.tcp_machine.specs.Connection.{Connection}
 use Rattle.tcp_machine.specs.Outgoing as machine
 use Rattle.tcp_machine.specs.Outgoing.{Outgoing, action, after_action, segment_for, octets_from}
+use Rattle.tcp_connection.specs.Blocks.{places_of}
 use Rattle.tcp_connection.specs.Pieces.{part_of}
 use Rattle.tcp_connection.specs.declared.outgoing.Action.{Action}
 use Rattle.tcp_connection.specs.declared.outgoing.Action.TheVariants.{SendReset, SendSyn, SendNext, SendAgain, SendProbe, SendKeepAlive, SendAck}
@@ -24,6 +26,10 @@ header_of s = record { number = s.number; ack = s.ack; window = s.window; syn = 
 -- the header of what is sent
 abbrev pub IsHeader : Action → Connection → Header → Type 0
 IsHeader a c h = (m : machine.Action) → action_of m ≡ a → h ≡ header_of (segment_for m c)
+
+-- its blocks
+abbrev pub AreBlocks : Action → Connection → List (Option SackBlock) → Type 0
+AreBlocks a c blocks = (m : machine.Action) → action_of m ≡ a → blocks ≡ places_of (segment_for m c).blocks
 
 -- the octets of what is sent at an instant
 abbrev pub AreOctets : Action → Connection → List ℕ → Type 0

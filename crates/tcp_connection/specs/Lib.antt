@@ -1,4 +1,5 @@
 pub mod Bounds
+pub mod Blocks
 pub mod Arrived
 pub mod Segments
 pub mod Asked

@@ -14,7 +14,7 @@ segment_of s octets = record {
   fin = s.fin;
   rst = s.rst;
   octets = octets;
-  options = record { mss = s.mss; scale = s.scale };
+  options = record { mss = s.mss; scale = s.scale; sack_permitted = s.sack_permitted };
 }
 
 -- the piece that it carries, from a position on

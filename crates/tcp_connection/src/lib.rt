@@ -3,6 +3,7 @@
 
 pub mod acknowledgements;
 pub mod arrivals;
+pub mod arrived_parts;
 pub mod calls;
 pub mod connection;
 pub mod due;

@@ -119,8 +119,8 @@ impl Connection {
         self.remote = segment.number;
         self.transmission
             .take_syn(segment.window, scale_from(segment.scale), mss);
-        self.reception
-            .set_scale(own_scale_for(self.settings.own_scale, segment.scale));
+        let own_scale = own_scale_for(self.settings.own_scale, segment.scale);
+        self.reception.take_syn(own_scale, segment.sack_permitted);
         self.congestion = Congestion::new(mss);
     }
 }

@@ -1,8 +1,10 @@
 //! What a connection sends, and when (RFC 9293 3.7.4, 3.8.6.2.1, 3.10.7.4; RFC 5681).
-ghost use Rattle.std.specs.Prelude.{◌≡◌, ◌≤◌, ◌+◌, min, max, Some};
+ghost use Rattle.std.specs.Prelude.{◌≡◌, ◌≤◌, ◌+◌, [], ◌∷◌, min, max, Some};
 ghost use Rattle.std.specs.Option.{option_map};
 ghost use Rattle.tcp_machine.specs.Outgoing as outgoing;
-ghost use Rattle.tcp_connection.specs.Actions.{action_of, IsHeader, AreOctets, after_sending};
+ghost use Rattle.std.specs.List.{filter_map};
+ghost use Rattle.tcp_connection.specs.Actions.{action_of, IsHeader, AreBlocks, AreOctets, after_sending};
+ghost use Rattle.tcp_connection.specs.Blocks as blocks;
 ghost use Rattle.tcp_connection.specs.Asked.{is_only_challenged};
 ghost use Rattle.tcp_connection.specs.Pieces.{part_of, IsPieceOf};
 ghost use Rattle.tcp_machine.specs.Pieces.{Piece, after_piece};
@@ -13,7 +15,9 @@ use crate::connection::Connection;
 use crate::instants::{is_owed, later};
 use crate::states::{is_opening, is_synchronized, sends_octets};
 use crate::transmission::Part;
+use net_base::assembler::Range;
 use tcp_machine::positions::number_at;
+use tcp_machine::sack::SackBlock;
 use tcp_machine::state::State;
 use tcp_machine::timers::{Measured, Owed, Pending, Timers};
 
@@ -280,6 +284,32 @@ impl Connection {
         }
     }
 
+    /// The blocks of what is sent: those of an acknowledgement without octets, and none of any other segment (RFC 2018 4).
+    pub fn blocks(&self, action: &Action) -> [Option<SackBlock>; 3]
+        ensures { AreBlocks action.now self.now result }
+    {
+        match *action {
+            Action::SendAck | Action::SendKeepAlive => self.blocks_told(),
+            Action::SendReset(_)
+            | Action::SendSyn
+            | Action::SendNext(_)
+            | Action::SendAgain(_)
+            | Action::SendProbe(_) => [None; 3],
+        }
+    }
+
+    /// The blocks of an acknowledgement, by their numbers.
+    fn blocks_told(&self) -> [Option<SackBlock>; 3]
+        ensures { result ≡ blocks.places_of (outgoing.blocks_on_wire self.now) }
+    {
+        let [first, second, third] = self.reception.blocks();
+        in_front(
+            on_wire(self.remote, first),
+            on_wire(self.remote, second),
+            on_wire(self.remote, third),
+        )
+    }
+
     /// The octets of what is sent, lent by the connection.
     #[tactic(auto, using(crate::proofs::ActionLemmas::are_octets))]
     pub fn octets(&self, action: &Action) -> &[u8]
@@ -391,6 +421,35 @@ impl Connection {
         if self.timers.waiting_since.is_none() {
             self.timers.waiting_since = Some(now);
         }
+    }
+}
+
+/// Three places with blocks, without a gap before one.
+fn in_front(
+    first: Option<SackBlock>,
+    second: Option<SackBlock>,
+    third: Option<SackBlock>,
+) -> [Option<SackBlock>; 3]
+    ensures { result ≡ blocks.places_of (filter_map (λ b. b) (first ∷ second ∷ third ∷ [])) }
+{
+    match (first.is_some(), second.is_some()) {
+        (true, true) => [first, second, third],
+        (true, false) => [first, third, None],
+        (false, true) => [second, third, None],
+        (false, false) => [third, None, None],
+    }
+}
+
+/// The numbers of a block.
+fn on_wire(initial: u32, part: Option<Range>) -> Option<SackBlock>
+    ensures { result ≡ blocks.on_wire initial part }
+{
+    match part {
+        None => None,
+        Some(part) => Some(SackBlock {
+            left: number_at(initial, part.start as u64),
+            right: number_at(initial, part.end as u64),
+        }),
     }
 }
 

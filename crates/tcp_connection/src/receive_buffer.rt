@@ -2,9 +2,12 @@
 ghost use Rattle.std.specs.Prelude.{◌≡◌, ◌≤◌, ◌<◌, ◌+◌, ◌-◌, ◌^◌, ◌++◌, ℕ, length, take, drop, slice_index, vec_len, IfOk, true, false};
 ghost use Rattle.tcp_machine.specs.Receiving.{filled, stop_from, in_order, next, edge, expected, open_receiver, with_piece, after_read, is_acceptable};
 ghost use Rattle.tcp_machine.specs.Arrivals.{has_gap, has_ended};
-ghost use Rattle.tcp_connection.specs.Arrived.{syn, with_octets};
+ghost use Rattle.tcp_machine.specs.Sack as sack;
+ghost use Rattle.tcp_connection.specs.Arrived.{with_octets};
+ghost use Rattle.tcp_connection.specs.Blocks as blocks;
 
-use net_base::assembler::{Assembler, refused_touches_none};
+use crate::arrived_parts::ArrivedParts;
+use net_base::assembler::{Range, refused_touches_none};
 use std::alloc::{AllocError, Global};
 use std::marker::Model;
 use tcp_machine::ring::rings_stand;
@@ -27,7 +30,7 @@ pub struct ReceiveBuffer {
     start: usize,
     room: usize,
     // The positions that have arrived, SYN and those that were read among them.
-    arrived: Assembler,
+    arrived: ArrivedParts,
     // The position after the last one of them.
     furthest: u64,
     stop: Option<u64>,
@@ -58,7 +61,7 @@ impl ReceiveBuffer {
             items: vec![in alloc; 0; 2 * room]?,
             start: 0,
             room,
-            arrived: syn_alone(),
+            arrived: ArrivedParts::syn(),
             furthest: 1,
             stop: None,
         })
@@ -71,7 +74,7 @@ impl ReceiveBuffer {
     {
         self.base = 1;
         self.start = 0;
-        self.arrived = syn_alone();
+        self.arrived = ArrivedParts::syn();
         self.furthest = 1;
         self.stop = None;
     }
@@ -91,7 +94,7 @@ impl ReceiveBuffer {
         ensures within { result ≤ edge self.now }
     {
         rings_stand();
-        self.arrived.peek_front() as u64
+        self.arrived.front() as u64
     }
 
     /// The octets in order that aren't read.
@@ -100,7 +103,7 @@ impl ReceiveBuffer {
         ensures { result.now ≡ in_order self.now.cells }
     {
         rings_stand();
-        let len = (self.arrived.peek_front() as u64 - self.base) as usize;
+        let len = (self.arrived.front() as u64 - self.base) as usize;
         &self.items[self.start..self.start + len]
     }
 
@@ -151,7 +154,21 @@ impl ReceiveBuffer {
         ensures { result ≡ has_gap self.now }
     {
         rings_stand();
-        (self.arrived.peek_front() as u64) < self.furthest
+        (self.arrived.front() as u64) < self.furthest
+    }
+
+    /// The parts beyond a gap, as a selective acknowledgement tells them (RFC 2018 4): first the one that contains a position, if
+    /// one does, and then the others from the furthest one back. There are three at most.
+    pub fn blocks(&self, latest: u64) -> [Option<Range>; 3]
+        ensures { blocks.blocks_in result ≡ sack.blocks_of latest self.now }
+    {
+        rings_stand();
+        let expected = self.expected();
+        let ranges = self.arrived.ranges();
+        let first = part_beyond(expected, ranges, 1);
+        let second = part_beyond(expected, ranges, 2);
+        let third = part_beyond(expected, ranges, 3);
+        newest_first(latest, third, second, first)
     }
 
     /// A piece arrives: its octets that aren't in order yet and have room are kept, and its end, if that lies within the room.
@@ -239,14 +256,45 @@ impl ReceiveBuffer {
     }
 }
 
-// SYN, at position 0.
-#[tactic(auto, using(crate::proofs::ArrivedLemmas::syn_taken))]
-fn syn_alone() -> Assembler
-    ensures { result ≡ syn }
+// The part at an index, if it begins beyond a position.
+fn part_beyond(expected: u64, ranges: &[Range], index: usize) -> Option<Range>
+    ensures { result ≡ blocks.part_beyond expected ranges.now index }
 {
-    let mut arrived = Assembler::new();
-    let _ = arrived.add(0, 1);
-    arrived
+    if index < ranges.len() && expected < ranges[index].start as u64 {
+        Some(ranges[index])
+    } else {
+        None
+    }
+}
+
+// Three parts, the one that contains a position first.
+fn newest_first(
+    latest: u64,
+    third: Option<Range>,
+    second: Option<Range>,
+    first: Option<Range>,
+) -> [Option<Range>; 3]
+    ensures { result ≡ blocks.newest_first latest third second first }
+{
+    if contains(&third, latest) {
+        [third, second, first]
+    } else if contains(&second, latest) {
+        [second, third, first]
+    } else if contains(&first, latest) {
+        [first, third, second]
+    } else {
+        [third, second, first]
+    }
+}
+
+// Whether there is a part, and it contains a position.
+fn contains(part: &Option<Range>, position: u64) -> bool
+    ensures { result ≡ blocks.is_in part.now position }
+{
+    match part {
+        None => false,
+        Some(part) => part.start as u64 <= position && position < part.end as u64,
+    }
 }
 
 // Writes octets from a place on.

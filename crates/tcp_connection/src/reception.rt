@@ -4,10 +4,13 @@ ghost use Rattle.tcp_machine.specs.Receiving as receiving;
 ghost use Rattle.tcp_machine.specs.Opening.{no_reception};
 ghost use Rattle.tcp_machine.specs.Windows as windows;
 ghost use Rattle.tcp_machine.specs.Arrivals as arrivals;
+ghost use Rattle.tcp_machine.specs.Outgoing as outgoing;
 ghost use Rattle.tcp_machine.specs.declared.timers.Owed.{Owed};
+ghost use Rattle.tcp_connection.specs.Blocks.{blocks_in};
 
 use crate::instants::{later, sooner};
 use crate::receive_buffer::ReceiveBuffer;
+use net_base::assembler::Range;
 use std::alloc::{AllocError, Global};
 use std::marker::Model;
 use tcp_machine::settings::Settings;
@@ -26,6 +29,8 @@ pub struct Reception {
     scale: u8,
     owed: Owed,
     unacknowledged: u64,
+    sack_permitted: bool,
+    latest: u64,
 }
 
 impl Model for Reception {
@@ -40,6 +45,8 @@ impl Model for Reception {
       scale = r.scale;
       owed = r.owed;
       unacknowledged = r.unacknowledged;
+      sack_permitted = r.sack_permitted;
+      latest = r.latest;
     } };
 
     ghost invariant = { λ r. r.scale ≤ 14 };
@@ -57,6 +64,8 @@ impl Reception {
             scale: 0,
             owed: Owed::Nothing,
             unacknowledged: 0,
+            sack_permitted: false,
+            latest: 0,
         })
     }
 
@@ -69,6 +78,8 @@ impl Reception {
         self.scale = 0;
         self.owed = Owed::Nothing;
         self.unacknowledged = 0;
+        self.sack_permitted = false;
+        self.latest = 0;
     }
 
     /// The octets in order that aren't read.
@@ -148,12 +159,24 @@ impl Reception {
         self.owed = owed;
     }
 
-    /// The own windows are scaled from now on.
-    pub fn set_scale(&mut self, scale: u8)
+    /// The peer's SYN told how the own windows are scaled from now on, and whether selective acknowledgements are permitted.
+    pub fn take_syn(&mut self, scale: u8, sack_permitted: bool)
         requires { scale ≤ 14 }
-        ensures { self.new ≡ record self.old { scale = scale } }
+        ensures { self.new ≡ record self.old { scale = scale; sack_permitted = sack_permitted } }
     {
         self.scale = scale;
+        self.sack_permitted = sack_permitted;
+    }
+
+    /// The blocks that an acknowledgement tells now: none, unless the peer permitted them (RFC 2018 2, 4).
+    pub fn blocks(&self) -> [Option<Range>; 3]
+        ensures { blocks_in result ≡ outgoing.blocks_told self.now }
+    {
+        if self.sack_permitted {
+            self.receiver.blocks(self.latest)
+        } else {
+            [None; 3]
+        }
     }
 
     /// The program takes the first octets that are in order. There must be so many.
@@ -201,12 +224,12 @@ impl Reception {
         requires start { start < 2 ^ 63 }
         requires octets { length octets.now < 2 ^ 32 }
         ensures taken { result ≡ true →
-            self.new ≡ arrivals.reception_after now settings.now
-            (receiving.with_piece (record { start = start; octets = octets.now; ends = ends }) self.old.receiver) self.old }
+            self.new ≡ arrivals.reception_after now settings.now (record { start = start; octets = octets.now; ends = ends }) self.old }
         ensures left { result ≡ false → self.new ≡ self.old }
         ensures beyond { result ≡ false → receiving.next self.old.receiver < start }
     {
         let before = self.receiver.expected();
+        let next = self.receiver.next();
         let had_gap = self.receiver.has_gap();
         if !self.receiver.take(start, octets, ends) {
             return false;
@@ -225,6 +248,9 @@ impl Reception {
             sooner(self.owed, end)
         };
         self.unacknowledged = waiting.min(MOST_COUNTED);
+        if next < start {
+            self.latest = start;
+        }
         true
     }
 

@@ -16,4 +16,6 @@ pub struct Segment {
     pub mss: Option<u16>,
     /// The window scale option.
     pub scale: Option<u8>,
+    /// Whether there is the option that permits selective acknowledgements. Only that of a SYN counts.
+    pub sack_permitted: bool,
 }

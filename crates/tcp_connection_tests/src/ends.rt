@@ -49,6 +49,7 @@ pub fn segment_of(header: &Header) -> Segment {
         rst: header.rst,
         mss: if header.syn { Some(MSS) } else { None },
         scale: None,
+        sack_permitted: header.syn,
     }
 }
 

@@ -180,6 +180,7 @@ const fn reset(number: u32, ack: Option<u32>) -> Segment {
         rst: true,
         mss: None,
         scale: None,
+        sack_permitted: false,
     }
 }
 

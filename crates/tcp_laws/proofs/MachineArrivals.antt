@@ -14,7 +14,7 @@ use Rattle.tcp_machine.specs.declared.timers.Ending.{Ending}
 use Rattle.tcp_machine.specs.Positions.{number_at, IsNear, position_near}
 use Rattle.tcp_machine.specs.Pieces.{Piece}
 use Rattle.tcp_machine.specs.Sending.{Sender, after_position}
-use Rattle.tcp_machine.specs.Receiving.{next, expected, with_piece, is_acceptable, is_in_window}
+use Rattle.tcp_machine.specs.Receiving.{next, expected, is_acceptable, is_in_window}
 use Rattle.tcp_machine.specs.States.{is_opening, is_synchronized, takes_octets, after_peers_end, after_end_acknowledged}
 use Rattle.tcp_machine.specs.Connection.{Connection}
 use Rattle.tcp_machine.specs.Segments.{Segment, Options, window_in, acceptable_piece, acknowledged_in}
@@ -314,9 +314,9 @@ module _ (g : Given) (now : ℕ) (keeps : Bool) (p : Piece) (k : PieceStands g.p
   up_octets c h =
       either (IsUp g) (not (takes_octets c.state && has_text p)) c
       (if keeps
-      then record c { reception = reception_after now c.settings (with_piece p c.reception.receiver) c.reception }
+      then record c { reception = reception_after now c.settings p c.reception }
       else with_owed AtOnce c) (λ _. h) (λ _.
-      either (IsUp g) keeps (record c { reception = reception_after now c.settings (with_piece p c.reception.receiver) c.reception })
+      either (IsUp g) keeps (record c { reception = reception_after now c.settings p c.reception })
       (with_owed AtOnce c) (λ _. ((h.0.0, took g c.transmission.sender c.reception.receiver p k h.0.1), h.1, h.2)) (λ _. h))
 
   up_fin : (c : Connection) → IsUp g c → IsUp g (after_fin now c)

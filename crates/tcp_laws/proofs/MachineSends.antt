@@ -1,11 +1,14 @@
 -- What a connection sends stands in the stream.
 use Rattle.std.proofs.Common.{◌≡◌, ◌<◌, ◌≤◌, ◌+◌, ◌-◌, ℕ, Bool, true, false, List, [], ◌∷◌, ◌++◌, length, take, drop}
-use Rattle.std.proofs.Common.{refl, sym, ap, ◌∙◌, arith, Option, Some, None, inl, inr}
-use Rattle.std.specs.Prelude.{max, min, nat_le, ◌&&◌, not, if◌then◌else◌}
+use Rattle.std.proofs.Common.{refl, sym, ap, subst, ◌∙◌, arith, Option, Some, None, inl, inr}
+use Rattle.std.specs.Prelude.{max, min, map, nat_le, ◌&&◌, ◌||◌, not, if◌then◌else◌}
+use Rattle.std.specs.List.{All}
+use Rattle.tcp_machine.specs.Sack.{Block}
+use Rattle.tcp_machine.specs.Outgoing.{block_on_wire, blocks_told, blocks_on_wire}
 use Rattle.std.proofs.lemmas.Bool.Decides.{nat_tests}
 use Rattle.std.proofs.lemmas.Option.{none-some}
 use Rattle.std.proofs.lemmas.List.{length-take, length-drop, take-append-drop}
-use Rattle.std.proofs.lemmas.List.Elements.{All-push}
+use Rattle.std.proofs.lemmas.List.Elements.{All-push, All-nil, All-same}
 use Rattle.tcp_machine.specs.declared.state.State.{State}
 use Rattle.tcp_machine.specs.declared.state.State.TheVariants.{Closed, Listen, SynSent, SynReceived, Established, FinWait1}
 use Rattle.tcp_machine.specs.declared.state.State.TheVariants.{FinWait2, CloseWait, Closing, LastAck, TimeWait}
@@ -24,7 +27,8 @@ use Rattle.tcp_machine.specs.Outgoing.{tells_something, action_pending, is_reset
 use Rattle.tcp_laws.specs.Machines.{Sent, sent_as}
 use Rattle.tcp_laws.proofs.SendingSteps.{IsSendable, sender_sends, piece_sent, le_max_left, le_max_right, max_le}
 use Rattle.tcp_laws.proofs.ReceivingSteps.{false_true, is_at_some, first_of_two}
-use Rattle.tcp_laws.proofs.MachineStands.{SentStands, Given, Streams, Known, is_quiet, Knows, Asks, IsGone, Good}
+use Rattle.tcp_laws.proofs.HeldOctets.{told_stand, numbers_again}
+use Rattle.tcp_laws.proofs.MachineStands.{BlockStands, BlocksStand, SentStands, Given, Streams, Known, is_quiet, Knows, Asks, IsGone, Good}
 use Rattle.tcp_laws.proofs.MachineStreams.{sent_stands, top_near}
 use Rattle.tcp_laws.proofs.MachineArrivals.{either}
 use Rattle.tcp_laws.proofs.MachineTimers.{not_sending}
@@ -60,7 +64,7 @@ sent_piece g s r p k may new h =
         sent = All-push (SentStands g.i g.j (after_send p s) g.written r) g.sent k
             (sent_stands g.i g.j s (after_send p s) g.written g.written r r
             (λ q l. record { octets = l.octets; last = l.last; sent = let e = l.sent in omega (arith, e, more) })
-            (omega arith) (omega arith) g.sent o.sent)
+            (omega arith) (omega arith) (λ p l. l) g.sent o.sent)
             new;
       };
       there = record {
@@ -102,15 +106,24 @@ from_sendable s q most low high = record {
   last = λ e. is_at_some s.stop (q + length (octets_from q most s)) e;
 }
 
+-- a segment without blocks
+no_blocks : (j : ℕ) (r : Receiver) (k : Sent) → k.segment.blocks ≡ [] → k.blocks ≡ [] → BlocksStand j r k
+no_blocks j r k wire none = record {
+  numbers = wire ∙ sym (ap (map (λ (b : Block). record { left = number_at j b.left; right = number_at j b.right })) none);
+  blocks = All-same (BlockStands r k.acknowledged) k.blocks [] none (All-nil (BlockStands r k.acknowledged));
+  alone = inl none;
+  none = λ _. none;
+}
+
 -- a segment that isn't plain
 not_plain : {P : Type 0} → true ≡ false → P
 not_plain e = cc
 
 reset_stands : (i j : ℕ) (s : Sender) (w : List ℕ) (r : Receiver) (number : ℕ) (c : Connection) → SentStands i j s w r (sent_as (SendReset number) c)
-reset_stands i j s w r number c = record { syn = λ e. false_true e; plain = λ is. not_plain is.no_reset }
+reset_stands i j s w r number c = record { blocks = no_blocks j r (sent_as (SendReset number) c) refl refl; syn = λ e. false_true e; plain = λ is. not_plain is.no_reset }
 
 syn_stands : (i j : ℕ) (s : Sender) (w : List ℕ) (r : Receiver) (c : Connection) → c.local ≡ i → SentStands i j s w r (sent_as SendSyn c)
-syn_stands i j s w r c l = record { syn = λ e. ap (λ n. number_at n 0) l; plain = λ is. not_plain is.no_syn }
+syn_stands i j s w r c l = record { blocks = no_blocks j r (sent_as SendSyn c) refl refl; syn = λ e. ap (λ n. number_at n 0) l; plain = λ is. not_plain is.no_syn }
 
 -- and one that is
 module _ (g : Given) (c : Connection) (h : Knows g c) where
@@ -129,10 +142,23 @@ module _ (g : Given) (c : Connection) (h : Knows g c) where
   empty_high : empty_position c.transmission ≤ c.transmission.sender.top
   empty_high = max_le c.transmission.nxt (min c.transmission.sender.top c.transmission.sender.edge) c.transmission.sender.top h.0.nxt (grind arith)
 
+  with_blocks : (k : Sent) → k.segment.blocks ≡ blocks_on_wire c → k.blocks ≡ blocks_told c.reception → k.segment.octets ≡ [] →
+      k.segment.syn || k.segment.rst ≡ false → k.acknowledged ≡ expected c.reception.receiver → BlocksStand g.j c.reception.receiver k
+  with_blocks k wire blocks octets plain known = record {
+    numbers =
+        wire ∙ ap (λ (n : ℕ). map (block_on_wire n) (blocks_told c.reception)) h.0.remote ∙ numbers_again g.j (blocks_told c.reception)
+        ∙ ap (map (λ (b : Block). record { left = number_at g.j b.left; right = number_at g.j b.right })) (sym blocks);
+    blocks = All-same (BlockStands c.reception.receiver k.acknowledged) k.blocks (blocks_told c.reception) blocks
+        (subst (λ (n : ℕ). All (BlockStands c.reception.receiver n) (blocks_told c.reception)) (sym known) (told_stand c.reception));
+    alone = inr octets;
+    none = λ e. false_true (sym plain ∙ e);
+  }
+
   -- without octets
   ack_stands : SentStands g.i g.j c.transmission.sender g.written c.reception.receiver (sent_as SendAck c)
   ack_stands =
       let high = empty_high in record {
+        blocks = with_blocks (sent_as SendAck c) refl refl refl refl refl;
         syn = λ e. false_true e;
         plain = λ is. record {
           number = ap (λ n. number_at n (empty_position c.transmission)) h.0.local;
@@ -147,6 +173,7 @@ module _ (g : Given) (c : Connection) (h : Knows g c) where
   keep_stands =
       let f = empty_high in
       let high : empty_position c.transmission - 1 ≤ c.transmission.sender.top = omega (arith, f) in record {
+        blocks = with_blocks (sent_as SendKeepAlive c) refl refl refl refl refl;
         syn = λ e. false_true e;
         plain = λ is. record {
           number = ap (λ n. number_at n (empty_position c.transmission - 1)) h.0.local;
@@ -162,6 +189,7 @@ module _ (g : Given) (c : Connection) (h : Knows g c) where
       SentStands g.i g.j (after_send p c.transmission.sender) g.written c.reception.receiver (sent_as (SendNext p) c)
   plain_piece p may high =
       let st = piece_sent c.transmission.sender g.written p may h.1.own.sender in record {
+        blocks = no_blocks g.j c.reception.receiver (sent_as (SendNext p) c) refl refl;
         syn = λ e. false_true e;
         plain = λ is. record {
           number = ap (λ n. number_at n p.start) h.0.local;

@@ -1,6 +1,7 @@
 -- What holds of two connections all along a run.
 use Rattle.std.proofs.Common.{◌≡◌, ◌≤◌, ◌+◌, ℕ, Bool, true, false, List, [], length, Option, Some, None}
-use Rattle.std.specs.Prelude.{◌⊎◌}
+use Rattle.std.specs.Prelude.{◌⊎◌, ◌||◌, ◌<◌, map, slice_get}
+use Rattle.tcp_machine.specs.Sack.{Block}
 use Rattle.std.specs.List.{All}
 use Rattle.tcp_machine.specs.declared.state.State.{State}
 use Rattle.tcp_machine.specs.declared.state.State.TheVariants.{Closed, SynSent}
@@ -28,8 +29,25 @@ pub record PlainStands (i j : ℕ) (s : Sender) (w : List ℕ) (r : Receiver) (k
   pub near : k.start ≤ s.una + s.room + 1
   pub known : k.acknowledged ≤ expected r
 
+-- an octet that was read, or is held
+abbrev pub IsHeld : Receiver → ℕ → Type 0
+IsHeld r p = (p < r.base) ⊎ ((i : ℕ) × (x : ℕ) × (r.base + i ≡ p) × (slice_get r.cells i ≡ Some (Some x)))
+
+-- a block that a segment tells
+pub record BlockStands (r : Receiver) (acknowledged : ℕ) (b : Block) : Type 0 where
+  pub some : b.left < b.right
+  pub beyond : acknowledged < b.left
+  pub held : (p : ℕ) → b.left ≤ p → p < b.right → IsHeld r p
+
+pub record BlocksStand (j : ℕ) (r : Receiver) (k : Sent) : Type 0 where
+  pub numbers : k.segment.blocks ≡ map (λ (b : Block). record { left = number_at j b.left; right = number_at j b.right }) k.blocks
+  pub blocks : All (BlockStands r k.acknowledged) k.blocks
+  pub alone : (k.blocks ≡ []) ⊎ (k.segment.octets ≡ [])
+  pub none : k.segment.syn || k.segment.rst ≡ true → k.blocks ≡ []
+
 -- a segment that was sent: i is the own initial number, j the peer's
 pub record SentStands (i j : ℕ) (s : Sender) (w : List ℕ) (r : Receiver) (k : Sent) : Type 0 where
+  pub blocks : BlocksStand j r k
   pub syn : k.segment.syn ≡ true → k.segment.number ≡ number_at i 0
   pub plain : IsPlain k.segment → PlainStands i j s w r k
 

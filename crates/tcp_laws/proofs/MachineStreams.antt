@@ -14,13 +14,24 @@ use Rattle.tcp_laws.proofs.Lists.{octet_append}
 use Rattle.tcp_laws.proofs.Stands.{SenderStands, PieceStands}
 use Rattle.tcp_laws.proofs.SendingSteps.{sender_writes, sender_closes, sender_acked, tests}
 use Rattle.tcp_laws.proofs.ReceivingSteps.{takes, expected_kept, left, expected_read}
-use Rattle.tcp_laws.proofs.MachineStands.{piece_of, SentStands, Given, Streams}
+use Rattle.tcp_laws.proofs.MachineStands.{piece_of, IsHeld, BlockStands, SentStands, Given, Streams}
+use Rattle.tcp_laws.proofs.HeldOctets.{held_taken, held_read}
 
 -- what was sent stands with another sender and receiver
 pub sent_stands : (i j : ℕ) (s s' : Sender) (w w' : List ℕ) (r r' : Receiver) →
-    ((p : Piece) → PieceStands s w p → PieceStands s' w' p) → s.una + s.room ≤ s'.una + s'.room → expected r ≤ expected r' →
+    ((p : Piece) → PieceStands s w p → PieceStands s' w' p) → s.una + s.room ≤ s'.una + s'.room → expected r ≤ expected r' → ((p : ℕ) → IsHeld r p → IsHeld r' p) →
     (sent : List Sent) → All (SentStands i j s w r) sent → All (SentStands i j s' w' r') sent
-sent_stands i j s s' w w' r r' pieces near far sent h = All-weaker (SentStands i j s w r) (SentStands i j s' w' r') (λ k st. record {
+sent_stands i j s s' w w' r r' pieces near far held sent h = All-weaker (SentStands i j s w r) (SentStands i j s' w' r') (λ k st. record {
+  blocks = let b = st.blocks in record {
+    numbers = b.numbers;
+    blocks = All-weaker (BlockStands r k.acknowledged) (BlockStands r' k.acknowledged) (λ x bs. record {
+      some = bs.some;
+      beyond = bs.beyond;
+      held = λ p low high. held p (bs.held p low high);
+    }) k.blocks b.blocks;
+    alone = b.alone;
+    none = b.none;
+  };
   syn = st.syn;
   plain = λ is. let p = st.plain is in let n = p.near in let e = p.known in record {
     number = p.number;
@@ -59,7 +70,7 @@ edged g s r ring edge same h =
         room = o.room;
         ring = let n = ap length same in omega (arith, n, o.ring);
         sent = sent_stands g.i g.j s s' g.written g.written r r (λ p k. record { octets = k.octets; last = k.last; sent = k.sent })
-            (omega arith) (omega arith) g.sent o.sent;
+            (omega arith) (omega arith) (λ p l. l) g.sent o.sent;
       };
       there = record {
         receiver = record {
@@ -94,7 +105,7 @@ wrote g s r xs may h =
           octets = λ i x e. octet_append w xs (p.start + i) x (k.octets i x e);
           last = k.last;
           sent = k.sent;
-        }) (omega arith) (omega arith) g.sent o.sent;
+        }) (omega arith) (omega arith) (λ p l. l) g.sent o.sent;
       };
       there = record {
         receiver = record {
@@ -126,7 +137,7 @@ closed g s r opened h =
           octets = k.octets;
           last = λ ends. absurd (none-some _ (sym opened ∙ k.last ends));
           sent = k.sent;
-        }) (omega arith) (omega arith) g.sent o.sent;
+        }) (omega arith) (omega arith) (λ p l. l) g.sent o.sent;
       };
       there = record {
         receiver = record {
@@ -163,7 +174,7 @@ acked g s r a window far h = by (nat_le s.una a && nat_le a s.top) refl where
           room = o.room;
           ring = omega (arith, n, o.ring);
           sent = sent_stands g.i g.j s s' g.written g.written r r (λ p k. record { octets = k.octets; last = k.last; sent = k.sent })
-              (omega (arith, low)) (omega arith) g.sent o.sent;
+              (omega (arith, low)) (omega arith) (λ p l. l) g.sent o.sent;
         };
         there = record {
           receiver = record {
@@ -191,7 +202,7 @@ took g s r p k h =
         sender = o.sender;
         room = o.room;
         ring = o.ring;
-        sent = sent_stands g.i g.j s s g.written g.written r (with_piece p r) (λ q l. l) (omega arith) far g.sent o.sent;
+        sent = sent_stands g.i g.j s s g.written g.written r (with_piece p r) (λ q l. l) (omega arith) far (held_taken r p) g.sent o.sent;
       };
       there = h.there;
       here = record {
@@ -210,7 +221,7 @@ got g s r xs b h =
         sender = o.sender;
         room = o.room;
         ring = o.ring;
-        sent = sent_stands g.i g.j s s g.written g.written r (after_read (length xs) r) (λ q l. l) (omega arith) far g.sent o.sent;
+        sent = sent_stands g.i g.j s s g.written g.written r (after_read (length xs) r) (λ q l. l) (omega arith) far (held_read r (length xs)) g.sent o.sent;
       };
       there = h.there;
       here = record {

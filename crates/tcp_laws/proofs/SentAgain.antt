@@ -16,7 +16,7 @@ use Rattle.tcp_machine.specs.Instants.{later, has_passed}
 use Rattle.tcp_machine.specs.Positions.{number_at}
 use Rattle.tcp_machine.specs.Pieces.{Piece}
 use Rattle.tcp_machine.specs.Sending.{after_position}
-use Rattle.tcp_machine.specs.Receiving.{expected, with_piece, is_in_window}
+use Rattle.tcp_machine.specs.Receiving.{expected, is_in_window}
 use Rattle.tcp_machine.specs.States.{is_opening, is_synchronized, sends_octets, takes_octets, after_peers_end, after_end_acknowledged}
 use Rattle.tcp_machine.specs.Connection.{Connection}
 use Rattle.tcp_machine.specs.Segments.{Segment, window_in, acceptable_piece, acknowledged_in}
@@ -177,9 +177,9 @@ module _ (c0 : Connection) where
     kept_octets d h =
         either Kept (not (takes_octets d.state && has_text p)) d
         (if keeps
-        then record d { reception = reception_after now d.settings (with_piece p d.reception.receiver) d.reception }
+        then record d { reception = reception_after now d.settings p d.reception }
         else with_owed AtOnce d) (λ _. h) (λ _.
-        either Kept keeps (record d { reception = reception_after now d.settings (with_piece p d.reception.receiver) d.reception })
+        either Kept keeps (record d { reception = reception_after now d.settings p d.reception })
         (with_owed AtOnce d) (λ _. h) (λ _. h))
 
     kept_fin : (d : Connection) → Kept d → Kept (after_fin now d)

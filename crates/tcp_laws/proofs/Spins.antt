@@ -1,10 +1,9 @@
 -- At an instant so many segments leave nothing to be sent: each of them makes a number less.
 use Rattle.std.proofs.Common.{◌≡◌, ◌<◌, ◌≤◌, ◌+◌, ◌-◌, ℕ, zero, suc, Bool, true, false, List, length, take, drop}
 use Rattle.std.proofs.Common.{refl, sym, ap, subst, ◌∙◌, arith, Option, Some, None}
-use Rattle.std.specs.Prelude.{min, max, nat_le, nat_lt, ◌*◌, ◌/◌, ◌==◌, ◌&&◌, ◌||◌, not, is_none, if◌then◌else◌}
+use Rattle.std.specs.Prelude.{min, max, nat_le, nat_lt, ◌*◌, ◌/◌, ◌==◌, ◌&&◌, ◌||◌, not, if◌then◌else◌}
 use Rattle.std.proofs.lemmas.Bool.Decides.{nat_tests}
 use Rattle.std.proofs.lemmas.List.{length-take, length-drop}
-use Rattle.tcp_machine.specs.declared.timers.Owed.TheVariants.{Nothing}
 use Rattle.tcp_machine.specs.declared.timers.Pending.{Pending}
 use Rattle.tcp_machine.specs.declared.timers.Pending.TheVariants.{Empty, Challenge, Resend, Probe, KeepAlive, Reset}
 use Rattle.tcp_machine.specs.States.{is_synchronized, is_opening, sends_octets}
@@ -12,9 +11,9 @@ use Rattle.tcp_machine.specs.Receiving.{is_at, edge}
 use Rattle.tcp_machine.specs.Pieces.{Piece, after_piece}
 use Rattle.tcp_machine.specs.Connection.{Connection, Reception}
 use Rattle.tcp_machine.specs.Windows.{next_promise, window_step, is_update_due}
-use Rattle.tcp_machine.specs.Outgoing.{Action, SendReset, SendSyn, SendNext, SendAgain, SendProbe, SendKeepAlive, SendAck}
+use Rattle.tcp_machine.specs.Outgoing.{Action, SendReset, SendSyn, SendNext, SendAgain, SendProbe, SendAck}
 use Rattle.tcp_machine.specs.Outgoing.{limit_of, next_piece, first_piece, is_worth_sending, has_octets, is_held_by_nagle, is_last}
-use Rattle.tcp_machine.specs.Outgoing.{is_owed, tells_something, ack_if, next_action, most_again, probe_action, action_pending}
+use Rattle.tcp_machine.specs.Outgoing.{is_owed, tells_something, ack_if, most_again, action_pending}
 use Rattle.tcp_machine.specs.Outgoing.{is_reset, is_none_pending, is_syn_due, action, told_to_peer, reception_told, syn_sent, piece_sent}
 use Rattle.tcp_machine.specs.Outgoing.{after_action}
 use Rattle.tcp_laws.specs.Spinning.{after_offer, after_offers, waiting_octets, NothingSpins}

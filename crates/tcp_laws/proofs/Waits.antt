@@ -15,7 +15,7 @@ use Rattle.tcp_machine.specs.Instants.{later, has_passed}
 use Rattle.tcp_machine.specs.Positions.{number_at}
 use Rattle.tcp_machine.specs.Pieces.{Piece, after_piece}
 use Rattle.tcp_machine.specs.Sending.{Sender, after_position, after_close}
-use Rattle.tcp_machine.specs.Receiving.{expected, is_at, with_piece, is_in_window}
+use Rattle.tcp_machine.specs.Receiving.{expected, is_at, is_in_window}
 use Rattle.tcp_machine.specs.States.{is_synchronized, is_opening, sends_octets, takes_octets, after_program_closes, after_peers_end}
 use Rattle.tcp_machine.specs.States.{after_end_acknowledged}
 use Rattle.tcp_machine.specs.Connection.{Connection}
@@ -326,9 +326,9 @@ module _ (now : ℕ) (keeps : Bool) (s : Segment) (p : Piece) where
   timed_octets d h =
       either IsTimed (not (takes_octets d.state && has_text p)) d
       (if keeps
-      then record d { reception = reception_after now d.settings (with_piece p d.reception.receiver) d.reception }
+      then record d { reception = reception_after now d.settings p d.reception }
       else with_owed AtOnce d) (λ _. h) (λ _.
-      either IsTimed keeps (record d { reception = reception_after now d.settings (with_piece p d.reception.receiver) d.reception })
+      either IsTimed keeps (record d { reception = reception_after now d.settings p d.reception })
       (with_owed AtOnce d) (λ _. h) (λ _. h))
 
   timed_fin : (d : Connection) → IsTimed d → IsTimed (after_fin now d)

@@ -16,14 +16,16 @@ use Rattle.tcp_machine.specs.Opening.{opened, accepted, after_arrival}
 use Rattle.tcp_machine.specs.Calls.{taken, after_writing, readable, read_of, after_reading, after_closing, after_abort}
 use Rattle.tcp_machine.specs.Timers.{after_timers}
 use Rattle.tcp_machine.specs.Outgoing.{Action, SendReset, SendSyn, SendNext, SendAgain, SendProbe, SendKeepAlive, SendAck}
-use Rattle.tcp_machine.specs.Outgoing.{Outgoing, action, segment_for, after_action}
+use Rattle.tcp_machine.specs.Outgoing.{Outgoing, action, segment_for, blocks_told, after_action}
+use Rattle.tcp_machine.specs.Sack.{Block}
 
--- A segment that a connection sent. The channel doesn't see the other two: the position at which it stands, and the one
--- that it acknowledges
+-- A segment that a connection sent. The channel doesn't see the other three: the position at which it stands, the one that it
+-- acknowledges, and those of its blocks
 pub record Sent : Type 0 where
   pub segment : Outgoing
   pub start : ℕ
   pub acknowledged : ℕ
+  pub blocks : List Block
 
 -- the position of what is sent; a reset has none
 abbrev pub start_of : Action → Connection → ℕ
@@ -35,9 +37,18 @@ start_of (SendProbe p) c = p.start
 start_of SendKeepAlive c = empty_position c.transmission - 1
 start_of SendAck c = empty_position c.transmission
 
+abbrev pub blocks_by : Action → Connection → List Block
+blocks_by SendKeepAlive c = blocks_told c.reception
+blocks_by SendAck c = blocks_told c.reception
+blocks_by m c = []
+
 abbrev pub sent_as : Action → Connection → Sent
-sent_as m c =
-    record { segment = segment_for m c; start = start_of m c; acknowledged = expected c.reception.receiver }
+sent_as m c = record {
+  segment = segment_for m c;
+  start = start_of m c;
+  acknowledged = expected c.reception.receiver;
+  blocks = blocks_by m c;
+}
 
 -- The segment as it arrives: the same values and octets. Its options may be any: the law doesn't need them
 abbrev pub arrived : Outgoing → Options → Segment

@@ -22,7 +22,7 @@ settings = record {
 }
 
 abbrev pub no_options : Options
-no_options = record { mss = None; scale = None }
+no_options = record { mss = None; scale = None; sack_permitted = false }
 
 abbrev pub side : Side
 side = unopened 8 8 settings

@@ -125,14 +125,20 @@ sooner Nothing t = By t
 sooner (By s) t = By (min s t)
 sooner AtOnce t = AtOnce
 
-abbrev pub reception_after : (now : ℕ) → Settings → Receiver → Reception → Reception
-reception_after now settings after r = record r {
-  receiver = after;
-  owed =
-      if is_owed_at_once settings.own_mss r.unacknowledged r.receiver after then AtOnce
-      else sooner r.owed (later now settings.ack_delay);
-  unacknowledged = min most_counted (r.unacknowledged + advance r.receiver after);
-}
+-- where the octets begin that arrived last beyond a gap, after a piece arrived
+abbrev pub latest_after : ℕ → Reception → ℕ
+latest_after start r = if nat_lt (next r.receiver) start then start else r.latest
+
+abbrev pub reception_after : (now : ℕ) → Settings → Piece → Reception → Reception
+reception_after now settings p r =
+    let after = with_piece p r.receiver in record r {
+      receiver = after;
+      owed =
+          if is_owed_at_once settings.own_mss r.unacknowledged r.receiver after then AtOnce
+          else sooner r.owed (later now settings.ack_delay);
+      unacknowledged = min most_counted (r.unacknowledged + advance r.receiver after);
+      latest = latest_after p.start r;
+    }
 
 -- whether a segment takes positions of the stream
 abbrev pub has_text : Piece → Bool
@@ -146,7 +152,7 @@ abbrev pub after_octets_of : (now : ℕ) → (keeps : Bool) → Piece → Connec
 after_octets_of now keeps p c =
     if not (takes_octets c.state && has_text p) then c
     else if keeps
-    then record c { reception = reception_after now c.settings (with_piece p c.reception.receiver) c.reception }
+    then record c { reception = reception_after now c.settings p c.reception }
     else with_owed AtOnce c
 
 -- Eighth: all up to the peer's end has arrived; that is acknowledged at once

@@ -40,6 +40,10 @@ pub record Reception : Type 0 where
   pub owed : Owed
   -- the octets in order that arrived since an acknowledgement was sent last
   pub unacknowledged : ℕ
+  -- whether the peer's SYN permitted selective acknowledgements (RFC 2018 2)
+  pub sack_permitted : Bool
+  -- where the octets begin that arrived last beyond a gap
+  pub latest : ℕ
 
 pub record Connection : Type 0 where
   pub state : State

@@ -6,3 +6,4 @@ pub mod Timeouts
 pub mod Transfers
 pub mod Sack
 pub mod Silence
+pub mod Once

@@ -47,7 +47,15 @@ no_transmission room mss = record {
 }
 
 abbrev pub no_reception : ℕ → Reception
-no_reception room = record { receiver = open_receiver room; promised = 1; scale = 0; owed = Nothing; unacknowledged = 0 }
+no_reception room = record {
+  receiver = open_receiver room;
+  promised = 1;
+  scale = 0;
+  owed = Nothing;
+  unacknowledged = 0;
+  sack_permitted = false;
+  latest = 0;
+}
 
 abbrev pub timers_at : ℕ → Timers
 timers_at now = record {
@@ -91,7 +99,10 @@ with_syn default link s c =
         mss = mss;
         sender = record c.transmission.sender { edge = 1 + s.window };
       };
-      reception = record c.reception { scale = own_scale_for c.settings.own_scale s.options.scale };
+      reception = record c.reception {
+        scale = own_scale_for c.settings.own_scale s.options.scale;
+        sack_permitted = s.options.sack_permitted;
+      };
       congestion = new_congestion mss;
     }
 
@@ -104,6 +115,7 @@ accepted now iss send_room receive_room default link settings s =
       is_active = false;
       reception = record (no_reception receive_room) {
         scale = own_scale_for settings.own_scale s.options.scale;
+        sack_permitted = s.options.sack_permitted;
         owed = AtOnce;
       };
     }

@@ -1,6 +1,6 @@
 -- What a connection sends, and when (RFC 9293 3.7.4, 3.8.6.2.1, 3.10.7.4; RFC 5681).
 use Rattle.std.specs.Prelude.{ℕ, ◌+◌, ◌-◌, ◌*◌, min, max, nat_lt, nat_le, ◌==◌, ◌&&◌, ◌||◌, not, Bool, true, false}
-use Rattle.std.specs.Prelude.{List, [], length, take, drop, Option, Some, None, is_none, if◌then◌else◌}
+use Rattle.std.specs.Prelude.{List, [], map, length, take, drop, Option, Some, None, is_none, if◌then◌else◌}
 use Rattle.tcp_machine.specs.Instants.{later}
 use Rattle.tcp_machine.specs.declared.timers.Timers.{Timers}
 use Rattle.tcp_machine.specs.declared.timers.Owed.{Owed}
@@ -17,6 +17,8 @@ use Rattle.tcp_machine.specs.States.{is_synchronized, is_opening, sends_octets}
 use Rattle.tcp_machine.specs.Connection.{Connection, Reception}
 use Rattle.tcp_machine.specs.Acknowledgements.{empty_position}
 use Rattle.tcp_machine.specs.Windows.{next_promise, window_field, is_update_due}
+use Rattle.tcp_machine.specs.declared.sack.SackBlock.{SackBlock}
+use Rattle.tcp_machine.specs.Sack.{Block, blocks_of}
 
 -- what is sent: a reset of this number; the own SYN; a piece for the next positions; the first one once more; a probe of a
 -- closed window; or an empty segment before the next position, or at it
@@ -133,6 +135,8 @@ pub record Outgoing : Type 0 where
   pub syn : Bool
   pub fin : Bool
   pub rst : Bool
+  -- the blocks of its option of selective acknowledgements (RFC 2018 3)
+  pub blocks : List SackBlock
   pub octets : List ℕ
 
 -- the number that is expected next, and the window field that tells what is promised now
@@ -142,6 +146,17 @@ ack_number c = number_at c.remote (expected c.reception.receiver)
 abbrev pub promise_now : Connection → ℕ
 promise_now c = next_promise c.settings.own_mss c.reception
 
+-- The blocks that an acknowledgement tells, if the peer permits them (RFC 2018 2, 4). A segment with octets or the end tells none: so
+-- the option takes no room from octets, and none is longer than the peer's MSS (RFC 9293 3.7.1)
+abbrev pub block_on_wire : ℕ → Block → SackBlock
+block_on_wire initial b = record { left = number_at initial b.left; right = number_at initial b.right }
+
+abbrev pub blocks_told : Reception → List Block
+blocks_told r = if r.sack_permitted then blocks_of r.latest r.receiver else []
+
+abbrev pub blocks_on_wire : Connection → List SackBlock
+blocks_on_wire c = map (block_on_wire c.remote) (blocks_told c.reception)
+
 abbrev pub empty_at : ℕ → Connection → Outgoing
 empty_at p c = record {
   number = number_at c.local p;
@@ -150,11 +165,12 @@ empty_at p c = record {
   syn = false;
   fin = false;
   rst = false;
+  blocks = blocks_on_wire c;
   octets = [];
 }
 
 abbrev pub segment_of_piece : Piece → Connection → Outgoing
-segment_of_piece p c = record (empty_at p.start c) { octets = p.octets; fin = p.ends }
+segment_of_piece p c = record (empty_at p.start c) { blocks = []; octets = p.octets; fin = p.ends }
 
 abbrev pub is_syn_sent : State → Bool
 is_syn_sent SynSent = true
@@ -166,10 +182,20 @@ syn_segment c = record (empty_at 0 c) {
   ack = if is_syn_sent c.state then None else Some (ack_number c);
   window = min 65535 (length c.reception.receiver.cells);
   syn = true;
+  blocks = [];
 }
 
 abbrev pub reset_segment : ℕ → Outgoing
-reset_segment number = record { number = number; ack = None; window = 0; syn = false; fin = false; rst = true; octets = [] }
+reset_segment number = record {
+  number = number;
+  ack = None;
+  window = 0;
+  syn = false;
+  fin = false;
+  rst = true;
+  blocks = [];
+  octets = [];
+}
 
 abbrev pub segment_for : Action → Connection → Outgoing
 segment_for (SendReset number) c = reset_segment number

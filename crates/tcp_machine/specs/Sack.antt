@@ -1,42 +1,47 @@
--- Which octets beyond a gap a selective acknowledgement tells (RFC 2018 3, 4).
-use Rattle.std.specs.Prelude.{ℕ, min, max, nat_lt, nat_le, ◌&&◌, Bool, List, [], ◌∷◌, take, if◌then◌else◌}
+-- The blocks of a selective acknowledgement (RFC 2018 3, 4): what of the stream is held beyond a gap. A ring that keeps three parts beyond
+-- gaps at most has three blocks at most, and an option has room for all of them.
+use Rattle.std.specs.Prelude.{ℕ, ◌+◌, nat_lt, nat_le, ◌==◌, ◌&&◌, Bool, List, [], ◌∷◌, ◌++◌, reverse, Option, Some, None, if◌then◌else◌}
+use Rattle.tcp_machine.specs.Receiving.{Receiver, expected}
 
--- octets that are held: the position of the first one, and the position after the last
+-- a contiguous part of the stream: the position of its first octet, and the one after its last (3)
 pub record Block : Type 0 where
   pub left : ℕ
   pub right : ℕ
 
--- two blocks overlap, or one begins where the other ends
-abbrev pub meets : Block → Block → Bool
-meets a b = nat_le a.left b.right && nat_le b.left a.right
+abbrev pub block : ℕ → ℕ → Block
+block left right = record { left = left; right = right }
 
-abbrev pub joined : Block → Block → Block
-joined a b = record { left = min a.left b.left; right = max a.right b.right }
+-- an octet before blocks: it belongs to the first of these, if that begins right after it, and else is one by itself
+abbrev pub with_octet : ℕ → List Block → List Block
+with_octet p [] = block p (p + 1) ∷ []
+with_octet p (b ∷ bs) = if b.left == p + 1 then block p b.right ∷ bs else block p (p + 1) ∷ b ∷ bs
 
--- the block that contains octets that arrived: they, and the blocks that they meet
-abbrev pub containing : Block → List Block → Block
-containing a [] = a
-containing a (b ∷ bs) = containing (if meets a b then joined a b else a) bs
+-- the blocks of cells from a position on: each is contiguous, and the octets just below it and just above it aren't held (3)
+abbrev pub blocks_from : ℕ → List (Option ℕ) → List Block
+blocks_from p [] = []
+blocks_from p (None ∷ cells) = blocks_from (p + 1) cells
+blocks_from p (Some x ∷ cells) = with_octet p (blocks_from (p + 1) cells)
 
--- the blocks that they don't meet, in their order
-abbrev pub apart_from : Block → List Block → List Block
-apart_from a [] = []
-apart_from a (b ∷ bs) = if meets a b then apart_from a bs else b ∷ apart_from a bs
-
--- blocks beyond the next position that is expected; the others are acknowledged by that itself
+-- those beyond what is expected; what lies before that is acknowledged without them
 abbrev pub beyond : ℕ → List Block → List Block
-beyond next [] = []
-beyond next (b ∷ bs) = if nat_lt next b.left then b ∷ beyond next bs else beyond next bs
+beyond expected [] = []
+beyond expected (b ∷ bs) = if nat_lt expected b.left then b ∷ beyond expected bs else beyond expected bs
 
--- Octets arrived, and `next` is expected then: the block that contains them comes first, and those that were told before
--- keep their order, the newest first (4)
-abbrev pub after_octets : (next : ℕ) → Block → List Block → List Block
-after_octets next a bs = beyond next (containing a bs ∷ apart_from a bs)
+-- the block that contains a position, if there is one; and all others
+abbrev pub contains : Block → ℕ → Bool
+contains b p = nat_le b.left p && nat_lt p b.right
 
--- how many blocks a segment has room for: four, or three beside timestamps (3)
-abbrev pub most_blocks : Bool → ℕ
-most_blocks has_timestamps = if has_timestamps then 3 else 4
+abbrev pub containing : ℕ → List Block → List Block
+containing p [] = []
+containing p (b ∷ bs) = if contains b p then b ∷ [] else containing p bs
 
--- the blocks that a segment tells
-abbrev pub told : (has_timestamps : Bool) → List Block → List Block
-told has_timestamps bs = take (most_blocks has_timestamps) bs
+abbrev pub others : ℕ → List Block → List Block
+others p [] = []
+others p (b ∷ bs) = if contains b p then bs else b ∷ others p bs
+
+-- The first block contains the octets that arrived last (4 (a)). All others follow it (4 (b)), from the furthest one back: mostly that is
+-- the order in which they were told last (4 (c))
+abbrev pub blocks_of : (latest : ℕ) → Receiver → List Block
+blocks_of latest r =
+    let bs = reverse (beyond (expected r) (blocks_from r.base r.cells)) in
+    containing latest bs ++ others latest bs

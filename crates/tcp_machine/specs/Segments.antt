@@ -6,10 +6,11 @@ use Rattle.tcp_machine.specs.Pieces.{Piece}
 use Rattle.tcp_machine.specs.Receiving.{next, is_acceptable}
 use Rattle.tcp_machine.specs.Connection.{Connection}
 
--- the options of a SYN that are read (RFC 9293 3.2, RFC 7323 2.2)
+-- the options of a SYN that are read (RFC 9293 3.2, RFC 7323 2.2, RFC 2018 2)
 pub record Options : Type 0 where
   pub mss : Option ℕ
   pub scale : Option ℕ
+  pub sack_permitted : Bool
 
 pub record Segment : Type 0 where
   -- SEG.SEQ and SEG.ACK

@@ -1,10 +1,11 @@
 //! Worked examples of the rules, by figures and examples of the RFCs, and beside them what must not be.
 ghost use Rattle.tcp_machine.specs.Examples.Handshakes.{BasicHandshake, BasicHandshakeAccepted, SimultaneousOpen, OldDuplicateSyn, LateHandshake, NoHandshake};
 ghost use Rattle.tcp_machine.specs.Examples.Closings.{NormalClose, NormalCloseOfOther, SimultaneousClose, NoClose};
+ghost use Rattle.tcp_machine.specs.Examples.Once.{EndCountsOnce, TimeWaitStays, WindowsScaled};
 ghost use Rattle.tcp_machine.specs.Examples.Resets.{HalfOpen, Abort, NoReset};
 ghost use Rattle.tcp_machine.specs.Examples.Timeouts.{Estimates, Losses};
 ghost use Rattle.tcp_machine.specs.Examples.Transfers.{InOrder, OutOfOrder, OneCell, Nagle, Retransmission, ClosedWindow, SmallWindow, Wraps, SynOptions};
-ghost use Rattle.tcp_machine.specs.Examples.Sack.{Rfc2018};
+ghost use Rattle.tcp_machine.specs.Examples.Sack.{Rfc2018, MoreSack, SackOfRing};
 ghost use Rattle.tcp_machine.specs.Examples.Silence.{KeepAlive, GivingUp, Recovery};
 
 /// Handshakes (RFC 9293 3.5, figures 6 to 8).
@@ -22,6 +23,8 @@ pub fn closings()
     ensures first { NormalClose }
     ensures other { NormalCloseOfOther }
     ensures simultaneous { SimultaneousClose }
+    ensures once { EndCountsOnce }
+    ensures waits { TimeWaitStays }
     ensures none { NoClose }
 {}
 
@@ -49,6 +52,7 @@ pub fn transfers()
     ensures small_window { SmallWindow }
     ensures wraps { Wraps }
     ensures options { SynOptions }
+    ensures scaled { WindowsScaled }
 {}
 
 /// Peers that don't answer, and a segment that is lost (RFC 9293 3.8.3, 3.8.4; RFC 5681; RFC 6582).
@@ -58,7 +62,9 @@ pub fn silences()
     ensures recovery { Recovery }
 {}
 
-/// Blocks of selective acknowledgements (RFC 2018 7).
+/// Blocks of selective acknowledgements (RFC 2018 4, 7).
 pub fn selective_acknowledgements()
-    ensures { Rfc2018 }
+    ensures examples { Rfc2018 }
+    ensures more { MoreSack }
+    ensures ring { SackOfRing }
 {}

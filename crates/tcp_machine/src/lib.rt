@@ -7,6 +7,7 @@ pub mod estimator;
 pub mod examples;
 pub mod positions;
 pub mod ring;
+pub mod sack;
 pub mod settings;
 pub mod state;
 pub mod timers;

@@ -85,6 +85,7 @@ segment_of r = record {
   rst = is_rst r.control;
   mss = r.options.max_seg_size;
   scale = r.options.window_scale;
+  sack_permitted = r.options.sack_permitted;
 }
 
 -- the ends of its connection: the remote one is where it came from

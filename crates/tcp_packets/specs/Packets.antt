@@ -1,5 +1,5 @@
 -- Segments as packets (RFC 9293 3.1).
-use Rattle.std.specs.Prelude.{◌≡◌, ℕ, ◌+◌, ◌<◌, Bool, true, false, List, [], ◌++◌, length, Option, Some, None, if◌then◌else◌, ◌==◌}
+use Rattle.std.specs.Prelude.{◌≡◌, ℕ, ◌+◌, ◌<◌, Bool, true, false, List, [], ◌∷◌, ◌++◌, map, length, Option, Some, None, if◌then◌else◌, ◌==◌}
 use Rattle.std.specs.Option.{option_map}
 use Rattle.ip_address.specs.declared.ip.IpAddress.{IpAddress}
 use Rattle.ip_address.specs.declared.ip.IpAddress.TheVariants.{Ipv4, Ipv6}
@@ -16,6 +16,8 @@ use Rattle.ip_wire.specs.declared.tcp.TcpSeqNumber.{TcpSeqNumber}
 use Rattle.tcp_wire.specs.declared.tcp.TcpRepr.{TcpRepr}
 use Rattle.tcp_wire.specs.declared.options.TcpOptions.{TcpOptions}
 use Rattle.tcp_wire.specs.Options.{no_options}
+use Rattle.tcp_wire.specs.declared.options.SackRange.{SackRange}
+use Rattle.tcp_machine.specs.declared.sack.SackBlock.{SackBlock}
 use Rattle.tcp_wire.specs.Tcp as tcp
 use Rattle.tcp_connection.specs.declared.outgoing.Header.{Header}
 use Rattle.tcp_host.specs.declared.iss.Endpoints.{Endpoints}
@@ -28,11 +30,19 @@ pub record Segment : Type 0 where
   pub header : Header
   pub mss : Option ℕ
   pub scale : Option ℕ
+  pub blocks : List (Option SackBlock)
   pub octets : List ℕ
 
 -- the same apart from where its octets are in memory
 abbrev pub value_of : Outgoing → Segment
-value_of o = record { endpoints = o.endpoints; header = o.header; mss = o.mss; scale = o.scale; octets = o.octets.now }
+value_of o = record {
+  endpoints = o.endpoints;
+  header = o.header;
+  mss = o.mss;
+  scale = o.scale;
+  blocks = o.blocks;
+  octets = o.octets.now;
+}
 
 -- a reset: <SEQ=number><ACK=ack><CTL=RST>, with an acknowledgement or without one (RFC 9293 3.10.7.1)
 abbrev pub reset_between : Endpoints → Reset → Segment
@@ -41,6 +51,7 @@ reset_between e r = record {
   header = record { number = r.number; ack = r.ack; window = 0; syn = false; fin = false; rst = true };
   mss = None;
   scale = None;
+  blocks = None ∷ None ∷ None ∷ [];
   octets = [];
 }
 
@@ -50,7 +61,14 @@ control_of h is_empty =
     if h.syn then control.Syn else if h.rst then control.Rst else if h.fin then control.Fin
     else if is_empty then control.None else control.Psh
 
--- the values of its header; only a SYN has options
+-- blocks of a selective acknowledgement as an option has them (RFC 2018 3)
+abbrev pub range_of : SackBlock → SackRange
+range_of b = record { left = record { bits = b.left }; right = record { bits = b.right } }
+
+abbrev pub ranges_of : List (Option SackBlock) → List (Option SackRange)
+ranges_of blocks = map (option_map range_of) blocks ++ None ∷ []
+
+-- the values of its header; a SYN permits selective acknowledgements (RFC 2018 2)
 abbrev pub repr_of : Segment → TcpRepr
 repr_of s = record {
   src_port = s.endpoints.local_port;
@@ -59,7 +77,12 @@ repr_of s = record {
   seq_number = record { bits = s.header.number };
   ack_number = option_map (λ n. record { bits = n }) s.header.ack;
   window_len = s.header.window;
-  options = record no_options { max_seg_size = s.mss; window_scale = s.scale };
+  options = record no_options {
+    max_seg_size = s.mss;
+    window_scale = s.scale;
+    sack_permitted = s.header.syn;
+    sack_ranges = ranges_of s.blocks;
+  };
 }
 
 -- the header of its packet, which may pass 64 routers (RFC 9293 3.9.2)

@@ -127,6 +127,7 @@ fn segment_of(repr: &TcpRepr) -> Segment
         rst,
         mss: repr.options.max_seg_size,
         scale: repr.options.window_scale,
+        sack_permitted: repr.options.sack_permitted,
     }
 }
 

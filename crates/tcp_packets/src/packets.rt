@@ -1,5 +1,6 @@
 //! Segments as packets (RFC 9293 3.1).
 ghost use Rattle.std.specs.Prelude.{◌≡◌, ◌≤◌, ◌<◌, ◌+◌, ◌^◌, ◌++◌, length, true};
+ghost use Rattle.std.specs.Option.{option_map};
 ghost use Rattle.tcp_wire.specs.Tcp.{text_len};
 ghost use Rattle.tcp_packets.specs.Packets as spec;
 
@@ -10,9 +11,10 @@ use ip_wire::{
 };
 use tcp_connection::outgoing::Header;
 use tcp_host::iss::Endpoints;
+use tcp_machine::sack::SackBlock;
 use tcp_streams::resets::Reset;
 use tcp_streams::turns::Outgoing;
-use tcp_wire::{TcpOptions, TcpRepr};
+use tcp_wire::{SackRange, TcpOptions, TcpRepr};
 
 /// The hop limit of what is sent (RFC 9293 3.9.2.5).
 const HOP_LIMIT: u8 = 64;
@@ -36,6 +38,7 @@ pub fn reset_between(endpoints: &Endpoints, reset: &Reset) -> Outgoing<'static>
         },
         mss: None,
         scale: None,
+        blocks: [None; 3],
         octets: &[],
     }
 }
@@ -107,8 +110,31 @@ fn repr_of(segment: &Outgoing<'_>) -> TcpRepr
         options: TcpOptions {
             max_seg_size: segment.mss,
             window_scale: segment.scale,
-            ..TcpOptions::new()
+            sack_permitted: segment.header.syn,
+            sack_ranges: ranges_of(&segment.blocks),
+            timestamp: None,
         },
+    }
+}
+
+// Blocks as an option has them, which has room for a fourth one.
+fn ranges_of(blocks: &[Option<SackBlock>; 3]) -> [Option<SackRange>; 4]
+    ensures { result ≡ spec.ranges_of blocks.now }
+{
+    let [first, second, third] = *blocks;
+    [range_of(first), range_of(second), range_of(third), None]
+}
+
+// One block as an option has it.
+fn range_of(block: Option<SackBlock>) -> Option<SackRange>
+    ensures { result ≡ option_map spec.range_of block }
+{
+    match block {
+        None => None,
+        Some(block) => Some(SackRange {
+            left: TcpSeqNumber { bits: block.left },
+            right: TcpSeqNumber { bits: block.right },
+        }),
     }
 }
 

@@ -4,7 +4,8 @@ use Rattle.std.proofs.lemmas.Bool.{false≢true}
 use Rattle.std.specs.Prelude.{nat_lt, if◌then◌else◌}
 use Rattle.tcp_machine.specs.Outgoing as machine
 use Rattle.tcp_connection.specs.declared.outgoing.Action.{Action}
-use Rattle.tcp_connection.specs.Actions.{action_of, header_of, IsHeader, AreOctets}
+use Rattle.tcp_connection.specs.Actions.{action_of, header_of, IsHeader, AreBlocks, AreOctets}
+use Rattle.tcp_connection.specs.Blocks.{places_of}
 use Rattle.tcp_connection.specs.declared.outgoing.Header.{Header}
 use Rattle.tcp_streams.specs.Host.{Host, connection_at, slot_at}
 use Rattle.tcp_streams.specs.declared.turns.Turn.{Turn}
@@ -69,11 +70,12 @@ sends_is_due place a now old h t = not_early (nat_lt now (get_or old.alarms t.pl
 -- what is sent is known from its parts
 pub segment_is : (o : Outgoing) (place now : ℕ) (a : Action) (m : machine.Action) (h : Host) →
     machine.action now (connection_at place h) ≡ Some m → action_of m ≡ a →
-    IsHeader a (connection_at place h) o.header → AreOctets a (connection_at place h) o.octets.now →
+    IsHeader a (connection_at place h) o.header → AreBlocks a (connection_at place h) o.blocks → AreOctets a (connection_at place h) o.octets.now →
     o.mss ≡ mss_of o.endpoints o.header h → o.scale ≡ scale_of o.header (connection_at place h) →
     value_of o ≡ segment_at o.endpoints place m h
-segment_is o place now a m h due of is_header are_octets is_mss is_scale =
+segment_is o place now a m h due of is_header are_blocks are_octets is_mss is_scale =
     let header : o.header ≡ header_of (machine.segment_for m (connection_at place h)) = is_header m of in
+    let blocks : o.blocks ≡ places_of (machine.segment_for m (connection_at place h)).blocks = are_blocks m of in
     let octets : o.octets.now ≡ (machine.segment_for m (connection_at place h)).octets = are_octets now m due of in
     let mss = is_mss ∙ ap (λ (x : Header). mss_of o.endpoints x h) header in
     let scale = is_scale ∙ ap (λ (x : Header). scale_of x (connection_at place h)) header in

@@ -16,6 +16,7 @@ use Rattle.tcp_machine.specs.Instants.{later}
 use Rattle.tcp_machine.specs.Outgoing as machine
 use Rattle.tcp_connection.specs.declared.outgoing.Action.{Action}
 use Rattle.tcp_connection.specs.Actions.{action_of, header_of}
+use Rattle.tcp_connection.specs.Blocks.{places_of}
 use Rattle.tcp_host.specs.declared.iss.Endpoints.{Endpoints}
 use Rattle.tcp_host.specs.Table.{ends_at}
 use Rattle.tcp_streams.specs.Host.{Host, connection_at}
@@ -71,6 +72,7 @@ segment_at e place m h = record {
   header = header_of (machine.segment_for m (connection_at place h));
   mss = mss_of e (header_of (machine.segment_for m (connection_at place h))) h;
   scale = scale_of (header_of (machine.segment_for m (connection_at place h))) (connection_at place h);
+  blocks = places_of (machine.segment_for m (connection_at place h)).blocks;
   octets = (machine.segment_for m (connection_at place h)).octets;
 }
 

@@ -1,7 +1,7 @@
 //! What a host sends, and when (RFC 9293 3.10.8 and what follows from calls and arrivals).
 ghost use Rattle.std.specs.Prelude.{◌≡◌, ◌<◌, length, slice_index, None, Some, IfSome, IsNone};
 ghost use Rattle.tcp_machine.specs.Outgoing as outgoing;
-ghost use Rattle.tcp_connection.specs.Actions.{IsHeader, AreOctets};
+ghost use Rattle.tcp_connection.specs.Actions.{IsHeader, AreBlocks, AreOctets};
 ghost use Rattle.tcp_host.specs.Alarms.{IsLeast};
 ghost use Rattle.tcp_host.specs.Table.{ends_at};
 ghost use Rattle.tcp_streams.specs.Host.{slot_at, connection_at};
@@ -14,6 +14,7 @@ use tcp_connection::outgoing::{Action, Header};
 use tcp_connection::states::{is_closed, is_synchronized};
 use tcp_host::alarms::NEVER;
 use tcp_host::iss::Endpoints;
+use tcp_machine::sack::SackBlock;
 
 /// For how long who sent something counts as heard: a minute, in microseconds.
 const HEARD: u64 = 60_000_000;
@@ -39,6 +40,8 @@ pub struct Outgoing<'a> {
     pub mss: Option<u16>,
     /// The window scale option.
     pub scale: Option<u8>,
+    /// The blocks of the option of selective acknowledgements. With octets there is none.
+    pub blocks: [Option<SackBlock>; 3],
     pub octets: &'a [u8],
 }
 
@@ -213,6 +216,7 @@ impl TcpHost {
     pub fn outgoing(&self, place: usize, action: &Action) -> Option<Outgoing<'_>>
         ensures ends { IfSome result (λ o. ends_at self.now.ends place ≡ Some o.endpoints) }
         ensures header { IfSome result (λ o. IsHeader action.now (connection_at place self.now) o.header) }
+        ensures blocks { IfSome result (λ o. AreBlocks action.now (connection_at place self.now) o.blocks) }
         ensures octets { IfSome result (λ o. AreOctets action.now (connection_at place self.now) o.octets.now) }
         ensures mss { IfSome result (λ o. o.mss ≡ spec.mss_of o.endpoints o.header self.now) }
         ensures scale { IfSome result (λ o. o.scale ≡ spec.scale_of o.header (connection_at place self.now)) }
@@ -229,6 +233,7 @@ impl TcpHost {
             header,
             mss: self.mss_of(&endpoints, &header),
             scale: scale_of(&header, connection),
+            blocks: connection.blocks(action),
             octets: connection.octets(action),
         })
     }

@@ -9,13 +9,13 @@ use Rattle.tcp_machine.specs.Opening.{opened}
 use Rattle.tcp_machine.specs.Calls.{after_writing}
 use Rattle.tcp_machine.specs.Timers.{after_timers}
 use Rattle.tcp_machine.specs.Due.{due_at}
-use Rattle.tcp_machine.specs.Examples.Ends.{settings, ack_segment, syn_segment, sends, after_sending, after_segment, sent_ack, sent_text, sent_reset}
+use Rattle.tcp_machine.specs.Examples.Ends.{settings, no_options, ack_segment, syn_segment, sends, after_sending, after_segment, sent_ack, sent_text, sent_reset}
 
 -- established, with the next number 100 and the peer's 300; rings of a thousand octets, with choices of the program
 abbrev pub connected : Settings → Connection
 connected chosen =
     after_sending 0
-    (after_segment 0 (record (syn_segment 299 (Some 100)) { window = 1000; options = record { mss = Some 100; scale = None } })
+    (after_segment 0 (record (syn_segment 299 (Some 100)) { window = 1000; options = record no_options { mss = Some 100 } })
     (after_sending 0 (opened 0 99 1000 1000 100 chosen)))
 
 -- Keep-alive each 1,000 µs: an empty segment before the next number, for as long as nothing arrives
