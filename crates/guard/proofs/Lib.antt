@@ -1,2 +1,5 @@
 pub mod PassLemmas
 pub mod RateLemmas
+pub mod RuleLemmas
+pub mod AnswerLemmas
+pub mod Ipv6Lemmas

@@ -62,19 +62,19 @@ needs_none true true true false (inr (inr (inl e))) = absurd cc
 needs_none true true true false (inr (inr (inr e))) = absurd cc
 
 -- what isn't refused, and is free, passes and takes nothing
-free_passes : (refusal : Option Reason) (free : Bool) → refusal ≡ None → free ≡ true → (now : ℕ) (b : Bucket) (why : Reason) →
+pub free_passes : (refusal : Option Reason) (free : Bool) → refusal ≡ None → free ≡ true → (now : ℕ) (b : Bucket) (why : Reason) →
     (is_none (judged refusal free now b why) ≡ true) × (after_judged refusal free now b ≡ b)
 free_passes refusal free r f now b why = rw (r, f) (refl, refl)
 
 -- a message of the host, or one that claims nothing of it, isn't stolen
-not_stolen : (keeps claimed mine : Bool) → (claimed ≡ false) ⊎ (mine ≡ true) → (keeps && claimed && not mine) ≡ false
+pub not_stolen : (keeps claimed mine : Bool) → (claimed ≡ false) ⊎ (mine ≡ true) → (keeps && claimed && not mine) ≡ false
 not_stolen false claimed mine or = refl
 not_stolen true false mine or = refl
 not_stolen true true true or = refl
 not_stolen true true false (inl e) = absurd cc
 not_stolen true true false (inr e) = absurd cc
 
-refused_by_none : (stolen : Bool) (other : Option Reason) (why : Reason) → stolen ≡ false → other ≡ None →
+pub refused_by_none : (stolen : Bool) (other : Option Reason) (why : Reason) → stolen ≡ false → other ≡ None →
     first_of (if stolen then Some why else None) other ≡ None
 refused_by_none stolen other why s o = rw (s, o) refl
 
@@ -100,7 +100,7 @@ arp_is frame long type =
     let r : (u16_at frame 12 == 0x0806) ≡ true = rw type refl in
     rw (s, r) refl
 
-expected_if : (unspecified known asked : Bool) → known ≡ true → (unspecified || known || asked) ≡ true
+pub expected_if : (unspecified known asked : Bool) → known ≡ true → (unspecified || known || asked) ≡ true
 expected_if true known asked e = refl
 expected_if false known asked e = rw e refl
 
@@ -131,11 +131,11 @@ known_arp_passes a g long type own pinned or =
       by (inr other) = inr other
 
 -- what is refused doesn't pass, and takes nothing
-refused_stays : (why : Reason) (refusal : Option Reason) (free : Bool) → refusal ≡ Some why → (now : ℕ) (b : Bucket) (other : Reason) →
+pub refused_stays : (why : Reason) (refusal : Option Reason) (free : Bool) → refusal ≡ Some why → (now : ℕ) (b : Bucket) (other : Reason) →
     (is_none (judged refusal free now b other) ≡ false) × (after_judged refusal free now b ≡ b)
 refused_stays why refusal free r now b other = rw r (refl, refl)
 
-stolen_by : (keeps claimed mine : Bool) → keeps ≡ true → claimed ≡ true → mine ≡ false → (other : Option Reason) (why : Reason) →
+pub stolen_by : (keeps claimed mine : Bool) → keeps ≡ true → claimed ≡ true → mine ≡ false → (other : Option Reason) (why : Reason) →
     first_of (if keeps && claimed && not mine then Some why else None) other ≡ Some why
 stolen_by keeps claimed mine k c m other why = rw (k, c, m) refl
 
@@ -151,16 +151,16 @@ own_addresses_stay a g keeps long type claimed other =
     rw (arp_is a.frame long type) (stays.0, ap (λ (b : Bucket). record g { neighbors = b }) stays.1)
 
 -- an address is the same as itself
-same_refl : (a : IpAddress) → is_same a a ≡ true
+pub same_refl : (a : IpAddress) → is_same a a ≡ true
 same_refl (Ipv4 x) = grind (arith, nat_tests)
 same_refl (Ipv6 x) = grind (arith, nat_tests)
 
-or_true : (a b : Bool) → b ≡ true → (a || b) ≡ true
+pub or_true : (a b : Bool) → b ≡ true → (a || b) ≡ true
 or_true true b e = refl
 or_true false b e = e
 
 -- one entry forbids a frame, and so do all
-any_forbids : (sender : IpAddress) (frame : List ℕ) (h : EthernetAddress) (pairs : List (Option Pinned)) (k : ℕ) →
+pub any_forbids : (sender : IpAddress) (frame : List ℕ) (h : EthernetAddress) (pairs : List (Option Pinned)) (k : ℕ) →
     slice_get pairs k ≡ Some (Some (record { address = sender; hardware = h })) → tells_only h frame ≡ false →
     list_any (forbids sender frame) pairs ≡ true
 any_forbids sender frame h [] k there other = absurd cc
@@ -177,7 +177,7 @@ tells_by_arp h frame long type =
     let r : (u16_at frame 12 == 0x0806) ≡ true = rw type refl in
     rw (s, r) refl
 
-pinned_by : (stolen forbidden : Bool) → forbidden ≡ true → (why : Reason) →
+pub pinned_by : (stolen forbidden : Bool) → forbidden ≡ true → (why : Reason) →
     (r : Reason) × (first_of (if stolen then Some why else None) (if forbidden then Some reason.Pinned else None) ≡ Some r)
 pinned_by true forbidden f why = (why, refl)
 pinned_by false forbidden f why = (reason.Pinned, rw f refl)
@@ -195,7 +195,7 @@ pinned_stay a g h k long type there other =
     rw (arp_is a.frame long type) (stays.0, ap (λ (b : Bucket). record g { neighbors = b }) stays.1)
 
 -- a datagram that goes to and fro is refused, by its source or as such
-looping : (stolen drops returned : Bool) → drops ≡ true → returned ≡ false → (why : Reason) →
+pub looping : (stolen drops returned : Bool) → drops ≡ true → returned ≡ false → (why : Reason) →
     (r : Reason) × (first_of (if stolen then Some why else None) (if drops && not returned then Some reason.Loop else None) ≡ Some r)
 looping true drops returned d t why = (why, refl)
 looping false drops returned d t why = (reason.Loop, rw (d, t) refl)
@@ -227,7 +227,7 @@ is_transport_sort Loop e = absurd cc
 is_transport_sort Transport e = refl
 is_transport_sort Plain e = absurd cc
 
-both : (a b : Bool) → (a && b) ≡ true → (a ≡ true) × (b ≡ true)
+pub both : (a b : Bool) → (a && b) ≡ true → (a ≡ true) × (b ≡ true)
 both true true e = (refl, refl)
 both true false e = absurd cc
 both false b e = absurd cc
@@ -253,7 +253,7 @@ other_protocol : (p q : ℕ) → (p ≡ 6) ⊎ (p ≡ 17) → q ≢ 6 → q ≢ 
 other_protocol p q (inl e) six seventeen same = six (sym same ∙ e)
 other_protocol p q (inr e) six seventeen same = seventeen (sym same ∙ e)
 
-no_message : (p behind : ℕ) (len : ℕ) → p ≢ 58 → p ≢ 0 →
+pub no_message : (p behind : ℕ) (len : ℕ) → p ≢ 58 → p ≢ 0 →
     (if p == 58 then Some 54 else if (p == 0) && (behind == 58) then Some len else None) ≡ None
 no_message p behind len message options =
     let m : (p == 58) ≡ false = grind (arith, nat_tests) in
@@ -264,7 +264,7 @@ chosen_v6 : {A : Type 0} (short arp ip six : Bool) (a b c d e : A) → short ≡
     (if short then a else if arp then b else if ip then c else if six then d else e) ≡ d
 chosen_v6 short arp ip six a b c d e s r i x = rw (s, r, i, x) refl
 
-kind_v6 : (frame : List ℕ) → 42 ≤ length frame → u16_at frame 12 ≡ 0x86dd → kind_of frame ≡ kind_of_ipv6 frame
+pub kind_v6 : (frame : List ℕ) → 42 ≤ length frame → u16_at frame 12 ≡ 0x86dd → kind_of frame ≡ kind_of_ipv6 frame
 kind_v6 frame long type =
     let s : nat_lt (length frame) 42 ≡ false = grind (arith, nat_tests) in
     let r : (u16_at frame 12 == 0x0806) ≡ false = rw type refl in

@@ -17,7 +17,7 @@ use Rattle.guard.specs.Guard.{is_own, is_usual, asks_for, asks_nobody, is_expect
 use Rattle.guard.specs.Laws.{Arrival, AreWithin, passes, after, passed, is_strange, asks, is_query, is_strange_kind, asks_kind, is_query_kind, FewNeighborsPass, FewDiscoveriesPass, FewQueriesPass}
 
 -- a bucket after a token was taken
-abbrev less : ℕ → Bucket → Bucket
+abbrev pub less : ℕ → Bucket → Bucket
 less now b = record b { full_at = max b.full_at now + b.interval }
 
 -- hearing a router changes no rate
@@ -34,7 +34,7 @@ pub data TakesToken (now : ℕ) (passes : Bool) (old new : Bucket) : Type 0 wher
   Passed : passes ≡ true → has_token now old ≡ true → new ≡ less now old → TakesToken now passes old new
   Stayed : passes ≡ false → new ≡ old → TakesToken now passes old new
 
-one_more : (k i f f' now first last room : ℕ) → f' ≡ max f now + i → f - now + i ≤ room → first ≤ now → now ≤ last →
+pub one_more : (k i f f' now first last room : ℕ) → f' ≡ max f now + i → f - now + i ≤ room → first ≤ now → now ≤ last →
     k * i + max f' first ≤ max (last + room) (max f' first) → suc k * i + max f first ≤ max (last + room) (max f first)
 one_more k i f f' now first last room e t l h later = omega (arith, e, t, l, h, later)
 
@@ -69,7 +69,7 @@ module _ (sort : Arrival → Guard → Bool) (bucket : Guard → Bucket)
   few g first last arrivals l within = let all = bounded g first last arrivals l within in omega (arith, all)
 
 -- a rate whose interval is 0, and one that takes a token where it has one
-abbrev passing : (off token : Bool) → ℕ → Bucket → Bucket
+abbrev pub passing : (off token : Bool) → ℕ → Bucket → Bucket
 passing off token now b = if off then b else if token then less now b else b
 
 rate_takes : (off token : Bool) (now : ℕ) (b : Bucket) → (b.interval == 0) ≡ off → has_token now b ≡ token → (other : Reason) →

@@ -97,6 +97,10 @@ FewQueriesPass =
     (g : Guard) (first last : ℕ) (arrivals : List Arrival) → first ≤ last → AreWithin first last arrivals →
     passed is_query g arrivals * g.queries.interval ≤ (last - first) + g.queries.depth * g.queries.interval
 
+-- What doesn't pass changes nothing of the guard
+abbrev pub DroppedChangeNothing : Type 0
+DroppedChangeNothing = (a : Arrival) (g : Guard) → passes a g ≡ false → after a g ≡ g
+
 -- A frame that is neither an ARP packet nor an IP packet passes, and changes nothing
 abbrev pub OthersPass : Type 0
 OthersPass =

@@ -4,4 +4,7 @@ pub mod Pins
 pub mod Guard
 pub mod Answers
 pub mod Laws
+pub mod Ipv6
+pub mod Ipv6Laws
+pub mod AnswerLaws
 pub mod Watch

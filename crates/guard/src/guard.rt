@@ -1,19 +1,20 @@
 //! Which frames a host gets to see.
 ghost use Rattle.std.specs.Prelude.{◌≡◌, None};
 ghost use Rattle.net_base.specs.Time.{IsMoment};
+ghost use Rattle.ip_address.specs.Cidr.{address_of};
 ghost use Rattle.socket_base.specs.Source.{is_same};
 ghost use Rattle.guard.specs.Guard as spec;
 ghost use Rattle.guard.specs.Kind as kind;
 
 use crate::claim::{comes_back, is_from_host};
-use crate::kind::{Kind, Sort, asked_in, ipv4_at, kind_of, sort_of_ipv4, sort_of_ipv6};
+use crate::kind::{Kind, Sort, asked_in, kind_of, sort_of_ipv4, sort_of_ipv6};
 use crate::pins::Pins;
 use iface_tables::neighbor::Cache;
-use ip_address::{HardwareAddress, IpAddress, IpCidr};
+use ip_address::{HardwareAddress, IpAddress, IpCidr, Ipv6Address};
 use ipv6_wire::ipv6_packet::address_at;
 use net_base::time::Instant;
 use token_bucket::bucket::Bucket;
-use wire_base::octets::u16_at;
+use wire_base::octets::{u16_at, u32_at};
 
 /// How long an answer to a request for a hardware address is expected, in microseconds.
 const ANSWER_TIME: u64 = 3_000_000;
@@ -333,9 +334,8 @@ fn is_ordinary(frame: &[u8], own: &[IpCidr]) -> bool
         return false;
     }
     match u16_at(frame, 12) {
-        0x0800 => is_transport(sort_of_ipv4(frame)) && !is_own(own, &ipv4_at(frame, 26)),
-        0x86dd => is_transport(sort_of_ipv6(frame))
-            && !is_own(own, &IpAddress::Ipv6(address_at(frame, 22))),
+        0x0800 => is_transport(sort_of_ipv4(frame)) && !is_own_ipv4(own, u32_at(frame, 26)),
+        0x86dd => is_transport(sort_of_ipv6(frame)) && !is_own_ipv6(own, address_at(frame, 22)),
         _ => false,
     }
 }
@@ -386,6 +386,44 @@ fn is_own(own: &[IpCidr], address: &IpAddress) -> bool
     ensures { result ≡ spec.is_own own.now address.now }
 {
     own.iter().any(|cidr| is_same(&cidr.address(), address))
+}
+
+/// Whether an IPv4 address is one of the host's. For this family alone it takes fewer instructions than [`is_own`].
+#[inline(always)]
+fn is_own_ipv4(own: &[IpCidr], bits: u32) -> bool
+    ensures { result ≡ spec.is_own own.now (IpAddress.Ipv4 (record { bits = bits })) }
+{
+    own.iter().any(|cidr| has_ipv4(cidr, bits))
+}
+
+/// Likewise of an IPv6 address.
+#[inline(always)]
+fn is_own_ipv6(own: &[IpCidr], address: Ipv6Address) -> bool
+    ensures { result ≡ spec.is_own own.now (IpAddress.Ipv6 address) }
+{
+    own.iter().any(|cidr| has_ipv6(cidr, address))
+}
+
+/// Whether an address of the host's is this IPv4 address.
+#[inline(always)]
+fn has_ipv4(cidr: &IpCidr, bits: u32) -> bool
+    ensures { result ≡ is_same (address_of cidr.now) (IpAddress.Ipv4 (record { bits = bits })) }
+{
+    match cidr {
+        IpCidr::Ipv4(cidr) => cidr.address.bits == bits,
+        IpCidr::Ipv6(_) => false,
+    }
+}
+
+/// Whether an address of the host's is this IPv6 address.
+#[inline(always)]
+fn has_ipv6(cidr: &IpCidr, address: Ipv6Address) -> bool
+    ensures { result ≡ is_same (address_of cidr.now) (IpAddress.Ipv6 address) }
+{
+    match cidr {
+        IpCidr::Ipv4(_) => false,
+        IpCidr::Ipv6(cidr) => cidr.address.bits == address.bits,
+    }
 }
 
 /// Whether an address, if there is one, is one of the host's.

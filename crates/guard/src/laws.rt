@@ -1,5 +1,8 @@
 //! What a guard promises, whatever frames come, each law as the contract of an empty function.
-ghost use Rattle.guard.specs.Laws.{FewNeighborsPass, FewDiscoveriesPass, FewQueriesPass, KnownArpPass, KnownPass, LoopsEnd, OthersPass, OwnAddressesStay, PinnedStay, RoutersStay};
+ghost use Rattle.guard.specs.AnswerLaws.{ErrorsAreShort, FewAnswersGo, OtherAnswersGo};
+ghost use Rattle.guard.specs.Ipv6Laws.{Ipv6LoopsEnd, KnownMessagesPass, OwnMessagesStay, PinnedMessagesStay, StreamsPass};
+ghost use Rattle.guard.specs.Laws.{DroppedChangeNothing, FewDiscoveriesPass, FewNeighborsPass, FewQueriesPass};
+ghost use Rattle.guard.specs.Laws.{KnownArpPass, KnownPass, LoopsEnd, OthersPass, OwnAddressesStay, PinnedStay, RoutersStay};
 
 /// Of ARP packets for own addresses, and neighbour messages, of somebody that isn't known and wasn't asked for, so many pass from one instant to another:
 /// as many as the rate's depth, and one for each of its intervals.
@@ -15,6 +18,11 @@ pub fn few_discoveries_pass()
 /// Likewise of queries of IGMP and MLD.
 pub fn few_queries_pass()
     ensures { FewQueriesPass }
+{}
+
+/// What doesn't pass changes nothing of the guard: it takes no token, and is noted nowhere.
+pub fn dropped_change_nothing()
+    ensures { DroppedChangeNothing }
 {}
 
 /// A frame that is neither an ARP packet nor an IP packet passes.
@@ -52,4 +60,47 @@ pub fn pinned_stay()
 /// After a router's advertisement passed as that of another one, the next other one waits for the time between two.
 pub fn routers_stay()
     ensures { RoutersStay }
+{}
+
+/// A neighbour message over IPv6 that claims an own address, as its source or as what it advertises, passes only if it comes from
+/// the own hardware address, and tells no other.
+pub fn own_messages_stay()
+    ensures { OwnMessagesStay }
+{}
+
+/// A neighbour message of a pinned neighbour passes only if it tells no other hardware address than the pinned one.
+pub fn pinned_messages_stay()
+    ensures { PinnedMessagesStay }
+{}
+
+/// A neighbour message of a known neighbour passes, if it claims no own address, and tells no other hardware address than the one that
+/// the neighbour is pinned to, if it is.
+pub fn known_messages_pass()
+    ensures { KnownMessagesPass }
+{}
+
+/// Over IPv6 a segment of TCP passes, and a datagram of UDP that doesn't go to and fro, if its source is no own address.
+pub fn streams_pass()
+    ensures { StreamsPass }
+{}
+
+/// A datagram of UDP over IPv6 that could go to and fro for ever doesn't pass, if its source is no own address.
+pub fn ipv6_loops_end()
+    ensures { Ipv6LoopsEnd }
+{}
+
+/// Of echo replies, of errors and of resets so many are sent in response from one instant to another: as many as the rate's depth, and
+/// one for each of its intervals.
+pub fn few_answers_go()
+    ensures { FewAnswersGo }
+{}
+
+/// An error that is sent in response is no more than so many times as long as the frame which it answers.
+pub fn errors_are_short()
+    ensures { ErrorsAreShort }
+{}
+
+/// A response that is none of these is sent, and takes no token.
+pub fn other_answers_go()
+    ensures { OtherAnswersGo }
 {}

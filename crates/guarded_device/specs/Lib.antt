@@ -1,0 +1,3 @@
+pub mod Guarded
+pub mod GuardedLaws
+pub mod Laws
