@@ -1,5 +1,5 @@
 -- What the calls of a resolver do.
-use Rattle.std.specs.Prelude.{ℕ, ◌≡◌, ◌+◌, ◌%◌, ◌^◌, ◌&&◌, nat_le, min, Bool, true, false, is_some, List, [], ◌∷◌, length, replicate}
+use Rattle.std.specs.Prelude.{ℕ, ◌≡◌, ◌==◌, ◌+◌, ◌/◌, ◌%◌, ◌^◌, ◌&&◌, not, nat_le, min, Bool, true, false, is_some, List, [], ◌∷◌, length, replicate}
 use Rattle.std.specs.Prelude.{slice_get, slice_index_or, slice_set, Option, Some, None, Result, Ok, Err, if◌then◌else◌}
 use Rattle.std.specs.List.{position}
 use Rattle.std.specs.Option.{option_map}
@@ -56,6 +56,13 @@ start_refusal r name =
 -- the random number of a query, after so many others
 abbrev pub drawn : SipKey → ℕ → ℕ
 drawn key started = sip_hash key (started ∷ []) % 0x1_0000_0000
+
+-- the port of the query that is started next
+abbrev pub next_port : Queries → ℕ
+next_port r = 0xc000 + drawn r.key r.started / 0x1_0000 % 0x4000
+
+abbrev pub has_server : Queries → Bool
+has_server r = not (length r.servers == 0)
 
 -- a query is started in the first free place
 pub record Starts (now : ℕ) (name : List ℕ) (type : DnsType) (place : ℕ) (old new : Queries) : Type 0 where

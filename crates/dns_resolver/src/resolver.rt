@@ -128,7 +128,7 @@ pub struct DnsMessage {
 
 /// Queries, as many at once as it has places. Instants are in microseconds, since an origin of the caller's choice.
 ///
-/// It takes memory when it is made, and never later. In contracts it is its servers, its key, how many queries were started, and
+/// It takes memory when it is made and when its servers are set, and never else. In contracts it is its servers, its key, how many queries were started, and
 /// its places.
 #[derive(Drop)]
 pub struct Resolver {
@@ -173,6 +173,39 @@ impl Resolver {
             started: 0,
             places: free,
         })
+    }
+
+    /// Sets the servers. Queries that wait go on with these: each asks the one whose turn it is, and no answer of another counts.
+    /// It fails exactly if memory is refused; then nothing changes.
+    pub fn set_servers(&mut self, alloc: Global, servers: &[IpAddress]) -> Result<(), AllocError>
+        ensures set { OnOk result (self.new ≡ record self.old { servers = servers.now }) }
+        ensures refused { OnErr result (self.new ≡ self.old) }
+    {
+        self.servers = Vec::from_slice(alloc, servers)?;
+        Ok(())
+    }
+
+    /// Whether there is a server.
+    pub fn has_server(&self) -> bool
+        ensures { result ≡ spec.has_server self.now }
+    {
+        !self.servers.is_empty()
+    }
+
+    /// Whether a place has no query.
+    pub fn has_free_place(&self) -> bool
+        ensures { result ≡ is_some (spec.free_in self.now.places) }
+    {
+        free_place(&self.places).is_some()
+    }
+
+    /// The port that the query is to be sent from which is started next.
+    pub fn next_port(&self) -> u16
+        ensures port { result ≡ spec.next_port self.now }
+        ensures dynamic { 49152 ≤ result }
+    {
+        // Which moment it begins at, and what it asks for, doesn't matter.
+        DnsQuery::new(0, DnsType::A, drawn(&self.key, self.started)).source_port
     }
 
     /// Starts a query of a name's addresses at an instant, in the first free place. `InvalidName` if the octets aren't a whole

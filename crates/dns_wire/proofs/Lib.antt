@@ -1,2 +1,4 @@
 pub mod MessageAgain
 pub mod Reading
+pub mod TextAgain
+pub mod Writing

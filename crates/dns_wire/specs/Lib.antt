@@ -1,3 +1,4 @@
 pub mod Message
 pub mod Names
 pub mod Record
+pub mod Text

@@ -1,0 +1,64 @@
+-- A client of DNS for a host: how it is made, and how its sockets go.
+use Rattle.std.specs.Prelude.{ℕ, zero, suc, ℤ, ◌≡◌, ◌+◌, pos, min, List, length, slice_set, slice_index_or, replicate, Option, Some, None}
+use Rattle.std.specs.Option.{option_map}
+use Rattle.ip_address.specs.declared.ip.IpAddress.{IpAddress}
+use Rattle.tcp_host.specs.declared.sip_hash.SipKey.{SipKey}
+use Rattle.dns_resolver.specs.Places.{Queries}
+use Rattle.dns_resolver.specs.Resolver as resolver
+use Rattle.dns_resolver.specs.Resolver.{with_place}
+use Rattle.iface_host.specs.Refusals.{close_refusal}
+use Rattle.iface_host.specs.Sockets as sockets
+use Rattle.iface_host.specs.declared.host.Host.{Host}
+use Rattle.iface_host.specs.declared.refusal.Refusal.{Refusal}
+use Rattle.iface_dns.specs.declared.dns.Dns.{Dns}
+
+-- at first there are no queries, and no sockets
+abbrev pub new_dns : List IpAddress → ℕ → SipKey → Dns
+new_dns servers queries key = record { resolver = resolver.first servers queries key; sockets = replicate queries None }
+
+abbrev pub with_resolver : Queries → Dns → Dns
+with_resolver r d = record d { resolver = r }
+
+abbrev pub with_servers : List IpAddress → Dns → Dns
+with_servers servers d = with_resolver (record d.resolver { servers = servers }) d
+
+-- the socket of a place, if it has one
+abbrev pub socket_at : Dns → ℕ → Option ℕ
+socket_at d place = slice_index_or d.sockets place None
+
+abbrev pub with_socket : ℕ → Option ℕ → Dns → Dns
+with_socket place number d = record d { sockets = slice_set d.sockets place number }
+
+-- when something is due, up to the last moment
+abbrev pub poll_at : Dns → Option ℤ
+poll_at d = option_map (λ at. pos (min at 0x4000_0000_0000_0000)) (resolver.poll_at d.resolver)
+
+-- what a call of the host does unless it is refused, when it leaves the host as it is
+abbrev pub Unless : Option Refusal → (Host → Host → Type 0) → Host → Host → Type 0
+Unless None Step old new = Step old new
+Unless (Some refusal) Step old new = new ≡ old
+
+-- a socket is closed, if it is open
+abbrev pub ClosesOne : ℕ → Host → Host → Type 0
+ClosesOne n old new = Unless (close_refusal old n) (sockets.Closes n) old new
+
+-- that of a place is closed, if it has one
+abbrev pub ClosesIf : Option ℕ → ℕ → Dns → Dns → Host → Host → Type 0
+ClosesIf None place d d' old new = (d' ≡ d) × (new ≡ old)
+ClosesIf (Some n) place d d' old new = (d' ≡ with_socket place None d) × ClosesOne n old new
+
+abbrev pub ClosesAt : ℕ → Dns → Dns → Host → Host → Type 0
+ClosesAt place d = ClosesIf (socket_at d place) place d
+
+-- those of so many places from one on, one after another
+pub data ClosesFrom : ℕ → ℕ → Dns → Dns → Host → Host → Type 0 where
+  NoMore : {place : ℕ} {d : Dns} {host : Host} → ClosesFrom zero place d d host host
+  OneMore : {k place : ℕ} {d between d' : Dns} {old mid new : Host} → ClosesAt place d between old mid →
+      ClosesFrom k (place + 1) between d' mid new → ClosesFrom (suc k) place d d' old new
+
+abbrev pub Closes : Dns → Dns → Host → Host → Type 0
+Closes d = ClosesFrom (length d.sockets) 0 d
+
+-- a query is cancelled, and its socket closed
+abbrev pub Cancels : ℕ → Dns → Dns → Host → Host → Type 0
+Cancels place d = ClosesAt place (with_resolver (with_place place None d.resolver) d)

@@ -1,0 +1,5 @@
+pub mod Dns
+pub mod Hear
+pub mod Ask
+pub mod Poll
+pub mod Start

@@ -1,0 +1,79 @@
+-- How queries are started.
+use Rattle.std.specs.Prelude.{ℕ, ℤ, ◌≡◌, pos, is_some, true, List, Option, Some, None, if◌then◌else◌}
+use Rattle.std.specs.Option.{option_map}
+use Rattle.socket_base.specs.declared.endpoint.IpListenEndpoint.{IpListenEndpoint}
+use Rattle.dns_wire.specs.Text.{name_in}
+use Rattle.dns_wire.specs.declared.message.DnsType.{DnsType}
+use Rattle.dns_resolver.specs.Places.{Queries}
+use Rattle.dns_resolver.specs.Resolver as resolver
+use Rattle.dns_resolver.specs.Resolver.{free_in, has_server, next_port}
+use Rattle.iface_host.specs.Refusals.{moment_refusal}
+use Rattle.iface_host.specs.Sockets.{Opens, udp}
+use Rattle.iface_host.specs.TableRefusals as table
+use Rattle.iface_host.specs.declared.host.Host.{Host}
+use Rattle.iface_host.specs.declared.opening.Rooms.{Rooms}
+use Rattle.iface_host.specs.declared.refusal.Refusal.{Refusal}
+use Rattle.iface_host.specs.declared.refusal.Refusal.TheVariants.{TableFull}
+use Rattle.iface_dns.specs.Dns.{with_resolver, with_socket}
+use Rattle.iface_dns.specs.declared.dns.Dns.{Dns}
+use Rattle.iface_dns.specs.declared.start.StartRefusal as refusal
+use Rattle.iface_dns.specs.declared.start.StartRefusal.TheVariants.{Refused, BadName, NoServer}
+
+abbrev pub StartRefusal : Type 0
+StartRefusal = refusal.StartRefusal
+
+-- room for four answers that came, or two of the greatest length, and for one question
+abbrev pub rooms : Rooms
+rooms = record { received = record { packets = 4; octets = 1024 }; to_send = record { packets = 1; octets = 271 } }
+
+abbrev pub local : Dns → IpListenEndpoint
+local d = record { addr = None; port = next_port d.resolver }
+
+-- the socket of the query that is started next
+abbrev pub OpensNext : Dns → ℕ → Host → Host → Type 0
+OpensNext d = Opens (udp (local d) rooms)
+
+abbrev pub opening_refusal : Host → Option Refusal
+opening_refusal host = table.opening_refusal host
+
+-- each place has a query
+abbrev pub place_refusal : Queries → Option StartRefusal
+place_refusal r = if is_some (free_in r.places) then None else Some (Refused TableFull)
+
+-- the text is no name, or there is no server, or no place
+abbrev pub name_refusal : Option (List ℕ) → Queries → Option StartRefusal
+name_refusal None r = Some BadName
+name_refusal (Some name) r = if has_server r then place_refusal r else Some NoServer
+
+abbrev pub first_reason : Option Refusal → Option StartRefusal → Option StartRefusal
+first_reason None second = second
+first_reason (Some e) second = Some (Refused e)
+
+abbrev pub read_refusal : ℤ → List ℕ → Dns → Option StartRefusal
+read_refusal now text d = first_reason (moment_refusal now) (name_refusal (name_in text) d.resolver)
+
+-- the first reason of these, or else that the host has no place for a socket
+abbrev pub or_else : Option StartRefusal → Option Refusal → Option StartRefusal
+or_else None second = option_map (λ e. Refused e) second
+or_else (Some e) second = Some e
+
+abbrev pub start_refusal : ℤ → List ℕ → Dns → Host → Option StartRefusal
+start_refusal now text d host = or_else (read_refusal now text d) (opening_refusal host)
+
+-- a moment and a text were read, and a query may be started
+pub record Reads (now : ℤ) (text : List ℕ) (d : Dns) (micros : ℕ) (name : List ℕ) : Type 0 where
+  pub is_now : pos micros ≡ now
+  pub name_is : name_in text ≡ Some name
+  pub place : is_some (free_in d.resolver.places) ≡ true
+
+-- a query is started in the first free place, and has a socket at its port
+pub record Starts (now : ℤ) (text : List ℕ) (type : DnsType) (place : ℕ) (d d' : Dns) (old new : Host) : Type 0 where
+  pub micros : ℕ
+  pub name : List ℕ
+  pub number : ℕ
+  pub queries : Queries
+  pub is_now : pos micros ≡ now
+  pub name_is : name_in text ≡ Some name
+  pub opens : OpensNext d number old new
+  pub starts : resolver.Starts micros name type place d.resolver queries
+  pub after : d' ≡ with_socket place (Some number) (with_resolver queries d)

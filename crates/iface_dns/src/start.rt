@@ -1,0 +1,113 @@
+//! How queries are started.
+ghost use Rattle.std.specs.Prelude.{◌≡◌, ◌≤◌, IfOk, IfErr, OnErr, None, Some};
+ghost use Rattle.std.specs.Result.{IsErrOf, result_err};
+ghost use Rattle.iface_dns.specs.Start as spec;
+ghost use Rattle.iface_dns.specs.declared.start.StartRefusal.TheVariants.{Refused};
+ghost use Rattle.iface_host.specs.declared.refusal.Refusal.{Refusal};
+
+use crate::dns::Dns;
+use crate::hear::RECEIVED_LEN;
+use dns_resolver::QueryHandle;
+use dns_wire::DnsType;
+use dns_wire::message::MAX_QUERY_LEN;
+use dns_wire::text::{Name, name_of};
+use iface_host::streams::micros_of;
+use iface_host::{Host, Refusal, Room, Rooms};
+use sockets::IpListenEndpoint;
+
+/// What a query's socket holds: some answers that came, and one question.
+const ROOMS: Rooms = Rooms {
+    received: Room {
+        packets: 4,
+        octets: RECEIVED_LEN,
+    },
+    to_send: Room {
+        packets: 1,
+        octets: MAX_QUERY_LEN,
+    },
+};
+
+/// Why a query isn't started.
+#[derive(Clone, Copy, Debug, PartialEq, Eq)]
+pub enum StartRefusal {
+    /// For a reason that calls of the host have too.
+    Refused(Refusal),
+    /// The text is no name.
+    BadName,
+    /// There is no server to ask.
+    NoServer,
+}
+
+impl Dns {
+    /// Starts a query of a name's addresses at a moment, as `www.example.com`, in the first free place, and opens its socket at a
+    /// port that comes of the key. The first that applies: `BadMoment` if the moment is out of range; `BadName` if the text is no
+    /// name, as [`name_of`] says; `NoServer` if there is none; `TableFull` if each place has a query, or no number or no place for a
+    /// socket is left; `NoMemory` if memory for the socket is refused. Then nothing changes.
+    ///
+    /// The query stays until it is cancelled. The next poll sends its first message.
+    pub fn start(
+        &mut self,
+        host: &mut Host,
+        now: i64,
+        text: &[u8],
+        query_type: DnsType,
+    ) -> Result<QueryHandle, StartRefusal>
+        ensures started { IfOk result (λ handle.
+            spec.Starts now text.now query_type handle.place self.old self.new host.old host.new) }
+        ensures why { (e : spec.StartRefusal) → spec.start_refusal now text.now self.old host.old ≡ Some e → IsErrOf result e }
+        ensures memory { spec.start_refusal now text.now self.old host.old ≡ None → IfErr result (λ e. e ≡ Refused Refusal.NoMemory) }
+        ensures refused { OnErr result (self.new ≡ self.old) }
+        ensures host { OnErr result (host.new ≡ host.old) }
+    {
+        let (micros, name) = self.read(now, text)?;
+        let number = match self.open_next(host) {
+            Ok(number) => number,
+            Err(refusal) => return Err(StartRefusal::Refused(refusal)),
+        };
+        match self
+            .resolver
+            .start_query(micros, name.as_slice(), query_type)
+        {
+            Ok(handle) => {
+                self.sockets.set(handle.place, Some(number));
+                Ok(handle)
+            }
+            Err(_) => Err(StartRefusal::BadName),
+        }
+    }
+
+    /// The microseconds of a moment and the name that a text is, if a query may be started. It fails as [`Dns::start`] says.
+    fn read(&self, now: i64, text: &[u8]) -> Result<(u64, Name), StartRefusal>
+        ensures read { IfOk result (λ r. spec.Reads now text.now self.now r.0 r.1.items) }
+        ensures why { result_err result ≡ spec.read_refusal now text.now self.now }
+    {
+        let micros = match micros_of(now) {
+            Ok(micros) => micros,
+            Err(refusal) => return Err(StartRefusal::Refused(refusal)),
+        };
+        let Some(name) = name_of(text) else {
+            return Err(StartRefusal::BadName);
+        };
+        if !self.resolver.has_server() {
+            return Err(StartRefusal::NoServer);
+        }
+        if !self.resolver.has_free_place() {
+            return Err(StartRefusal::Refused(Refusal::TableFull));
+        }
+        Ok((micros, name))
+    }
+
+    /// Opens the socket of the query that is started next, at any address of the host.
+    fn open_next(&self, host: &mut Host) -> Result<u32, Refusal>
+        ensures opened { IfOk result (λ number. spec.OpensNext self.now number host.old host.new) }
+        ensures why { (e : Refusal) → spec.opening_refusal host.old ≡ Some e → IsErrOf result e }
+        ensures memory { spec.opening_refusal host.old ≡ None → IfErr result (λ e. e ≡ Refusal.NoMemory) }
+        ensures refused { OnErr result (host.new ≡ host.old) }
+    {
+        let local = IpListenEndpoint {
+            addr: None,
+            port: self.resolver.next_port(),
+        };
+        host.open_udp(local, ROOMS)
+    }
+}
