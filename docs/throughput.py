@@ -96,12 +96,12 @@ def line(scale, points, kind, dashes=""):
 
 def draw(settings, measured):
     scale, title = Scale(settings, measured), "Throughput over loss"
-    each = "each segment" if settings["each"] == 1 else "each second segment"
+    each, factor = ("each segment", "√(3/2)") if settings["each"] == 1 else ("each second segment", "√(3/4)")
     parts = [
         text(20, 32, title, "title"),
         text(20, 54, f"MSS {settings['mss']:g} octets, round trip {settings['rtt'] / 1000:g} ms, {each} acknowledged", "note"),
         '<rect class="p0" x="20" y="66" width="14" height="4"/>', text(40, 73, "measured"),
-        '<rect class="p1" x="140" y="66" width="14" height="4"/>', text(160, 73, "Mathis et al., 1997"),
+        '<rect class="p1" x="140" y="66" width="14" height="4"/>', text(160, 73, f"Mathis et al., 1997, by C = {factor}"),
     ]
     for power in range(scale.low, scale.high + 1):
         y = scale.down(10.0**power / 8)

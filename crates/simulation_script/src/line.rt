@@ -1,8 +1,8 @@
 //! The lines of a script.
 
 use crate::script::{
-    Flow, HostLine, Leave, MAX_COLUMNS, Outage, OutsideFrame, Pace, Ping, Rate, RawPacket, Router,
-    Script, Section, Treatment,
+    Flow, HostLine, Leave, Listener, MAX_COLUMNS, MAX_STREAMS, Outage, OutsideFrame, Pace, Ping,
+    Rate, RawPacket, Router, Script, Section, Stream, Treatment,
 };
 use crate::words::Words;
 use anyhow::{Context, Result, bail};
@@ -25,6 +25,9 @@ const MAX_KILOBITS: u64 = 1_000_000_000;
 
 /// The most echo requests of a line, which are numbered by 16 bits.
 const MAX_PINGS: u64 = 65_536;
+
+/// The most octets of a stream.
+const MAX_OCTETS: u64 = 1_000_000_000;
 
 /// The longest lifetime of a router, in seconds (RFC 4861 6.2.1).
 const MAX_LIFETIME: u64 = 9_000;
@@ -68,6 +71,8 @@ fn read_line(alloc: Global, script: &mut Script, line: &str) -> Result<()> {
         "router" => read_router(script, &mut words)?,
         "send" => read_flow(script, &mut words)?,
         "ping" => read_ping(script, &mut words)?,
+        "listen" => read_listener(script, &mut words)?,
+        "stream" => read_stream(script, &mut words)?,
         "raw" => read_packet(alloc, script, &mut words)?,
         "frame" => read_frame(alloc, script, &mut words)?,
         "leave" => read_leave(script, &mut words)?,
@@ -359,6 +364,45 @@ fn read_ping(script: &mut Script, words: &mut Words<'_>) -> Result<()> {
         pace: pace_in(words, MAX_PINGS)?,
     };
     script.pings.push(ping)?;
+    Ok(())
+}
+
+/// Reads a port at which a host accepts connections.
+fn read_listener(script: &mut Script, words: &mut Words<'_>) -> Result<()> {
+    let host = host_in(script, words)?;
+    let port = port_in(words)?;
+    if script.listens(host, port) {
+        bail!("the host listens at {port} already");
+    }
+    script.listeners.push(Listener { host, port })?;
+    Ok(())
+}
+
+/// Reads a connection by which a host sends.
+fn read_stream(script: &mut Script, words: &mut Words<'_>) -> Result<()> {
+    let host = host_in(script, words)?;
+    let addr = words.address()?;
+    let own = script
+        .hosts
+        .get(host)
+        .and_then(|line| line.address_for(&addr));
+    let Some(local) = own else {
+        bail!("the host has no address from which {addr} is reached");
+    };
+    let stream = Stream {
+        host,
+        local,
+        remote: IpEndpoint {
+            addr,
+            port: port_in(words)?,
+        },
+        octets: words.number(MAX_OCTETS)?,
+        start: words.number(LATEST)?,
+    };
+    if script.streams.len() >= MAX_STREAMS {
+        bail!("too many streams");
+    }
+    script.streams.push(stream)?;
     Ok(())
 }
 

@@ -17,6 +17,9 @@ pub const MAX_OUTAGES: usize = 8;
 /// The most hosts that have a column of their own in a chart.
 pub const MAX_COLUMNS: usize = 12;
 
+/// The most streams of a script: each has a port of its own.
+pub const MAX_STREAMS: usize = 16_384;
+
 /// How the link treats each copy of a frame. Chances are per mille, times in microseconds.
 #[derive(Clone, Copy)]
 pub struct Treatment {
@@ -94,6 +97,25 @@ pub struct HostLine {
     pub outages: ArrayVec<Outage, MAX_OUTAGES>,
 }
 
+impl HostLine {
+    /// The address from which it connects to another one: the first whose network has that, or else the first of its
+    /// family. `None` if it has none of that family.
+    pub fn address_for(&self, remote: &IpAddress) -> Option<IpAddress> {
+        let addresses = self.addresses.as_slice();
+        let near = addresses.iter().find(|own| own.contains_addr(remote));
+        let found = near.or_else(|| addresses.iter().find(|own| is_same_family(own, remote)));
+        Some(found?.address())
+    }
+}
+
+/// Whether two addresses are of one family.
+fn is_same_family(own: &IpCidr, remote: &IpAddress) -> bool {
+    matches!(
+        (own, remote),
+        (IpCidr::Ipv4(_), IpAddress::Ipv4(_)) | (IpCidr::Ipv6(_), IpAddress::Ipv6(_))
+    )
+}
+
 /// How many of something are sent, and when.
 #[derive(Clone, Copy)]
 pub struct Pace {
@@ -131,6 +153,30 @@ pub struct Ping {
     pub remote: IpAddress,
     /// How many it sends, and when.
     pub pace: Pace,
+}
+
+/// A port at which a host accepts connections of TCP.
+#[derive(Clone, Copy)]
+pub struct Listener {
+    /// The number of the host.
+    pub host: usize,
+    /// The port.
+    pub port: u16,
+}
+
+/// A connection of TCP by which a host sends octets.
+#[derive(Clone, Copy)]
+pub struct Stream {
+    /// The number of the host that connects.
+    pub host: usize,
+    /// The address from which it does.
+    pub local: IpAddress,
+    /// Where it connects to.
+    pub remote: IpEndpoint,
+    /// How many octets it sends.
+    pub octets: u64,
+    /// When it connects, in microseconds.
+    pub start: u64,
 }
 
 /// A host that advertises a prefix as a router (RFC 4861 6.2).
@@ -211,6 +257,10 @@ pub struct Script {
     pub flows: Vec<Flow>,
     /// The echo requests.
     pub pings: Vec<Ping>,
+    /// The ports at which hosts accept connections.
+    pub listeners: Vec<Listener>,
+    /// The connections by which hosts send.
+    pub streams: Vec<Stream>,
     /// The routers.
     pub routers: Vec<Router>,
     /// The packets of raw sockets.
@@ -234,6 +284,8 @@ impl Script {
             hosts: Vec::new(alloc),
             flows: Vec::new(alloc),
             pings: Vec::new(alloc),
+            listeners: Vec::new(alloc),
+            streams: Vec::new(alloc),
             routers: Vec::new(alloc),
             packets: Vec::new(alloc),
             frames: Vec::new(alloc),
@@ -266,6 +318,19 @@ impl Script {
     pub fn rate_of(&self, host: usize) -> Option<Rate> {
         let own = self.hosts.get(host).and_then(|line| line.rate);
         own.or(self.rate)
+    }
+
+    /// Whether a host accepts connections at a port.
+    pub fn listens(&self, host: usize, port: u16) -> bool {
+        self.listeners
+            .iter()
+            .any(|line| line.host == host && line.port == port)
+    }
+
+    /// Whether a host listens at a port at least, or sends a stream.
+    pub fn has_connections(&self, host: usize) -> bool {
+        self.listeners.iter().any(|line| line.host == host)
+            || self.streams.iter().any(|line| line.host == host)
     }
 
     /// Whether a host is cut off from the link at a time.

@@ -34,6 +34,7 @@ impl Simulation {
 
     /// A frame of a transmission is sent: a copy goes to each host that its destination names. Returns how many arrive.
     fn spread_frame<W: Write>(&mut self, number: usize, k: usize, output: &mut W) -> Result<usize> {
+        self.note_segment(number, k);
         let Some((from, label)) = self.kept(number, k) else {
             return Ok(0);
         };
@@ -57,6 +58,15 @@ impl Simulation {
             }
         }
         Ok(copies)
+    }
+
+    /// A segment of a stream that a host sends is counted.
+    fn note_segment(&mut self, number: usize, k: usize) {
+        if let Some(transmission) = self.network.transmission(number)
+            && let Some(frame) = transmission.frames.get(k)
+        {
+            self.transmissions.note(transmission.from, frame);
+        }
     }
 
     /// How long a frame of so many octets takes to leave a host; `None` if it is dropped.
@@ -143,7 +153,15 @@ impl Simulation {
     /// The sender and the kind of a kept frame.
     pub(crate) fn kept(&self, number: usize, k: usize) -> Option<(usize, Label)> {
         let from = self.network.transmission(number)?.from;
-        Some((from, Label::of(self.network.frame(number, k)?)))
+        Some((from, self.label_of(self.network.frame(number, k)?)))
+    }
+
+    /// What is said of a frame in a chart.
+    fn label_of(&self, frame: &[u8]) -> Label {
+        match self.transmissions.sight(frame) {
+            Some(sight) => Label::of_segment(frame, sight),
+            None => Label::of(frame),
+        }
     }
 
     /// How many frames a transmission has.

@@ -11,6 +11,7 @@ use anyhow::{Result, bail};
 use host_machine::{Answer, Command, PollIngressSingleResult};
 use net_base::phy::Device;
 use simulation_script::script::Pace;
+use simulation_streams::connections::earlier;
 use std::alloc::Global;
 use std::io::Write;
 
@@ -69,6 +70,7 @@ impl Simulation {
             self.poll(host)?;
             self.check_memory(host)?;
             self.spread(output)?;
+            self.exchange(host)?;
             match self.next_poll(host)? {
                 Some(time) if time <= self.now => {}
                 next => return self.plan_poll(host, next),
@@ -112,9 +114,26 @@ impl Simulation {
     /// When a host is to be polled next, in microseconds.
     fn next_poll(&mut self, host: usize) -> Result<Option<u64>> {
         match self.network.run(host, &Command::PollAt(instant(self.now))) {
-            Ok(answer) => Ok(time_in(&answer)),
+            Ok(answer) => Ok(earlier(time_in(&answer), self.next_exchange(host))),
             Err(error) => Err(error.into()),
         }
+    }
+
+    /// When something is due first at a host's connections, in microseconds.
+    fn next_exchange(&self, host: usize) -> Option<u64> {
+        self.network.hosts().get(host)?.owner.poll_at()
+    }
+
+    /// A host's connections take what came, and send what is due, if it has some.
+    fn exchange(&mut self, host: usize) -> Result<()> {
+        let Some(station) = self.network.hosts().get(host) else {
+            return Ok(());
+        };
+        if station.owner.connections.is_none() {
+            return Ok(());
+        }
+        self.act(host, Turn::Exchange(self.now))?;
+        self.check_memory(host)
     }
 
     /// Plans a poll of a host, in place of the one that was planned.
@@ -137,6 +156,7 @@ impl Simulation {
         self.spread(output)?;
         if answer == Answer::PollIngressSingle(PollIngressSingleResult::SocketStateChanged) {
             self.collect(host, output)?;
+            self.exchange(host)?;
         }
         match self.next_poll(host)? {
             Some(time) if time <= self.now => self.settle(host, output),

@@ -1,5 +1,6 @@
 //! Kinds of frames, by their octets.
 
+use simulation_streams::transmissions::Sight;
 use std::fmt::{self, Display, Formatter};
 
 /// What a frame carries.
@@ -21,6 +22,10 @@ pub enum Kind {
     OtherIpv4,
     /// A datagram of UDP over IPv6.
     UdpV6,
+    /// A segment of a stream over IPv4.
+    TcpV4,
+    /// A segment of a stream over IPv6.
+    TcpV6,
     /// A router solicitation (RFC 4861 4.1).
     RouterSolicitation,
     /// A router advertisement (RFC 4861 4.2).
@@ -40,7 +45,7 @@ pub enum Kind {
 }
 
 /// How many kinds there are.
-pub const KINDS: usize = 16;
+pub const KINDS: usize = 18;
 
 impl Kind {
     /// All kinds, by their numbers.
@@ -48,11 +53,13 @@ impl Kind {
         Kind::ArpRequest,
         Kind::ArpReply,
         Kind::UdpV4,
+        Kind::TcpV4,
         Kind::Fragment,
         Kind::Icmpv4,
         Kind::Igmp,
         Kind::OtherIpv4,
         Kind::UdpV6,
+        Kind::TcpV6,
         Kind::RouterSolicitation,
         Kind::RouterAdvertisement,
         Kind::NeighborSolicitation,
@@ -71,6 +78,14 @@ impl Kind {
             (0x08, 0x00) => Kind::of_ipv4(frame),
             (0x86, 0xdd) => Kind::of_ipv6(frame),
             _ => Kind::Other,
+        }
+    }
+
+    /// The kind of a frame with a segment of a stream, which is that of its version of IP.
+    fn of_segment(frame: &[u8]) -> Kind {
+        match octet(frame, 12) {
+            0x08 => Kind::TcpV4,
+            _ => Kind::TcpV6,
         }
     }
 
@@ -120,6 +135,8 @@ impl Kind {
             Kind::Igmp => "IGMP",
             Kind::OtherIpv4 => "other IPv4",
             Kind::UdpV6 => "UDP over IPv6",
+            Kind::TcpV4 => "TCP over IPv4",
+            Kind::TcpV6 => "TCP over IPv6",
             Kind::RouterSolicitation => "router solicitation",
             Kind::RouterAdvertisement => "router advertisement",
             Kind::NeighborSolicitation => "neighbour solicitation",
@@ -150,17 +167,21 @@ impl Kind {
             Kind::OtherIcmpv6 => 13,
             Kind::OtherIpv6 => 14,
             Kind::Other => 15,
+            Kind::TcpV4 => 16,
+            Kind::TcpV6 => 17,
         }
     }
 }
 
-/// What is said of a frame in a chart: its kind, and of a fragment where its payload begins (RFC 791 3.1).
+/// What is said of a frame in a chart: its kind, of a fragment where its payload begins (RFC 791 3.1), and of a segment what it
+/// says of its stream.
 #[derive(Clone, Copy)]
 pub struct Label {
     /// The kind of the frame.
     pub kind: Kind,
     // In octets.
     offset: u32,
+    sight: Option<Sight>,
 }
 
 impl Label {
@@ -171,6 +192,16 @@ impl Label {
         Label {
             kind: Kind::of(frame),
             offset: (high * 256 + low) * 8,
+            sight: None,
+        }
+    }
+
+    /// The label of a frame with a segment of a stream.
+    pub fn of_segment(frame: &[u8], sight: Sight) -> Label {
+        Label {
+            kind: Kind::of_segment(frame),
+            offset: 0,
+            sight: Some(sight),
         }
     }
 }
@@ -181,7 +212,31 @@ impl Display for Label {
         match self.kind {
             Kind::Fragment => write!(f, "{name} from octet {offset}"),
             _ => write!(f, "{name}"),
+        }?;
+        match &self.sight {
+            Some(sight) => write_sight(sight, f),
+            None => Ok(()),
         }
+    }
+}
+
+/// Writes what a segment says of its stream.
+fn write_sight<W: fmt::Write>(sight: &Sight, f: &mut Formatter<W>) -> fmt::Result {
+    if sight.rst {
+        write!(f, ", reset")?;
+    }
+    if sight.syn {
+        return write!(f, ", SYN");
+    }
+    if let Some((first, last)) = sight.places {
+        write!(f, ", octets {first} to {last}")?;
+    }
+    if sight.fin {
+        write!(f, ", FIN")?;
+    }
+    match sight.acknowledged {
+        Some(count) => write!(f, ", {count} acknowledged"),
+        None => Ok(()),
     }
 }
 

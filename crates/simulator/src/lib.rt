@@ -15,4 +15,5 @@ pub mod pending;
 pub mod report;
 pub mod simulation;
 pub mod station;
+pub mod streams;
 pub mod uplink;

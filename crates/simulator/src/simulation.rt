@@ -7,11 +7,12 @@ use crate::link::Link;
 use crate::pending::Pending;
 use crate::station::{self, Station};
 use crate::uplink::Uplink;
-use crate::{advertisement, capture, chart, report};
+use crate::{advertisement, capture, chart, report, streams};
 use anyhow::Result;
 use net_base::time::Instant;
 use network::Network;
 use simulation_script::script::{OutsideFrame, Script};
+use simulation_streams::transmissions::Transmissions;
 use std::alloc::Global;
 use std::collections::BTreeMap;
 use std::io::Write;
@@ -57,6 +58,8 @@ pub struct Simulation {
     // What each router sends, by the number of the frame in the script, and when it does so or did so last.
     pub(crate) advertisements: Vec<Advertisement>,
     pub(crate) counts: Counts,
+    // What was sent of each stream.
+    pub(crate) transmissions: Transmissions,
     // The number of the next transmission that the link gets.
     pub(crate) next: usize,
     pub(crate) now: u64,
@@ -97,6 +100,7 @@ impl Simulation {
             by_address.insert(script.hosts[number].hardware_addr.0, number)?;
         }
         let counts = Counts::new(alloc, &script)?;
+        let transmissions = Transmissions::new(alloc, &script)?;
         let wakes = vec![in alloc; None; script.hosts.len()]?;
         let mut uplinks = Vec::new(alloc);
         for _ in 0..script.hosts.len() {
@@ -117,6 +121,7 @@ impl Simulation {
             uplinks,
             advertisements: Vec::new(alloc),
             counts,
+            transmissions,
             next: 0,
             now: 0,
         })
@@ -216,6 +221,7 @@ impl Simulation {
         report::print_hosts(output, &self.script, hosts)?;
         report::print_flows(output, &self.script, &self.counts)?;
         report::print_pings(output, &self.script, &self.counts)?;
+        streams::print_streams(self.alloc, output, &self.script, hosts, &self.transmissions)?;
         report::print_given_up(output, &self.script, hosts)?;
         report::print_frames(output, &self.script, &self.counts)?;
         report::print_link(output, &self.script, hosts, &self.counts)

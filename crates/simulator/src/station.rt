@@ -11,6 +11,7 @@ use net_base::MemoryDevice;
 use net_base::phy::{ChecksumCapabilities, DeviceCapabilities, Medium};
 use net_base::time::{Duration, Instant};
 use simulation_script::script::{HostLine, Script};
+use simulation_streams::connections::Connections;
 use socket_set::{SocketHandle, SocketSet};
 use sockets::{IpEndpoint, IpListenEndpoint, Queue, icmp, raw, udp};
 use std::alloc::Global;
@@ -49,6 +50,8 @@ pub enum Turn {
     BeforeRound(u64, bool),
     /// It ends the round.
     AfterRound(u64),
+    /// Its connections take what came, and send what is due at a time, in microseconds.
+    Exchange(u64),
 }
 
 impl Turn {
@@ -60,19 +63,21 @@ impl Turn {
             Turn::BeforeRound(now, false) => (2, now as usize),
             Turn::BeforeRound(now, true) => (3, now as usize),
             Turn::AfterRound(now) => (4, now as usize),
+            Turn::Exchange(now) => (5, now as usize),
         };
-        value.saturating_mul(5).saturating_add(kind)
+        value.saturating_mul(6).saturating_add(kind)
     }
 
     /// The turn that a number stands for.
     fn of(number: usize) -> Turn {
-        let value = number / 5;
-        match number % 5 {
+        let value = number / 6;
+        match number % 6 {
             0 => Turn::Collect,
             1 => Turn::Task(value),
             2 => Turn::BeforeRound(value as u64, false),
             3 => Turn::BeforeRound(value as u64, true),
-            _ => Turn::AfterRound(value as u64),
+            4 => Turn::AfterRound(value as u64),
+            _ => Turn::Exchange(value as u64),
         }
     }
 }
@@ -171,6 +176,8 @@ pub struct Station {
     pings: Vec<PingSocket>,
     // The schedule of its sockets, if it has one.
     schedule: Option<Schedule>,
+    /// Its connections of TCP, if it listens or sends streams.
+    pub connections: Option<Box<Connections>>,
     /// What it has to do.
     pub tasks: Vec<Task>,
     /// What it took from its UDP sockets in the last turn.
@@ -196,11 +203,19 @@ impl Owner for Station {
                 self.begin_round(now, is_piece_left, sockets);
             }
             Turn::AfterRound(now) => self.end_round(now, sockets),
+            Turn::Exchange(now) => self.exchange(now, sockets),
         }
     }
 }
 
 impl Station {
+    /// How many sockets it has at most.
+    fn count_sockets(&self) -> usize {
+        let of_connections = if self.connections.is_some() { 4 } else { 0 };
+        let of_lines = self.sockets.len().saturating_add(self.tasks.len());
+        of_lines.saturating_add(of_connections)
+    }
+
     /// Whether rounds of polls are between two turns of it.
     pub fn has_schedule(&self) -> bool {
         self.schedule.is_some()
@@ -225,6 +240,23 @@ impl Station {
     fn end_round(&mut self, now: u64, sockets: &mut SocketSet<'_>) {
         if let Some(schedule) = &mut self.schedule {
             schedule.after_round(instant(now), sockets);
+        }
+    }
+
+    /// When something is due at its connections first, in microseconds; `None` if nothing is due there by itself.
+    pub fn poll_at(&self) -> Option<u64> {
+        match &self.connections {
+            Some(connections) => connections.poll_at(),
+            None => None,
+        }
+    }
+
+    /// Its connections take what came, and send what is due.
+    fn exchange(&mut self, now: u64, sockets: &mut SocketSet<'_>) {
+        if let Some(connections) = &mut self.connections
+            && connections.exchange(now, sockets).is_err()
+        {
+            self.lacks_memory = true;
         }
     }
 
@@ -478,6 +510,7 @@ pub fn new_host(alloc: Global, script: &Script, number: usize) -> Result<Host<'s
         sockets: Vec::new(alloc),
         pings: Vec::new(alloc),
         schedule: None,
+        connections: None,
         tasks: Vec::new(alloc),
         received: Vec::new(alloc),
         replies: Vec::new(alloc),
@@ -493,8 +526,9 @@ pub fn new_host(alloc: Global, script: &Script, number: usize) -> Result<Host<'s
     add_flows(script, number, line, &mut owner)?;
     add_pings(alloc, script, number, &mut owner, &mut sockets)?;
     add_packets(alloc, script, number, &mut owner, &mut sockets)?;
+    add_connections(alloc, script, number, &mut owner, &mut sockets)?;
     if let Some(patience) = script.patience {
-        let count = owner.sockets.len().saturating_add(owner.tasks.len());
+        let count = owner.count_sockets();
         owner.schedule = Some(Schedule::new(alloc, count, Duration::from_micros(patience))?);
     }
     Ok(Host {
@@ -503,6 +537,23 @@ pub fn new_host(alloc: Global, script: &Script, number: usize) -> Result<Host<'s
         sockets,
         owner,
     })
+}
+
+/// Gives an owner its connections, if its host listens or sends streams.
+fn add_connections(
+    alloc: Global,
+    script: &Script,
+    number: usize,
+    owner: &mut Station,
+    sockets: &mut SocketSet<'static>,
+) -> Result<()> {
+    if let Some(line) = script.hosts.get(number)
+        && script.has_connections(number)
+    {
+        let connections = Connections::new(alloc, script, number, line, sockets)?;
+        owner.connections = Some(Box::new(alloc, connections)?);
+    }
+    Ok(())
 }
 
 /// Gives an interface its addresses, routers and groups.
