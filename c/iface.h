@@ -344,8 +344,8 @@ uint32_t iface_route_at(iface *host, uint32_t place, struct iface_address *netwo
 uint32_t iface_source_for(iface *host, const struct iface_address *remote, struct iface_address *source);
 
 /* Writes the neighbour at a place of their list, from 0 on: its address, that on Ethernet, six octets, and the moment
- * from which the latter isn't known any more. At most four stand there, by rising moments, those whose moment has passed
- * too. Without hardware addresses there is none. NOT_THERE. */
+ * from which the latter isn't known any more. At most as many stand there as the host knows at once, by rising
+ * moments, those whose moment has passed too. Without hardware addresses there is none. NOT_THERE. */
 uint32_t iface_neighbor_at(iface *host, uint32_t place, struct iface_address *address, uint8_t *hardware_address,
                            int64_t *until);
 
@@ -621,7 +621,8 @@ struct iface_streams_config {
     uint8_t number_key[32];    /* a secret of random octets, by which initial numbers can't be guessed (RFC 6528) */
     uint64_t table_key[2];     /* another one, by which nobody chooses ends that are slow to find */
     uint64_t keep_alive;       /* how long nothing arrives before a peer is probed; 0 for never: 0 */
-    uint64_t timeout;          /* how long what was sent may stay unacknowledged; 0 for twelve tries: 0 */
+    uint64_t timeout;          /* how long what was sent may stay unacknowledged, which is asked each time before it is sent
+                                  again; 0 for twelve tries: 0 */
     uint64_t ack_delay;        /* how long an acknowledgement of octets in order may wait: 10,000 */
     uint64_t shortest_timeout; /* the shortest time after which something is sent again: 200,000 */
     uint64_t time_wait;        /* how long TIME-WAIT lasts: 60,000,000. All of these are in microseconds */
@@ -678,7 +679,8 @@ void iface_streams_config_init(struct iface_streams_config *config);
  * the sockets), NO_MEMORY. */
 uint32_t iface_streams_new(iface_streams *tcp, iface *host, const struct iface_streams_config *config);
 
-/* Does what is due: the connections take what came, and what they send is queued. NO_STREAMS, NO_HOST, BAD_MOMENT. */
+/* Does what is due: the connections take what came, and what they send is queued. That may end one, by a time-out: look at
+ * iface_stream_state between this and sleeping. NO_STREAMS, NO_HOST, BAD_MOMENT. */
 uint32_t iface_streams_poll(iface_streams *tcp, iface *host, int64_t now);
 
 /* Writes the instant at which iface_streams_poll is to be called again, if nothing comes before and no call changes a connection:

@@ -1,10 +1,10 @@
 #!/bin/bash
-# Runs the examples on a TAP device in a network namespace of its own, and talks to them by ping and by tap_peer. It
-# changes nothing outside that namespace, and ends by itself after at most three minutes.
+# Runs the examples on a TAP device in a network namespace of its own, and talks to them by ping, by tap_peer and by Python's server
+# of HTTP. It changes nothing outside that namespace, and ends by itself after at most four minutes.
 #
 #   tap.sh FOLDER      of the built programs, of Linux
 #
-# It needs: root (for the namespace and the device), unshare (util-linux), ip (iproute2), ping (iputils), /dev/net/tun.
+# It needs: root (for the namespace and the device), unshare (util-linux), ip (iproute2), ping (iputils), python3, /dev/net/tun.
 set -eu
 folder=$(realpath "$1")
 
@@ -17,10 +17,10 @@ if [ -z "${IS_INSIDE:-}" ]; then
     [ "$(uname)" = Linux ] || need "Linux"
     [ "$(id -u)" = 0 ] || need "root, for a network namespace and a TAP device"
     [ -c /dev/net/tun ] || need "/dev/net/tun (modprobe tun)"
-    for tool in unshare ip ping; do
+    for tool in unshare ip ping python3; do
         command -v "$tool" >/dev/null || need "$tool"
     done
-    exec env IS_INSIDE=1 timeout 180 unshare -n -- "$0" "$folder"
+    exec env IS_INSIDE=1 timeout 240 unshare -n -- "$0" "$folder"
 fi
 
 ip link set lo up
@@ -47,7 +47,8 @@ stop() {
     wait "$running" || true
     running=
 }
-trap '[ -z "$running" ] || stop' EXIT
+scratch=$(mktemp -d)
+trap '[ -z "$running" ] || stop; rm -rf "$scratch"' EXIT
 
 # Three pings at once, none of which may lose a reply.
 three_at_a_time() {
@@ -101,6 +102,39 @@ for program in segment_echo tcp_echo; do
     try sends_back fd69::7
     stop
 done
+
+# A program that connects by itself: pages of one octet and of a megabyte, one that isn't there, a port at which nobody listens, and
+# a peer that isn't there.
+printf x >"$scratch/octet"
+head -c 1000000 /dev/urandom >"$scratch/megabyte"
+fetches() {
+    "$folder/fetch" tap0 "$1" "$2" >"$scratch/page" && cmp "$scratch/page" "$scratch/${2##*/}"
+}
+says() {
+    local said
+    ! said=$("$folder/fetch" tap0 "$2" "$3" 2>&1 >/dev/null) && grep -x "$1" <<<"$said"
+}
+python3 -m http.server 8000 --bind :: --directory "$scratch" >/dev/null 2>&1 &
+running=$!
+until (: >/dev/tcp/::1/8000) 2>/dev/null; do sleep 0.1; done
+for ends in '192.168.69.4/24 192.168.69.100 192.168.69.77' 'fd69::4/64 [fd69::100] [fd69::77]'; do
+    read -r own peer nobody <<<"$ends"
+    try fetches "$own" "http://$peer:8000/octet"
+    try fetches "$own" "http://$peer:8000/megabyte"
+    try says 'HTTP/1.0 404' "$own" "http://$peer:8000/nothing"
+    try says 'the peer refused the connection' "$own" "http://$peer:8001/"
+    try says "the peer doesn't answer" "$own" "http://$nobody:8000/"
+done
+# The same through relay.c, which loses, reorders, repeats or delays frames.
+fetches_through() {
+    "$folder/relay" -r 7 -b "$1" -s tap0 sh -c "'$folder/fetch' @3 $2 '$3' >'$scratch/page'" 2>/dev/null
+    cmp "$scratch/page" "$scratch/${3##*/}"
+}
+for bad in loss=1 reorder=10 repeat=5 delay=25; do
+    try fetches_through "$bad" 192.168.69.4/24 http://192.168.69.100:8000/megabyte
+    try fetches_through "$bad" fd69::4/64 'http://[fd69::100]:8000/megabyte'
+done
+stop
 
 # A neighbour that answers, and one that doesn't.
 try "$folder/ping" tap0 192.168.69.4/24 192.168.69.100 -c 3 -i 0.2

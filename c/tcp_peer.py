@@ -114,6 +114,7 @@ CASES = [
     Case("loss-1", "loss=1", cases.transfer),
     Case("loss-5", "loss=5", cases.transfer),
     Case("reorder-10", "reorder=10", cases.transfer),
+    Case("loss-1-reorder-10", "loss=1,reorder=10", cases.transfer),
     Case("repeat-5", "repeat=5", cases.transfer),
     Case("delay-50", "delay=25", cases.transfer),
     Case("page", "", cases.page, "http", "curl"),

@@ -6,7 +6,7 @@
 #   tap.sh FOLDER     the folder of the built examples, of Linux
 #
 # It needs: root (for the namespace and the device), unshare (util-linux), ip (iproute2), ping (iputils), python3,
-# /dev/net/tun; dhcp_client is tried where there is dnsmasq too.
+# /dev/net/tun; dhcp_client's server is dnsmasq, or c/small_peer.py where that isn't installed.
 set -eu
 folder=$(realpath "$1")
 here=$(dirname "$(realpath "$0")")
@@ -111,24 +111,25 @@ ip -6 addr add 2001:db8:77::100/64 dev tap0 nodad
 try ping -c 3 -i 0.2 2001:db8:77::ff:fe00:1
 finish '2001:db8:77::ff:fe00:1/64'
 
+ip neigh flush dev tap0
 if command -v dnsmasq >/dev/null; then
-    ip neigh flush dev tap0
     dnsmasq -k -C /dev/null -p 0 -i tap0 --bind-interfaces --dhcp-range=192.168.69.50,192.168.69.59,120s --dhcp-authoritative --no-ping \
         --dhcp-option=option:dns-server,192.168.69.100,192.168.69.101 "--dhcp-leasefile=$scratch/leases" --pid-file= \
         --log-facility=- >"$scratch/server" 2>&1 &
-    server=$!
-    start dhcp_client 12
-    for _ in $(seq 90); do # a first message that comes before the link is there is sent again after 4 s
-        grep -q '^IP address' "$scratch/output" && break
-        sleep 0.1
-    done
-    try ping -c 3 -i 0.2 "$(sed -n 's|^IP address: *\(.*\)/24$|\1|p' "$scratch/output")"
-    finish 'DHCP config acquired' 'IP address: *192.168.69.5[0-9]/24' 'gateway: 192.168.69.100' 'DNS server 1: *192.168.69.101'
-    kill "$server"
-    wait "$server" || true
 else
-    echo 'no dnsmasq: dhcp_client was not tried' >&2
+    python3 "$here/../c/small_peer.py" tap0 192.168.69.100 --dhcp 192.168.69.50 192.168.69.59 >"$scratch/server" 2>&1 &
 fi
+server=$!
+start dhcp_client 12
+for _ in $(seq 90); do # a first message that comes before the link is there is sent again after 4 s
+    grep -q '^IP address' "$scratch/output" && break
+    sleep 0.1
+done
+try ping -c 3 -i 0.2 "$(sed -n 's|^IP address: *\(.*\)/24$|\1|p' "$scratch/output")"
+finish 'DHCP config acquired' 'IP address: *192.168.69.5[0-9]/24' 'gateway: 192.168.69.100' 'DNS server 1: *192.168.69.101'
+kill "$server"
+wait "$server" || true
+server=
 
 ip link add peer0 type veth peer name raw0
 ip addr add 192.168.70.100/24 dev peer0

@@ -69,7 +69,7 @@ static inline const uint8_t *hardware_of(const struct link *l, const struct ifac
     return NULL;
 }
 
-/* Remembers the neighbours that the library knows, which are four at most, up to the same end: in the place that ends first. */
+/* Remembers the neighbours that the library knows, up to the same end: in the place that ends first. */
 static inline void remember(struct link *l) {
     struct neighbor n;
     for (uint32_t i = 0; iface_neighbor_at(&l->host, i, &n.address, n.hardware, &n.until) == IFACE_OK; i++) {

@@ -395,7 +395,7 @@ pub struct iface_streams_config {
     pub table_key: [u64; 2],
     /// how long nothing arrives before a peer is probed; 0 for never: 0
     pub keep_alive: u64,
-    /// how long what was sent may stay unacknowledged; 0 for twelve tries: 0
+    /// how long what was sent may stay unacknowledged, which is asked each time before it is sent again; 0 for twelve tries: 0
     pub timeout: u64,
     /// how long an acknowledgement of octets in order may wait: 10,000
     pub ack_delay: u64,
@@ -527,7 +527,7 @@ unsafe extern "C" {
     pub fn iface_route_at(host: *mut iface, place: u32, network: *mut iface_address, prefix_len: *mut u8, router: *mut iface_address, until: *mut i64) -> u32;
     /// Writes the own address that packets to a destination are sent from, where their socket names none. Over IPv4 it is the first whose network has the destination, else the first one; over IPv6 the best one (RFC 6724, 5: rules 1, 2 and 8), and ::1 where the host has none. BAD_ARGUMENT, NOT_THERE (no own address of IPv4).
     pub fn iface_source_for(host: *mut iface, remote: *const iface_address, source: *mut iface_address) -> u32;
-    /// Writes the neighbour at a place of their list, from 0 on: its address, that on Ethernet, six octets, and the moment from which the latter isn't known any more. At most four stand there, by rising moments, those whose moment has passed too. Without hardware addresses there is none. NOT_THERE.
+    /// Writes the neighbour at a place of their list, from 0 on: its address, that on Ethernet, six octets, and the moment from which the latter isn't known any more. At most as many stand there as the host knows at once, by rising moments, those whose moment has passed too. Without hardware addresses there is none. NOT_THERE.
     pub fn iface_neighbor_at(host: *mut iface, place: u32, address: *mut iface_address, hardware_address: *mut u8, until: *mut i64) -> u32;
     /// UDP (RFC 768) at a port of one address. At a port of any, of both versions, if the version of local is 0 as in `IFACE_ANY`, or its address 0.0.0.0 or ::. Of the sockets that may get a datagram the one with the least number gets it, and no other. To groups and broadcast addresses that is the first at the port, also if its own is one address. BAD_PORT, BAD_ADDRESS (a group's, or 255.255.255.255).
     pub fn iface_udp_open(host: *mut iface, local: *const iface_endpoint, rooms: *const iface_rooms, socket: *mut u32) -> u32;
@@ -621,7 +621,7 @@ unsafe extern "C" {
     pub fn iface_streams_config_init(config: *mut iface_streams_config);
     /// Makes connections for a host, which the handle owns from then on, and opens two raw sockets of the host for each family. Segments are as long as the link carries: 40 octets less than its longest packet over IPv4, 60 over IPv6. HAS_STREAMS, BAD_ARGUMENT (a number that is out of range, or neither family), NO_HOST, TABLE_FULL (the host has no places for the sockets), NO_MEMORY.
     pub fn iface_streams_new(tcp: *mut iface_streams, host: *mut iface, config: *const iface_streams_config) -> u32;
-    /// Does what is due: the connections take what came, and what they send is queued. NO_STREAMS, NO_HOST, BAD_MOMENT.
+    /// Does what is due: the connections take what came, and what they send is queued. That may end one, by a time-out: look at `iface_stream_state` between this and sleeping. NO_STREAMS, NO_HOST, BAD_MOMENT.
     pub fn iface_streams_poll(tcp: *mut iface_streams, host: *mut iface, now: i64) -> u32;
     /// Writes the instant at which `iface_streams_poll` is to be called again, if nothing comes before and no call changes a connection: one that has passed, if something is due at once, and `IFACE_NEVER`, if nothing is due. NO_STREAMS.
     pub fn iface_streams_poll_at(tcp: *mut iface_streams, at: *mut i64) -> u32;
