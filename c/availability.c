@@ -63,7 +63,8 @@ static void make(iface *host, uint8_t last, uint32_t frame_len) {
     struct iface_config config;
     struct iface_address own = v4(last);
     iface_config_init(&config);
-    config.guard.on = guarded, config.guard.echo_replies = (struct iface_rate){10000, 10}, config.seed = last, config.frame_len = frame_len, config.hardware_address[0] = 2, config.hardware_address[5] = last;
+    config.guard.on = guarded, config.guard.echo_replies = (struct iface_rate){10000, 10};
+    config.seed = last, config.frame_len = frame_len, config.hardware_address[0] = 2, config.hardware_address[5] = last;
     if (room > 0) config.neighbors = room;
     must("host", iface_new(host, &config));
     must("address", iface_add_address(host, &own, 24));
@@ -804,16 +805,85 @@ static unsigned reports_beside(int64_t after) {
     return reports;
 }
 
+/* A query of MLD to ff02::1 about a group, :: for all, to be answered within ten seconds (RFC 3810 5.1). */
+static void send_listener_query(iface *host, const uint8_t group[16]) {
+    static uint8_t out[IFACE_FRAME_ROOM];
+    static const uint8_t all_nodes[16] = {0xff, 2, [15] = 1};
+    uint8_t frame[82] = {0x33, 0x33, 0, 0, 0, 1, 2, 0, 0, 0, 0, 3, 0x86, 0xdd, 0x60, 0, 0, 0, 0, 28, 58, 1, 0xfe, 0x80};
+    uint8_t summed[68] = {[35] = 28, [39] = 58};
+    size_t n;
+    frame[37] = 3, frame[54] = 130, frame[58] = 10000 >> 8, frame[59] = 10000 & 255, memcpy(frame + 38, all_nodes, 16);
+    memcpy(frame + 62, group, 16), frame[78] = 2, frame[79] = 125;
+    memcpy(summed, frame + 22, 32), memcpy(summed + 40, frame + 54, 28);
+    uint16_t sum = sum_of(summed, sizeof summed);
+    frame[56] = (uint8_t)(sum >> 8), frame[57] = (uint8_t)sum;
+    must("receive", iface_receive(host, now, frame, sizeof frame, out, sizeof out, &n));
+}
+
+/* The same of MLD, where the forged one is about ff02::1: how many of ten are answered by a report that has the host's group. */
+static unsigned listener_reports_beside(int64_t after) {
+    static const uint8_t every[16], all_nodes[16] = {0xff, 2, [15] = 1};
+    struct iface_address group = {6, {0xff, 0x0e, [15] = 9}}, own = v6(1);
+    iface host = IFACE_NONE;
+    uint8_t frame[IFACE_FRAME_ROOM];
+    unsigned reports = 0;
+    size_t n;
+    now += 10 * SECOND;
+    make(&host, 1, 1514);
+    must("address", iface_add_address(&host, &own, 64)), must("group", iface_join_group(&host, &group));
+    for (int i = 0; i < 10; i++) must("next", iface_next(&host, now, frame, sizeof frame, &n));
+    for (unsigned i = 0; i < 10; i++) {
+        unsigned answered = 0;
+        for (int64_t since = 0; since < 60 * SECOND; since += SECOND / 10, now += SECOND / 10) {
+            if (since == 0) send_listener_query(&host, every);
+            if (since == after) send_listener_query(&host, all_nodes);
+            must("next", iface_next(&host, now, frame, sizeof frame, &n));
+            for (size_t at = 74; n > 62 && frame[62] == 143 && at + 16 <= n; at += 20) answered += memcmp(frame + at, group.octets, 16) == 0;
+        }
+        reports += answered > 0;
+    }
+    must("free", iface_free(&host));
+    return reports;
+}
+
 static void queries(void) {
     unsigned none = reports_beside(-1), soon = reports_beside(SECOND / 10), later = reports_beside(SECOND * 11 / 10);
     printf("ten queries, guard %s: %u are answered; %u with a forged one 0.1 s after each, %u after 1.1 s\n", guarded ? "on" : "off", none, soon,
            later);
     wants("all are answered where none is forged", none == 10);
-    wants("most are with a guard, if the forged one comes at once", guarded ? soon == 10 : soon <= 2);
+    wants("all are with a guard, and none or few without", guarded ? soon == 10 && later == 10 : soon <= 2 && later <= 2);
+    none = listener_reports_beside(-1), later = listener_reports_beside(SECOND * 11 / 10);
+    printf("ten queries of MLD, guard %s: %u are answered; %u with a forged one 1.1 s after each\n", guarded ? "on" : "off", none, later);
+    wants("all are where none is forged, or with a guard, and most aren't without", none == 10 && (guarded ? later == 10 : later <= 5));
+}
+
+/* Claims of the host's own address, one each second for a minute, and a guard that announces the address each ten seconds: how many
+ * announcements are sent. */
+static void defended_address(void) {
+    const uint8_t claim[42] = {255, 255, 255, 255, 255, 255, 2, 0, 0, 0, 0, 66, 8, 6, 0, 1, 8, 0, 6, 4, 0, 1, 2, 0, 0, 0, 0, 66,
+                               192, 168, 69, 1, 0, 0, 0, 0, 0, 0, 192, 168, 69, 2};
+    iface host = IFACE_NONE;
+    struct iface_config config;
+    struct iface_address own = v4(1);
+    uint8_t out[IFACE_FRAME_ROOM];
+    unsigned announced = 0;
+    size_t n;
+    now += 10 * SECOND;
+    iface_config_init(&config);
+    config.guard.on = guarded, config.guard.defend = 10 * SECOND, config.hardware_address[0] = 2, config.hardware_address[5] = 1;
+    must("host", iface_new(&host, &config)), must("address", iface_add_address(&host, &own, 24));
+    for (unsigned i = 0; i < 60; i++, now += SECOND) {
+        must("claim", iface_receive(&host, now, claim, sizeof claim, out, sizeof out, &n));
+        announced += n == 42 && out[11] == 1 && out[27] == 1 && out[31] == 1 && out[41] == 1;
+    }
+    printf("own address claimed each second for a minute, guard %s that defends it: %u announcements\n", guarded ? "on" : "off", announced);
+    wants("one each ten seconds with a guard alone", announced == (guarded ? 6 : 0));
+    must("free", iface_free(&host));
 }
 
 static void attacks(void) {
     own_address();
+    defended_address();
     forged_neighbors();
     forged_pinned();
     discovery_for_nothing();

@@ -49,7 +49,7 @@ pub struct Guard {
     pub neighbors: Option<Rate>,
     /// Packets to own addresses, other than of UDP and TCP, from those of own networks that aren't known.
     pub discoveries: Option<Rate>,
-    /// Queries of IGMP and MLD.
+    /// Queries of IGMP and MLD, and none about 224.0.0.1 or ff02::1.
     pub queries: Option<Rate>,
     /// For so long after a router was heard as another one than before, no other is.
     pub routers: Option<Duration>,
@@ -61,6 +61,9 @@ pub struct Guard {
     pub resets: Option<Rate>,
     /// How many times as long an error may be as the frame that it answers: three by the usual guard. `None` sets no bound.
     pub longest_error: Option<u32>,
+    /// If an own IPv4 address is claimed, it is announced, but not again within this time (RFC 5227 2.4 c, which has ten seconds): not
+    /// by the usual guard.
+    pub defend: Option<Duration>,
 }
 
 impl Guard {
@@ -78,6 +81,7 @@ impl Guard {
         loops: 0,
         fragments: 0,
         longest_error: 0,
+        defend: 0,
     };
 
     pub(crate) fn to_c(self) -> sys::iface_guard {
@@ -94,6 +98,7 @@ impl Guard {
             loops: u8::from(self.loops),
             fragments: u8::from(self.fragments),
             longest_error: self.longest_error.unwrap_or(0),
+            defend: self.defend.map_or(0, micros),
         }
     }
 
@@ -110,6 +115,7 @@ impl Guard {
             errors: Rate::from_c(guard.errors),
             resets: Rate::from_c(guard.resets),
             longest_error: (guard.longest_error != 0).then_some(guard.longest_error),
+            defend: (guard.defend != 0).then(|| Duration::from_micros(u64::from(guard.defend))),
         })
     }
 }
@@ -129,7 +135,7 @@ pub struct Drops {
     pub new_neighbor: u64,
     /// Packets for whose answer the host would have to ask.
     pub discovery: u64,
-    /// Queries of IGMP and MLD.
+    /// Queries of IGMP and MLD, beyond their rate, or about 224.0.0.1 or ff02::1.
     pub query: u64,
     /// Advertisements of other routers.
     pub router: u64,

@@ -63,7 +63,7 @@ own_at (d ∷ ds) a (suc k) c there is = or_true (is_same (address_of d) a) (is_
 own_if : (own : List IpCidr) (a : IpAddress) → IsAmong own a → is_own own a ≡ true
 own_if own a among = own_at own a among.place among.cidr among.is_there among.is
 
-among_if : (own : List IpCidr) (a : IpAddress) → is_own own a ≡ true → IsAmong own a
+pub among_if : (own : List IpCidr) (a : IpAddress) → is_own own a ≡ true → IsAmong own a
 among_if [] a e = absurd cc
 among_if (c ∷ cs) a e = by (is_same (address_of c) a) refl e (λ rest. among_if cs a rest) where
   later : IsAmong cs a → IsAmong (c ∷ cs) a
@@ -309,8 +309,8 @@ streams_pass a g header protocol none other =
     let six : (u16_at a.frame 12 == 0x86dd) ≡ true = rw header.type refl in
     let is : is_ordinary a.frame a.own ≡ true =
     rw (s, four, six, transport_is a.frame protocol none, not_own a.own (source_of a.frame) other) refl in
-    let goes = ordinary_reason (pos a.at) a.frame a.hardware a.own a.known g is in
-    (ap is_none (sym goes), sym (ordinary_after (pos a.at) a.frame a.hardware a.own a.known g is))
+    let goes = ordinary_reason (pos a.at) a.frame a.hardware a.own a.known a.waits g is in
+    (ap is_none (sym goes), sym (ordinary_after (pos a.at) a.frame a.hardware a.own a.known a.waits g is))
 
 loop_kind : (frame : List ℕ) → IsIpv6 frame → GoesToAndFro frame → kind_of frame ≡ Packet (source_of frame) (Ipv6 (address_at frame 38)) Loop
 loop_kind frame header goes =

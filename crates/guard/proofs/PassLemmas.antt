@@ -16,6 +16,8 @@ use Rattle.ip_address.specs.declared.ip.IpAddress.TheVariants.{Ipv4, Ipv6}
 use Rattle.socket_base.specs.Source.{is_same}
 use Rattle.iface_tables.specs.Neighbor.{Neighbors}
 use Rattle.guard.specs.declared.guard.Guard.{Guard}
+use Rattle.guard.specs.declared.queries.Waits.{Waits}
+use Rattle.ip_address.specs.declared.protocol.IpVersion.TheVariants as version
 use Rattle.guard.specs.declared.guard.Reason.{Reason}
 use Rattle.guard.specs.declared.guard.Reason.TheVariants as reason
 use Rattle.guard.specs.declared.kind.Kind.{Kind}
@@ -23,7 +25,7 @@ use Rattle.guard.specs.declared.kind.Kind.TheVariants.{Arp, Query, Packet, Other
 use Rattle.guard.specs.declared.kind.Sort.{Sort}
 use Rattle.guard.specs.declared.kind.Sort.TheVariants.{Fragment, Loop, Transport, Plain}
 use Rattle.guard.specs.declared.pins.Pinned.{Pinned}
-use Rattle.guard.specs.Kind.{ipv4_at, is_igmp_query, is_loop, is_transport, kind_at, kind_of, kind_of_ipv4, kind_of_ipv6, message_of}
+use Rattle.guard.specs.Kind.{ipv4_at, is_all_systems, is_igmp_query, is_loop, is_transport, kind_at, kind_of, kind_of_ipv4, kind_of_ipv6, message_of}
 use Rattle.guard.specs.Kind.{octet_at, packet_to, sort_of_ipv4, sort_of_ipv6, target_at}
 use Rattle.guard.specs.Claim.{comes_back, hardware_at, is_from_host, tells_only}
 use Rattle.guard.specs.Pins.{forbids, is_forbidden}
@@ -46,7 +48,7 @@ kind_is frame long type other =
     let p : (octet_at frame 23 == 2) ≡ false = grind (arith, nat_tests) in
     let q : is_igmp_query frame ≡ false = rw p refl in
     chosen (nat_lt (length frame) 42) (u16_at frame 12 == 0x0806) (u16_at frame 12 == 0x0800) (is_igmp_query frame) Other
-    (Arp (ipv4_at frame 28) (ipv4_at frame 38)) Query (Packet (ipv4_at frame 26) (ipv4_at frame 30) (sort_of_ipv4 frame))
+    (Arp (ipv4_at frame 28) (ipv4_at frame 38)) (Query version.Ipv4 (is_all_systems frame (18 + octet_at frame 14 % 16 * 4))) (Packet (ipv4_at frame 26) (ipv4_at frame 30) (sort_of_ipv4 frame))
     (if u16_at frame 12 == 0x86dd then kind_of_ipv6 frame else Other) s r i q
 
 -- the host wouldn't have to ask
@@ -212,10 +214,10 @@ loops_end a g drops long type other sort returned =
 
 -- a datagram or a segment from another address than the host's
 transport : (now : ℤ) (sender target : IpAddress) (hardware : Option HardwareAddress) (frame : List ℕ) (own : List IpCidr)
-    (known : Neighbors) (g : Guard) → is_own own sender ≡ false →
-    (reason_of_kind now (Packet sender target Transport) hardware frame own known g ≡ None)
-    × (after_kind now (Packet sender target Transport) hardware frame own known g ≡ g)
-transport now sender target hardware frame own known g free =
+    (known : Neighbors) (waits : Waits) (g : Guard) → is_own own sender ≡ false →
+    (reason_of_kind now (Packet sender target Transport) hardware frame own known waits g ≡ None)
+    × (after_kind now (Packet sender target Transport) hardware frame own known waits g ≡ g)
+transport now sender target hardware frame own known waits g free =
     let refusal : refusal_of_packet sender Transport hardware frame own g ≡ None =
     refused_by_none (is_stolen (is_own own sender) (comes_back hardware frame) g) None reason.OwnSource
     (not_stolen g.keeps_own_addresses (is_own own sender) (comes_back hardware frame) (inl free)) refl in
@@ -277,9 +279,9 @@ packet_v6 : (frame : List ℕ) (message : Option ℕ) (sort : Sort) → message 
     kind_at message (Ipv6 (address_at frame 22)) frame ≡ packet_to (target_at frame 38) (Ipv6 (address_at frame 22)) Transport
 packet_v6 frame message sort m t is = rw (m, is, t) refl
 
-module _ (now : ℤ) (frame : List ℕ) (hardware : Option HardwareAddress) (own : List IpCidr) (known : Neighbors) (g : Guard) where
+module _ (now : ℤ) (frame : List ℕ) (hardware : Option HardwareAddress) (own : List IpCidr) (known : Neighbors) (waits : Waits) (g : Guard) where
   abbrev PassesAt : Kind → Type 0
-  PassesAt kind = (reason_of_kind now kind hardware frame own known g ≡ None) × (after_kind now kind hardware frame own known g ≡ g)
+  PassesAt kind = (reason_of_kind now kind hardware frame own known waits g ≡ None) × (after_kind now kind hardware frame own known waits g ≡ g)
 
   ordinary_v4 : 42 ≤ length frame → u16_at frame 12 ≡ 0x0800 →
       (is_ordinary_sort (sort_of_ipv4 frame) && not (is_own own (ipv4_at frame 26))) ≡ true → PassesAt (kind_of frame)
@@ -290,12 +292,12 @@ module _ (now : ℤ) (frame : List ℕ) (hardware : Option HardwareAddress) (own
       (is_transport (octet_at frame 23)) sort in
       let one = which (octet_at frame 23) (octet_at frame 23 == 6) (octet_at frame 23 == 17) refl refl protocol in
       rw (kind_is frame long type (other_protocol (octet_at frame 23) 2 one (λ e. absurd cc) (λ e. absurd cc)))
-      (rw sort (transport now (ipv4_at frame 26) (ipv4_at frame 30) hardware frame own known g
+      (rw sort (transport now (ipv4_at frame 26) (ipv4_at frame 30) hardware frame own known waits g
       (not_true (is_own own (ipv4_at frame 26)) parts.1)))
 
   by_target : (target : Option IpAddress) (sender : IpAddress) → is_own own sender ≡ false → PassesAt (packet_to target sender Transport)
   by_target None sender free = (refl, refl)
-  by_target (Some target) sender free = transport now sender target hardware frame own known g free
+  by_target (Some target) sender free = transport now sender target hardware frame own known waits g free
 
   ordinary_v6 : 42 ≤ length frame → u16_at frame 12 ≡ 0x86dd →
       (is_ordinary_sort (sort_of_ipv6 frame) && not (is_own own (Ipv6 (address_at frame 22)))) ≡ true → PassesAt (kind_of frame)
@@ -324,10 +326,10 @@ module _ (now : ℤ) (frame : List ℕ) (hardware : Option HardwareAddress) (own
     by false false false s four six e = absurd cc
 
 -- an ordinary frame passes, and changes nothing
-pub ordinary_reason : (now : ℤ) (frame : List ℕ) (hardware : Option HardwareAddress) (own : List IpCidr) (known : Neighbors) (g : Guard) →
-    is_ordinary frame own ≡ true → None ≡ reason_of now frame hardware own known g
-ordinary_reason now frame hardware own known g is = sym (ordinary now frame hardware own known g is).0
+pub ordinary_reason : (now : ℤ) (frame : List ℕ) (hardware : Option HardwareAddress) (own : List IpCidr) (known : Neighbors) (waits : Waits) (g : Guard) →
+    is_ordinary frame own ≡ true → None ≡ reason_of now frame hardware own known waits g
+ordinary_reason now frame hardware own known waits g is = sym (ordinary now frame hardware own known waits g is).0
 
-pub ordinary_after : (now : ℤ) (frame : List ℕ) (hardware : Option HardwareAddress) (own : List IpCidr) (known : Neighbors) (g : Guard) →
-    is_ordinary frame own ≡ true → g ≡ after_judging now frame hardware own known g
-ordinary_after now frame hardware own known g is = sym (ordinary now frame hardware own known g is).1
+pub ordinary_after : (now : ℤ) (frame : List ℕ) (hardware : Option HardwareAddress) (own : List IpCidr) (known : Neighbors) (waits : Waits) (g : Guard) →
+    is_ordinary frame own ≡ true → g ≡ after_judging now frame hardware own known waits g
+ordinary_after now frame hardware own known waits g is = sym (ordinary now frame hardware own known waits g is).1

@@ -12,7 +12,7 @@ use Rattle.guard.specs.declared.guard.Reason.TheVariants as reason
 use Rattle.guard.specs.declared.kind.Kind.{Kind}
 use Rattle.guard.specs.declared.kind.Kind.TheVariants.{Arp, Neighbor, Query, Router, Packet, Other}
 use Rattle.guard.specs.Kind.{kind_of}
-use Rattle.guard.specs.Guard.{reason_of_kind, reason_unless, after_kind, after_passing, claims, first_of, refusal_of_claim, refusal_of_packet}
+use Rattle.guard.specs.Guard.{reason_of_kind, reason_unless, after_kind, after_passing, claims, first_of, refusal_of_claim, refusal_of_packet, refusal_of_query}
 use Rattle.guard.specs.Guard.{is_own, is_usual, asks_for, asks_nobody, is_expected, is_known, after_router, is_heard, is_last, micros}
 use Rattle.guard.specs.Laws.{Arrival, AreWithin, passes, after, passed, is_strange, asks, is_query, is_strange_kind, asks_kind, is_query_kind, FewNeighborsPass, FewDiscoveriesPass, FewQueriesPass}
 
@@ -94,8 +94,8 @@ not_free true false = refl
 not_free false expected = refl
 
 neighbor_by : (k : Kind) (a : Arrival) (g : Guard) →
-    TakesToken a.at (is_strange_kind k a g && is_none (reason_of_kind (pos a.at) k a.hardware a.frame a.own a.known g)) g.neighbors
-    (after_kind (pos a.at) k a.hardware a.frame a.own a.known g).neighbors
+    TakesToken a.at (is_strange_kind k a g && is_none (reason_of_kind (pos a.at) k a.hardware a.frame a.own a.known a.waits g)) g.neighbors
+    (after_kind (pos a.at) k a.hardware a.frame a.own a.known a.waits g).neighbors
 neighbor_by (Arp sender target) a g =
     judged_takes (refusal_of_claim (is_own a.own sender) sender a.hardware a.frame g)
     (is_own a.own target && not (is_expected (pos a.at) sender a.known g)) (is_usual (pos a.at) sender target a.own a.known g)
@@ -105,17 +105,17 @@ neighbor_by (Neighbor sender target) a g =
     judged_takes (refusal_of_claim (claims sender target a.own) sender a.hardware a.frame g)
     (not (is_expected (pos a.at) sender a.known g)) (is_expected (pos a.at) sender a.known g)
     (g.neighbors.interval == 0) (has_token a.at g.neighbors) refl a.at g.neighbors refl refl reason.NewNeighbor
-neighbor_by Query a g = Stayed refl refl
+neighbor_by (Query version idle) a g = Stayed refl refl
 neighbor_by (Router sender) a g = Stayed refl (same_rates (pos a.at) sender g (λ h. h.neighbors) (λ n. refl))
 neighbor_by (Packet sender target sort) a g = Stayed refl refl
 neighbor_by Other a g = Stayed refl refl
 
 packet_by : (k : Kind) (a : Arrival) (g : Guard) →
-    TakesToken a.at (asks_kind k a g && is_none (reason_of_kind (pos a.at) k a.hardware a.frame a.own a.known g)) g.discoveries
-    (after_kind (pos a.at) k a.hardware a.frame a.own a.known g).discoveries
+    TakesToken a.at (asks_kind k a g && is_none (reason_of_kind (pos a.at) k a.hardware a.frame a.own a.known a.waits g)) g.discoveries
+    (after_kind (pos a.at) k a.hardware a.frame a.own a.known a.waits g).discoveries
 packet_by (Arp sender target) a g = Stayed refl refl
 packet_by (Neighbor sender target) a g = Stayed refl refl
-packet_by Query a g = Stayed refl refl
+packet_by (Query version idle) a g = Stayed refl refl
 packet_by (Router sender) a g = Stayed refl (same_rates (pos a.at) sender g (λ h. h.discoveries) (λ n. refl))
 packet_by (Packet sender target sort) a g =
     judged_takes (refusal_of_packet sender sort a.hardware a.frame a.own g)
@@ -125,11 +125,13 @@ packet_by (Packet sender target sort) a g =
 packet_by Other a g = Stayed refl refl
 
 query_by : (k : Kind) (a : Arrival) (g : Guard) →
-    TakesToken a.at (is_query_kind k && is_none (reason_of_kind (pos a.at) k a.hardware a.frame a.own a.known g)) g.queries
-    (after_kind (pos a.at) k a.hardware a.frame a.own a.known g).queries
+    TakesToken a.at (is_query_kind k && is_none (reason_of_kind (pos a.at) k a.hardware a.frame a.own a.known a.waits g)) g.queries
+    (after_kind (pos a.at) k a.hardware a.frame a.own a.known a.waits g).queries
 query_by (Arp sender target) a g = Stayed refl refl
 query_by (Neighbor sender target) a g = Stayed refl refl
-query_by Query a g = rate_takes (g.queries.interval == 0) (has_token a.at g.queries) a.at g.queries refl refl reason.Query
+query_by (Query version idle) a g =
+    judged_takes (refusal_of_query version idle a.waits g) true false (g.queries.interval == 0) (has_token a.at g.queries) refl
+    a.at g.queries refl refl reason.Query
 query_by (Router sender) a g = Stayed refl (same_rates (pos a.at) sender g (λ h. h.queries) (λ n. refl))
 query_by (Packet sender target sort) a g = Stayed refl refl
 query_by Other a g = Stayed refl refl

@@ -1,5 +1,5 @@
 -- Which frames a host gets to see.
-use Rattle.std.specs.Prelude.{ℕ, ◌+◌, ◌==◌, ◌&&◌, ◌||◌, not, nat_le, nat_lt, is_some, length, Bool, true, false, ℤ, pos, negsuc, List, Option, Some, None, if◌then◌else◌}
+use Rattle.std.specs.Prelude.{ℕ, ◌+◌, ◌==◌, ◌&&◌, ◌||◌, not, nat_le, nat_lt, is_none, is_some, length, Bool, true, false, ℤ, pos, negsuc, List, Option, Some, None, if◌then◌else◌}
 use Rattle.std.specs.List.{list_any}
 use Rattle.ip_address.specs.Cidr.{address_of, contains}
 use Rattle.ip_address.specs.Ip.{is_unicast, is_unspecified}
@@ -24,6 +24,9 @@ use Rattle.wire_base.specs.Octets.{u16_at}
 use Rattle.ipv6_wire.specs.Ipv6Packet.{address_at}
 use Rattle.ip_address.specs.declared.ip.IpAddress.TheVariants.{Ipv6}
 use Rattle.guard.specs.Pins.{is_forbidden, no_pins}
+use Rattle.guard.specs.Queries as queries
+use Rattle.guard.specs.declared.queries.Waits.{Waits}
+use Rattle.ip_address.specs.declared.protocol.IpVersion.{IpVersion}
 
 -- the microseconds of an instant; 0 before the origin
 abbrev pub micros : ℤ → ℕ
@@ -39,6 +42,7 @@ new_guard = record {
   neighbors = record { interval = 500000; depth = 8; full_at = 0 };
   discoveries = record { interval = 2000000; depth = 1; full_at = 0 };
   queries = record { interval = 1000000; depth = 1; full_at = 0 };
+  delays = queries.no_delays;
   router_time = 60000000;
   pins = no_pins;
   asked = None;
@@ -155,48 +159,66 @@ asks_nobody now sender target sort own known = not (asks_for sender target sort 
 abbrev pub judged : (refusal : Option Reason) (free : Bool) → (now : ℕ) → Bucket → Reason → Option Reason
 judged refusal free now rate why = first_of refusal (if free then None else reason_unless (has_room now rate) why)
 
+-- a query about the group of all hosts, which is never reported, is dropped where there is a rate of queries; so is one that would
+-- put off an answer once more than it may be put off
+abbrev pub refusal_of_query : IpVersion → (idle : Bool) → Waits → Guard → Option Reason
+refusal_of_query version idle waits g =
+    if idle && not (g.queries.interval == 0) then Some reason.Query
+    else if queries.are_over version waits g.delays then Some reason.Delay
+    else None
+
+abbrev pub reason_of_query : ℤ → IpVersion → (idle : Bool) → Waits → Guard → Option Reason
+reason_of_query now version idle waits g = judged (refusal_of_query version idle waits g) false (micros now) g.queries reason.Query
+
 -- why the host doesn't get to see a frame of a kind; none: it does
-abbrev pub reason_of_kind : ℤ → Kind → Option HardwareAddress → List ℕ → List IpCidr → Neighbors → Guard → Option Reason
-reason_of_kind now (Arp sender target) hardware frame own known g =
+abbrev pub reason_of_kind : ℤ → Kind → Option HardwareAddress → List ℕ → List IpCidr → Neighbors → Waits → Guard → Option Reason
+reason_of_kind now (Arp sender target) hardware frame own known waits g =
     judged (refusal_of_claim (is_own own sender) sender hardware frame g) (is_usual now sender target own known g)
     (micros now) g.neighbors reason.NewNeighbor
-reason_of_kind now (Neighbor sender target) hardware frame own known g =
+reason_of_kind now (Neighbor sender target) hardware frame own known waits g =
     judged (refusal_of_claim (claims sender target own) sender hardware frame g) (is_expected now sender known g)
     (micros now) g.neighbors reason.NewNeighbor
-reason_of_kind now Query hardware frame own known g = reason_unless (has_room (micros now) g.queries) reason.Query
-reason_of_kind now (Router sender) hardware frame own known g = reason_of_router now sender g
-reason_of_kind now (Packet sender target sort) hardware frame own known g =
+reason_of_kind now (Query version idle) hardware frame own known waits g = reason_of_query now version idle waits g
+reason_of_kind now (Router sender) hardware frame own known waits g = reason_of_router now sender g
+reason_of_kind now (Packet sender target sort) hardware frame own known waits g =
     judged (refusal_of_packet sender sort hardware frame own g) (asks_nobody now sender target sort own known)
     (micros now) g.discoveries reason.Discovery
-reason_of_kind now Other hardware frame own known g = None
+reason_of_kind now Other hardware frame own known waits g = None
 
 -- of a frame
-abbrev pub reason_of : ℤ → List ℕ → Option HardwareAddress → List IpCidr → Neighbors → Guard → Option Reason
-reason_of now frame hardware own known g = reason_of_kind now (kind_of frame) hardware frame own known g
+abbrev pub reason_of : ℤ → List ℕ → Option HardwareAddress → List IpCidr → Neighbors → Waits → Guard → Option Reason
+reason_of now frame hardware own known waits g = reason_of_kind now (kind_of frame) hardware frame own known waits g
 
 -- a frame that a rate is about takes a token, if there is one
 abbrev pub after_judged : (refusal : Option Reason) (free : Bool) → (now : ℕ) → Bucket → Bucket
 after_judged refusal free now rate = if is_some refusal || free then rate else after_passing now rate
 
-abbrev pub after_kind : ℤ → Kind → Option HardwareAddress → List ℕ → List IpCidr → Neighbors → Guard → Guard
-after_kind now (Arp sender target) hardware frame own known g = record g {
+-- a query that passes is counted
+abbrev pub after_query : ℤ → IpVersion → (idle : Bool) → Waits → Guard → Guard
+after_query now version idle waits g = record g {
+  queries = after_judged (refusal_of_query version idle waits g) false (micros now) g.queries;
+  delays = if is_none (reason_of_query now version idle waits g) then queries.after_query version waits g.delays else g.delays;
+}
+
+abbrev pub after_kind : ℤ → Kind → Option HardwareAddress → List ℕ → List IpCidr → Neighbors → Waits → Guard → Guard
+after_kind now (Arp sender target) hardware frame own known waits g = record g {
   neighbors = after_judged (refusal_of_claim (is_own own sender) sender hardware frame g)
       (is_usual now sender target own known g) (micros now) g.neighbors;
 }
-after_kind now (Neighbor sender target) hardware frame own known g = record g {
+after_kind now (Neighbor sender target) hardware frame own known waits g = record g {
   neighbors = after_judged (refusal_of_claim (claims sender target own) sender hardware frame g) (is_expected now sender known g)
       (micros now) g.neighbors;
 }
-after_kind now Query hardware frame own known g = record g { queries = after_passing (micros now) g.queries }
-after_kind now (Router sender) hardware frame own known g = after_router now sender g
-after_kind now (Packet sender target sort) hardware frame own known g = record g {
+after_kind now (Query version idle) hardware frame own known waits g = after_query now version idle waits g
+after_kind now (Router sender) hardware frame own known waits g = after_router now sender g
+after_kind now (Packet sender target sort) hardware frame own known waits g = record g {
   discoveries = after_judged (refusal_of_packet sender sort hardware frame own g) (asks_nobody now sender target sort own known)
       (micros now) g.discoveries;
 }
-after_kind now Other hardware frame own known g = g
+after_kind now Other hardware frame own known waits g = g
 
-abbrev pub after_judging : ℤ → List ℕ → Option HardwareAddress → List IpCidr → Neighbors → Guard → Guard
-after_judging now frame hardware own known g = after_kind now (kind_of frame) hardware frame own known g
+abbrev pub after_judging : ℤ → List ℕ → Option HardwareAddress → List IpCidr → Neighbors → Waits → Guard → Guard
+after_judging now frame hardware own known waits g = after_kind now (kind_of frame) hardware frame own known waits g
 
 -- a datagram of UDP or a segment of TCP, of which nothing is asked but who sent it
 abbrev pub is_ordinary_sort : Sort → Bool

@@ -1,8 +1,9 @@
 -- What a frame is to a guard, by its octets: 14 of Ethernet, then ARP (RFC 826), IPv4 (RFC 791 3.1) or IPv6 (RFC 8200 3).
-use Rattle.std.specs.Prelude.{ℕ, ◌+◌, ◌*◌, ◌%◌, nat_lt, ◌==◌, ◌&&◌, ◌||◌, not, Bool, List, length, get_or, Option, Some, None, if◌then◌else◌}
+use Rattle.std.specs.Prelude.{ℕ, ◌+◌, ◌*◌, ◌%◌, nat_lt, ◌==◌, ◌&&◌, ◌||◌, not, Bool, false, List, length, get_or, Option, Some, None, if◌then◌else◌}
 use Rattle.wire_base.specs.Octets.{u16_at, u32_at}
 use Rattle.ip_address.specs.declared.ip.IpAddress.{IpAddress}
 use Rattle.ip_address.specs.declared.ip.IpAddress.TheVariants.{Ipv4, Ipv6}
+use Rattle.ip_address.specs.declared.protocol.IpVersion.TheVariants as version
 use Rattle.ipv6_wire.specs.Ipv6Packet.{address_at}
 use Rattle.guard.specs.declared.kind.Kind.{Kind}
 use Rattle.guard.specs.declared.kind.Kind.TheVariants.{Arp, Neighbor, Query, Router, Packet, Other}
@@ -19,6 +20,17 @@ ipv4_at frame at = Ipv4 (record { bits = u32_at frame at })
 -- a query of IGMP: protocol 2, and behind the header the type 0x11 (RFC 2236 2)
 abbrev pub is_igmp_query : List ℕ → Bool
 is_igmp_query frame = (octet_at frame 23 == 2) && (octet_at frame (14 + octet_at frame 14 % 16 * 4) == 0x11)
+
+-- the group of all hosts, 224.0.0.1, which no host reports (RFC 2236 6)
+abbrev pub is_all_systems : List ℕ → ℕ → Bool
+is_all_systems frame at =
+    (octet_at frame at == 224) && (octet_at frame (at + 1) == 0) && (octet_at frame (at + 2) == 0) && (octet_at frame (at + 3) == 1)
+
+-- that of all nodes, ff02::1, which no node reports (RFC 3810 6)
+abbrev pub is_all_nodes : Option IpAddress → Bool
+is_all_nodes None = false
+is_all_nodes (Some (Ipv4 a)) = false
+is_all_nodes (Some (Ipv6 a)) = a.bits == 0xff020000000000000000000000000001
 
 -- echo, daytime, quote and chargen (RFC 862, 867, 865, 864)
 abbrev pub is_small_service : ℕ → Bool
@@ -49,7 +61,9 @@ sort_of_ipv6 frame =
     else Plain
 
 abbrev pub kind_of_ipv4 : List ℕ → Kind
-kind_of_ipv4 frame = if is_igmp_query frame then Query else Packet (ipv4_at frame 26) (ipv4_at frame 30) (sort_of_ipv4 frame)
+kind_of_ipv4 frame =
+    if is_igmp_query frame then Query version.Ipv4 (is_all_systems frame (18 + octet_at frame 14 % 16 * 4))
+    else Packet (ipv4_at frame 26) (ipv4_at frame 30) (sort_of_ipv4 frame)
 
 -- where a message of ICMPv6 is: next header 58, or that behind a header of hop-by-hop options (RFC 8200 4.3)
 abbrev pub message_of : List ℕ → Option ℕ
@@ -72,7 +86,7 @@ packet_of_ipv6 sender frame sort = packet_to (target_at frame 38) sender sort
 -- by its type (RFC 3810 5.1; RFC 4861 4.2, 4.3, 4.4)
 abbrev pub kind_of_message : (type at : ℕ) → (sender : IpAddress) → List ℕ → Kind
 kind_of_message type at sender frame =
-    if type == 130 then Query
+    if type == 130 then Query version.Ipv6 (is_all_nodes (target_at frame (at + 8)))
     else if type == 134 then Router sender
     else if type == 135 then Neighbor sender None
     else if type == 136 then Neighbor sender (target_at frame (at + 8))

@@ -6,6 +6,13 @@ use Rattle.ip_address.specs.declared.ethernet_address.EthernetAddress.{EthernetA
 use Rattle.ip_address.specs.declared.hardware.HardwareAddress.{HardwareAddress}
 use Rattle.iface_tables.specs.Neighbor.{Neighbors}
 use Rattle.guard.specs.declared.guard.Guard.{Guard}
+use Rattle.guard.specs.declared.queries.Waits.{Waits}
+use Rattle.guard.specs.Queries.{count_over, waits_over}
+use Rattle.guard.specs.Defence.{after_claim_of, after_taking, is_due}
+use Rattle.guard.specs.declared.defence.Defence.{Defence}
+use Rattle.ip_address.specs.declared.ipv4.Ipv4Address.{Ipv4Address}
+use Rattle.ip_address.specs.declared.protocol.IpVersion.{IpVersion}
+use Rattle.ip_address.specs.declared.protocol.IpVersion.TheVariants.{Ipv4, Ipv6}
 use Rattle.guard.specs.declared.kind.Kind.{Kind}
 use Rattle.guard.specs.declared.kind.Kind.TheVariants.{Arp, Neighbor, Query, Router, Packet, Other}
 use Rattle.guard.specs.declared.kind.Sort.TheVariants.{Loop}
@@ -19,25 +26,27 @@ use Rattle.guard.specs.Pins.{is_forbidden}
 use Rattle.guard.specs.Guard.{reason_of, after_judging, asks_for, is_plain, is_returned, refusal_of, is_expected, is_near, is_own}
 use Rattle.guard.specs.Guard.{is_known, is_last, is_heard, reason_of_router, after_router}
 
--- a frame that comes to a host: when, with what octets, and what hardware address, addresses and neighbours the host has then
+-- a frame that comes to a host: when, with what octets, what hardware address, addresses and neighbours the host has then, and of
+-- whose answers to queries these wait
 pub record Arrival : Type 0 where
   pub at : ℕ
   pub frame : List ℕ
   pub hardware : Option HardwareAddress
   pub own : List IpCidr
   pub known : Neighbors
+  pub waits : Waits
 
 abbrev pub passes : Arrival → Guard → Bool
-passes a g = is_none (reason_of (pos a.at) a.frame a.hardware a.own a.known g)
+passes a g = is_none (reason_of (pos a.at) a.frame a.hardware a.own a.known a.waits g)
 
 abbrev pub after : Arrival → Guard → Guard
-after a g = after_judging (pos a.at) a.frame a.hardware a.own a.known g
+after a g = after_judging (pos a.at) a.frame a.hardware a.own a.known a.waits g
 
 -- it is an ARP packet for an own address or a neighbour message, of somebody that the host doesn't expect
 abbrev pub is_strange_kind : Kind → Arrival → Guard → Bool
 is_strange_kind (Arp sender target) a g = is_own a.own target && not (is_expected (pos a.at) sender a.known g)
 is_strange_kind (Neighbor sender target) a g = not (is_expected (pos a.at) sender a.known g)
-is_strange_kind Query a g = false
+is_strange_kind (Query version idle) a g = false
 is_strange_kind (Router sender) a g = false
 is_strange_kind (Packet sender target sort) a g = false
 is_strange_kind Other a g = false
@@ -49,7 +58,7 @@ is_strange a g = is_strange_kind (kind_of a.frame) a g
 abbrev pub asks_kind : Kind → Arrival → Guard → Bool
 asks_kind (Arp sender target) a g = false
 asks_kind (Neighbor sender target) a g = false
-asks_kind Query a g = false
+asks_kind (Query version idle) a g = false
 asks_kind (Router sender) a g = false
 asks_kind (Packet sender target sort) a g = asks_for sender target sort a.own && not (is_known a.known sender (pos a.at))
 asks_kind Other a g = false
@@ -60,7 +69,7 @@ asks a g = asks_kind (kind_of a.frame) a g
 abbrev pub is_query_kind : Kind → Bool
 is_query_kind (Arp sender target) = false
 is_query_kind (Neighbor sender target) = false
-is_query_kind Query = true
+is_query_kind (Query version idle) = true
 is_query_kind (Router sender) = false
 is_query_kind (Packet sender target sort) = false
 is_query_kind Other = false
@@ -97,9 +106,49 @@ FewQueriesPass =
     (g : Guard) (first last : ℕ) (arrivals : List Arrival) → first ≤ last → AreWithin first last arrivals →
     passed is_query g arrivals * g.queries.interval ≤ (last - first) + g.queries.depth * g.queries.interval
 
+-- it is a query over a version of IP
+abbrev pub is_query_over_kind : IpVersion → Kind → Bool
+is_query_over_kind version (Arp sender target) = false
+is_query_over_kind version (Neighbor sender target) = false
+is_query_over_kind Ipv4 (Query Ipv4 idle) = true
+is_query_over_kind Ipv4 (Query Ipv6 idle) = false
+is_query_over_kind Ipv6 (Query Ipv4 idle) = false
+is_query_over_kind Ipv6 (Query Ipv6 idle) = true
+is_query_over_kind version (Router sender) = false
+is_query_over_kind version (Packet sender target sort) = false
+is_query_over_kind version Other = false
+
+abbrev pub is_query_over : IpVersion → Arrival → Guard → Bool
+is_query_over version a g = is_query_over_kind version (kind_of a.frame)
+
+-- at each of some arrivals an answer over a version waits
+abbrev pub AllWait : IpVersion → List Arrival → Type 0
+AllWait version [] = Unit {0}
+AllWait version (a ∷ later) = (waits_over version a.waits ≡ true) × AllWait version later
+
+-- While an answer to a query waits, no more queries over its version of IP pass than may put it off yet
+abbrev pub FewDelaysPass : Type 0
+FewDelaysPass =
+    (version : IpVersion) (g : Guard) (arrivals : List Arrival) → g.delays.most ≢ 0 → AllWait version arrivals →
+    passed (is_query_over version) g arrivals ≤ g.delays.most - count_over version g.delays
+
+-- A query about the group of all hosts, which is never reported, doesn't pass a guard that bounds queries, and changes nothing
+abbrev pub IdleQueriesStay : Type 0
+IdleQueriesStay =
+    (version : IpVersion) (a : Arrival) (g : Guard) → (g.queries.interval == 0) ≡ false → kind_of a.frame ≡ Query version true →
+    (passes a g ≡ false) × (after a g ≡ g)
+
 -- What doesn't pass changes nothing of the guard
 abbrev pub DroppedChangeNothing : Type 0
 DroppedChangeNothing = (a : Arrival) (g : Guard) → passes a g ≡ false → after a g ≡ g
+
+-- A claim of an own address is answered, unless one was within the interval; the next claims within the interval are not
+abbrev pub DefencesAreApart : Type 0
+DefencesAreApart =
+    (first second : ℕ) (a b : Ipv4Address) (d : Defence) → is_due (pos first) d ≡ true → second < first + d.interval →
+    ((after_claim_of (pos first) (Some a) d).owed ≡ Some a)
+    × (after_claim_of (pos second) (Some b) (after_taking (after_claim_of (pos first) (Some a) d))
+    ≡ after_taking (after_claim_of (pos first) (Some a) d))
 
 -- A frame that is neither an ARP packet nor an IP packet passes, and changes nothing
 abbrev pub OthersPass : Type 0

@@ -1,7 +1,9 @@
 pub mod Kind
 pub mod Claim
 pub mod Pins
+pub mod Queries
 pub mod Guard
+pub mod Defence
 pub mod Answers
 pub mod Laws
 pub mod Ipv6

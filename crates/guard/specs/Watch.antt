@@ -17,6 +17,9 @@ use Rattle.guard.specs.Guard.{after_asking, after_judging, micros, new_guard, re
 use Rattle.guard.specs.Kind.{asked_in}
 use Rattle.guard.specs.Claim.{hardware_at}
 use Rattle.guard.specs.Pins as pins
+use Rattle.guard.specs.Defence.{after_claim, after_taking, no_defence}
+use Rattle.guard.specs.declared.defence.Defence.{Defence}
+use Rattle.guard.specs.declared.queries.Waits.{Waits}
 
 -- one more, up to the greatest number of 64 bits
 abbrev pub one_more : ℕ → ℕ
@@ -30,6 +33,7 @@ no_drops = record {
   new_neighbor = 0;
   discovery = 0;
   query = 0;
+  delay = 0;
   router = 0;
   fragment = 0;
   loops = 0;
@@ -39,7 +43,15 @@ no_drops = record {
 }
 
 abbrev pub new_watch : Watch
-new_watch = record { is_on = true; guard = new_guard; answers = new_answers; counts = no_drops; conflict = None; pinned_conflict = None }
+new_watch = record {
+  is_on = true;
+  guard = new_guard;
+  answers = new_answers;
+  counts = no_drops;
+  conflict = None;
+  pinned_conflict = None;
+  defence = no_defence;
+}
 
 -- a frame was dropped
 abbrev pub after_drop : Reason → Counts → Counts
@@ -49,6 +61,7 @@ after_drop reason.Pinned c = record c { pinned = one_more c.pinned }
 after_drop reason.NewNeighbor c = record c { new_neighbor = one_more c.new_neighbor }
 after_drop reason.Discovery c = record c { discovery = one_more c.discovery }
 after_drop reason.Query c = record c { query = one_more c.query }
+after_drop reason.Delay c = record c { delay = one_more c.delay }
 after_drop reason.Router c = record c { router = one_more c.router }
 after_drop reason.Fragment c = record c { fragment = one_more c.fragment }
 after_drop reason.Loop c = record c { loops = one_more c.loops }
@@ -73,12 +86,18 @@ abbrev pub pinned_conflict_after : ℤ → List ℕ → Reason → Option Confli
 pinned_conflict_after now frame reason.Pinned c = Some (conflict_by now frame)
 pinned_conflict_after now frame other c = c
 
+-- a claim of an own address may be answered
+abbrev pub defence_after : ℤ → List ℕ → Reason → Defence → Defence
+defence_after now frame reason.OwnAddress d = after_claim now frame d
+defence_after now frame other d = d
+
 -- a frame was dropped for a reason
 abbrev pub after_report : ℤ → List ℕ → Reason → Watch → Watch
 after_report now frame why w = record w {
   counts = after_drop why w.counts;
   conflict = conflict_after now frame why w.conflict;
   pinned_conflict = pinned_conflict_after now frame why w.pinned_conflict;
+  defence = defence_after now frame why w.defence;
 }
 
 abbrev pub after_reason : ℤ → List ℕ → Option Reason → Watch → Watch
@@ -86,19 +105,19 @@ after_reason now frame None w = w
 after_reason now frame (Some why) w = after_report now frame why w
 
 -- why the host doesn't get to see a frame
-abbrev pub reason_for : ℤ → List ℕ → Option HardwareAddress → List IpCidr → Neighbors → Watch → Option Reason
-reason_for now frame hardware own known w = if w.is_on then reason_of now frame hardware own known w.guard else None
+abbrev pub reason_for : ℤ → List ℕ → Option HardwareAddress → List IpCidr → Neighbors → Waits → Watch → Option Reason
+reason_for now frame hardware own known waits w = if w.is_on then reason_of now frame hardware own known waits w.guard else None
 
-abbrev pub admits : ℤ → List ℕ → Option HardwareAddress → List IpCidr → Neighbors → Watch → Bool
-admits now frame hardware own known w = is_none (reason_for now frame hardware own known w)
+abbrev pub admits : ℤ → List ℕ → Option HardwareAddress → List IpCidr → Neighbors → Waits → Watch → Bool
+admits now frame hardware own known waits w = is_none (reason_for now frame hardware own known waits w)
 
-abbrev pub with_judging : ℤ → List ℕ → Option HardwareAddress → List IpCidr → Neighbors → Watch → Watch
-with_judging now frame hardware own known w = record w { guard = after_judging now frame hardware own known w.guard }
+abbrev pub with_judging : ℤ → List ℕ → Option HardwareAddress → List IpCidr → Neighbors → Waits → Watch → Watch
+with_judging now frame hardware own known waits w = record w { guard = after_judging now frame hardware own known waits w.guard }
 
-abbrev pub after_arrival : ℤ → List ℕ → Option HardwareAddress → List IpCidr → Neighbors → Watch → Watch
-after_arrival now frame hardware own known w =
-    if w.is_on then after_reason now frame (reason_of now frame hardware own known w.guard)
-    (with_judging now frame hardware own known w) else w
+abbrev pub after_arrival : ℤ → List ℕ → Option HardwareAddress → List IpCidr → Neighbors → Waits → Watch → Watch
+after_arrival now frame hardware own known waits w =
+    if w.is_on then after_reason now frame (reason_of now frame hardware own known waits w.guard)
+    (with_judging now frame hardware own known waits w) else w
 
 -- why an answer to a frame of so many octets is held back
 abbrev pub refused_by : ℤ → List ℕ → (answered : ℕ) → Watch → Option Answer
@@ -124,6 +143,10 @@ after_response now frame answered w =
 -- another frame was sent
 abbrev pub after_sending : ℤ → List ℕ → Watch → Watch
 after_sending now frame w = if w.is_on then record w { guard = after_asking now (asked_in frame) w.guard } else w
+
+-- what was owed is announced
+abbrev pub after_defence : Watch → Watch
+after_defence w = record w { defence = after_taking w.defence }
 
 -- a neighbour was pinned, or is no more
 abbrev pub after_pin : IpAddress → EthernetAddress → Watch → Watch

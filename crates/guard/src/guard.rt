@@ -9,8 +9,9 @@ ghost use Rattle.guard.specs.Kind as kind;
 use crate::claim::{comes_back, is_from_host};
 use crate::kind::{Kind, Sort, asked_in, kind_of, sort_of_ipv4, sort_of_ipv6};
 use crate::pins::Pins;
+use crate::queries::{Delays, Waits};
 use iface_tables::neighbor::Cache;
-use ip_address::{HardwareAddress, IpAddress, IpCidr, Ipv6Address};
+use ip_address::{HardwareAddress, IpAddress, IpCidr, IpVersion, Ipv6Address};
 use ipv6_wire::ipv6_packet::address_at;
 use net_base::time::Instant;
 use token_bucket::bucket::Bucket;
@@ -34,8 +35,10 @@ pub enum Reason {
     /// An IP packet to an own address, other than of UDP and TCP, from somebody of an own network that isn't known, for whose answer
     /// the host would have to ask, beyond the rate of these.
     Discovery,
-    /// A query of IGMP or MLD, beyond the rate of these.
+    /// A query of IGMP or MLD, beyond the rate of these, or about the group of all hosts, which is never reported.
     Query,
+    /// A query of IGMP or MLD, by which an answer that waits would be put off once more than it may be.
+    Delay,
     /// A router advertisement of another router than the one that was heard last, too early after it.
     Router,
     /// A fragment of an IP packet.
@@ -67,8 +70,10 @@ pub struct Guard {
     pub neighbors: Bucket,
     /// For how many packets of neighbours that aren't known the host may ask.
     pub discoveries: Bucket,
-    /// How many queries are answered.
+    /// How many queries the host gets to see. If that is bounded, those about the group of all hosts are dropped.
     pub queries: Bucket,
+    /// How often an answer to a query may be put off, and how often it was.
+    pub delays: Delays,
     /// How long another router isn't heard after one was let through, in microseconds; 0 bounds nothing.
     pub router_time: u64,
     /// The neighbours whose hardware address the program says.
@@ -81,7 +86,8 @@ pub struct Guard {
 
 impl Guard {
     /// A guard that lets through, of those that aren't known, two neighbours a second, eight of them at once, and a packet in two
-    /// seconds; a query in a second; and another router in a minute. It keeps own addresses, and drops loops, not fragments.
+    /// seconds; a query in a second, however often an answer is put off; and another router in a minute. It keeps own addresses, and
+    /// drops loops, not fragments.
     pub const fn new() -> Guard
         ensures { result ≡ spec.new_guard }
     {
@@ -92,6 +98,7 @@ impl Guard {
             neighbors: Bucket::new(500_000, 8),
             discoveries: Bucket::new(2_000_000, 1),
             queries: Bucket::new(1_000_000, 1),
+            delays: Delays::NONE,
             router_time: 60_000_000,
             pins: Pins::new(),
             asked: None,
@@ -100,7 +107,7 @@ impl Guard {
     }
 
     /// Judges a frame that came at an instant, for a host with this hardware address (`None` on a medium without), these addresses
-    /// and these neighbours. Returns why the host may not see it; `None` if it may.
+    /// and these neighbours, of whose answers to queries these wait. Returns why the host may not see it; `None` if it may.
     #[inline(always)]
     pub fn judge(
         &mut self,
@@ -109,14 +116,15 @@ impl Guard {
         hardware: Option<HardwareAddress>,
         own: &[IpCidr],
         neighbors: &Cache,
+        waits: Waits,
     ) -> Option<Reason>
-        ensures reason { result ≡ spec.reason_of now frame.now hardware own.now neighbors.now self.old }
-        ensures guard { self.new ≡ spec.after_judging now frame.now hardware own.now neighbors.now self.old }
+        ensures reason { result ≡ spec.reason_of now frame.now hardware own.now neighbors.now waits self.old }
+        ensures guard { self.new ≡ spec.after_judging now frame.now hardware own.now neighbors.now waits self.old }
     {
         if is_ordinary(frame, own) {
             return None;
         }
-        self.judge_kind(now, frame, hardware, own, neighbors)
+        self.judge_kind(now, frame, hardware, own, neighbors, waits)
     }
 
     /// Judges a frame by its kind.
@@ -128,9 +136,10 @@ impl Guard {
         hardware: Option<HardwareAddress>,
         own: &[IpCidr],
         neighbors: &Cache,
+        waits: Waits,
     ) -> Option<Reason>
-        ensures reason { result ≡ spec.reason_of now frame.now hardware own.now neighbors.now self.old }
-        ensures guard { self.new ≡ spec.after_judging now frame.now hardware own.now neighbors.now self.old }
+        ensures reason { result ≡ spec.reason_of now frame.now hardware own.now neighbors.now waits self.old }
+        ensures guard { self.new ≡ spec.after_judging now frame.now hardware own.now neighbors.now waits self.old }
     {
         match kind_of(frame) {
             Kind::Arp { sender, target } => {
@@ -156,7 +165,7 @@ impl Guard {
                     Reason::NewNeighbor,
                 )
             }
-            Kind::Query => take(&mut self.queries, now, Reason::Query),
+            Kind::Query { version, is_idle } => self.judge_query(now, version, is_idle, waits),
             Kind::Router { sender } => self.judge_router(now, sender),
             Kind::Packet {
                 sender,
@@ -240,6 +249,39 @@ impl Guard {
         }
     }
 
+    /// Judges a query by what it is about, by how often the answer was put off, and by its rate.
+    fn judge_query(
+        &mut self,
+        now: Instant,
+        version: IpVersion,
+        is_idle: bool,
+        waits: Waits,
+    ) -> Option<Reason>
+        ensures reason { result ≡ spec.reason_of_query now version is_idle waits self.old }
+        ensures guard { self.new ≡ spec.after_query now version is_idle waits self.old }
+    {
+        let refusal = self.refusal_of_query(version, is_idle, waits);
+        let reason = judge_by(refusal, false, &mut self.queries, now, Reason::Query);
+        if reason.is_none() {
+            self.delays.note(version, waits);
+        }
+        reason
+    }
+
+    /// Why a query is dropped, whatever its rate: it is about the group of all hosts, or would put off an answer once more than that
+    /// may be put off.
+    fn refusal_of_query(&self, version: IpVersion, is_idle: bool, waits: Waits) -> Option<Reason>
+        ensures { result ≡ spec.refusal_of_query version is_idle waits self.now }
+    {
+        if is_idle && self.queries.interval != 0 {
+            return Some(Reason::Query);
+        }
+        if self.delays.are_over(version, waits) {
+            return Some(Reason::Delay);
+        }
+        None
+    }
+
     /// Judges a router advertisement: that of the router which was heard last passes, and that of another one so long after that
     /// one was let through.
     fn judge_router(&mut self, now: Instant, sender: IpAddress) -> Option<Reason>
@@ -285,7 +327,7 @@ impl Guard {
 }
 
 /// The microseconds of an instant; 0 before the origin.
-fn micros(now: Instant) -> u64
+pub(crate) fn micros(now: Instant) -> u64
     ensures { result ≡ spec.micros now }
 {
     let micros = now.total_micros();

@@ -2,9 +2,12 @@
 ghost use Rattle.std.specs.Prelude.{◌≡◌, ◌+◌, ◌≤◌, length};
 ghost use Rattle.guard.specs.Kind as spec;
 
-use ip_address::{IpAddress, Ipv4Address};
+use ip_address::{IpAddress, IpVersion, Ipv4Address};
 use ipv6_wire::ipv6_packet::address_at;
 use wire_base::octets::{u16_at, u32_at};
+
+/// The number of ff02::1 (RFC 4291 2.7.1).
+const ALL_NODES: u128 = 0xff02_0000_0000_0000_0000_0000_0000_0001;
 
 /// What a frame is.
 #[derive(Clone, Copy, Debug, PartialEq, Eq)]
@@ -23,8 +26,13 @@ pub enum Kind {
         /// Of an advertisement: whose hardware address it tells.
         target: Option<IpAddress>,
     },
-    /// A query of IGMP (RFC 2236 2) or of MLD (RFC 3810 5.1).
-    Query,
+    /// A query of IGMP, over IPv4 (RFC 2236 2), or of MLD, over IPv6 (RFC 3810 5.1).
+    Query {
+        /// Over which version of IP.
+        version: IpVersion,
+        /// Whether it is about the group of all hosts, 224.0.0.1 or ff02::1, which no host reports (RFC 2236 6, RFC 3810 6).
+        is_idle: bool,
+    },
     /// A router advertisement (RFC 4861 4.2).
     Router {
         /// Who sends it.
@@ -82,12 +90,36 @@ fn kind_of_ipv4(frame: &[u8]) -> Kind
 {
     let message = 14 + usize::from(frame[14] % 16) * 4;
     if frame[23] == 2 && octet_at(frame, message) == 0x11 {
-        return Kind::Query;
+        return Kind::Query {
+            version: IpVersion::Ipv4,
+            is_idle: is_all_systems(frame, message + 4),
+        };
     }
     Kind::Packet {
         sender: ipv4_at(frame, 26),
         target: ipv4_at(frame, 30),
         sort: sort_of_ipv4(frame),
+    }
+}
+
+/// Whether the group of all hosts over IPv4, 224.0.0.1, is at an offset.
+fn is_all_systems(frame: &[u8], at: usize) -> bool
+    requires { at ≤ 4096 }
+    ensures { result ≡ spec.is_all_systems frame.now at }
+{
+    octet_at(frame, at) == 224
+        && octet_at(frame, at + 1) == 0
+        && octet_at(frame, at + 2) == 0
+        && octet_at(frame, at + 3) == 1
+}
+
+/// Whether an address, if there is one, is that of all nodes over IPv6, ff02::1.
+fn is_all_nodes(address: Option<IpAddress>) -> bool
+    ensures { result ≡ spec.is_all_nodes address }
+{
+    match address {
+        Some(IpAddress::Ipv6(address)) => address.bits == ALL_NODES,
+        Some(IpAddress::Ipv4(_)) | None => false,
     }
 }
 
@@ -142,7 +174,10 @@ fn kind_of_ipv6(frame: &[u8]) -> Kind
         return packet_of_ipv6(sender, frame, sort_of_ipv6(frame));
     };
     match octet_at(frame, message) {
-        130 => Kind::Query,
+        130 => Kind::Query {
+            version: IpVersion::Ipv6,
+            is_idle: is_all_nodes(target_at(frame, message + 8)),
+        },
         134 => Kind::Router { sender },
         135 => Kind::Neighbor {
             sender,

@@ -1,7 +1,8 @@
 //! What a guard promises, whatever frames come, each law as the contract of an empty function.
 ghost use Rattle.guard.specs.AnswerLaws.{ErrorsAreShort, FewAnswersGo, OtherAnswersGo};
 ghost use Rattle.guard.specs.Ipv6Laws.{Ipv6LoopsEnd, KnownMessagesPass, OwnMessagesStay, PinnedMessagesStay, StreamsPass};
-ghost use Rattle.guard.specs.Laws.{DroppedChangeNothing, FewDiscoveriesPass, FewNeighborsPass, FewQueriesPass};
+ghost use Rattle.guard.specs.Laws.{DefencesAreApart, DroppedChangeNothing, FewDelaysPass, FewDiscoveriesPass, FewNeighborsPass, FewQueriesPass};
+ghost use Rattle.guard.specs.Laws.{IdleQueriesStay};
 ghost use Rattle.guard.specs.Laws.{KnownArpPass, KnownPass, LoopsEnd, OthersPass, OwnAddressesStay, PinnedStay, RoutersStay};
 
 /// Of ARP packets for own addresses, and neighbour messages, of somebody that isn't known and wasn't asked for, so many pass from one instant to another:
@@ -20,9 +21,24 @@ pub fn few_queries_pass()
     ensures { FewQueriesPass }
 {}
 
+/// While an answer to a query waits, no more queries over its version of IP pass than may put it off yet.
+pub fn few_delays_pass()
+    ensures { FewDelaysPass }
+{}
+
+/// A query about the group of all hosts doesn't pass, if queries have a rate.
+pub fn idle_queries_stay()
+    ensures { IdleQueriesStay }
+{}
+
 /// What doesn't pass changes nothing of the guard: it takes no token, and is noted nowhere.
 pub fn dropped_change_nothing()
     ensures { DroppedChangeNothing }
+{}
+
+/// A claim of an own address is answered, unless one was within the interval, and those that follow within the interval are not.
+pub fn defences_are_apart()
+    ensures { DefencesAreApart }
 {}
 
 /// A frame that is neither an ARP packet nor an IP packet passes.

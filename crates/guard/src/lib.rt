@@ -7,13 +7,17 @@
 
 pub mod answers;
 pub mod claim;
+pub mod defence;
 pub mod guard;
 pub mod kind;
 pub mod laws;
 pub mod pins;
+pub mod queries;
 pub mod watch;
 
 pub use answers::{Answer, Answers};
+pub use defence::{Defence, announcement};
 pub use guard::{Guard, Reason};
 pub use pins::{PINNED_COUNT, Pinned, Pins};
+pub use queries::{Delays, Waits};
 pub use watch::{Conflict, Counts, Watch};

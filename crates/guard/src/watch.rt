@@ -1,11 +1,14 @@
 //! A guard on its post: what it drops is counted by the reason, and who claims an own address is told.
 ghost use Rattle.std.specs.Prelude.{◌≡◌, false};
+ghost use Rattle.guard.specs.Defence as defence;
 ghost use Rattle.guard.specs.Pins as pins;
 ghost use Rattle.guard.specs.Watch as spec;
 
 use crate::answers::{Answer, Answers};
 use crate::claim::hardware_at;
+use crate::defence::{Defence, announced};
 use crate::guard::{Guard, Reason};
+use crate::queries::Waits;
 use iface_tables::neighbor::Cache;
 use ip_address::{EthernetAddress, HardwareAddress, IpAddress, IpCidr};
 use net_base::time::Instant;
@@ -23,8 +26,10 @@ pub struct Counts {
     pub new_neighbor: u64,
     /// Packets for whose answer the host would have to ask.
     pub discovery: u64,
-    /// Queries of IGMP and MLD.
+    /// Queries of IGMP and MLD, beyond their rate.
     pub query: u64,
+    /// Queries of IGMP and MLD, by which an answer that waits would be put off once more than it may be.
+    pub delay: u64,
     /// Router advertisements.
     pub router: u64,
     /// Fragments.
@@ -48,6 +53,7 @@ impl Counts {
         new_neighbor: 0,
         discovery: 0,
         query: 0,
+        delay: 0,
         router: 0,
         fragment: 0,
         loops: 0,
@@ -67,6 +73,7 @@ impl Counts {
             Reason::NewNeighbor => self.new_neighbor = self.new_neighbor.saturating_add(1),
             Reason::Discovery => self.discovery = self.discovery.saturating_add(1),
             Reason::Query => self.query = self.query.saturating_add(1),
+            Reason::Delay => self.delay = self.delay.saturating_add(1),
             Reason::Router => self.router = self.router.saturating_add(1),
             Reason::Fragment => self.fragment = self.fragment.saturating_add(1),
             Reason::Loop => self.loops = self.loops.saturating_add(1),
@@ -109,6 +116,8 @@ pub struct Watch {
     pub conflict: Option<Conflict>,
     /// Who claimed a pinned address last.
     pub pinned_conflict: Option<Conflict>,
+    /// Whether claims of own addresses are answered, and what is owed.
+    pub defence: Defence,
 }
 
 impl Watch {
@@ -123,12 +132,14 @@ impl Watch {
             counts: Counts::NONE,
             conflict: None,
             pinned_conflict: None,
+            defence: Defence::NONE,
         }
     }
 
-    /// Whether the host, which has this hardware address (`None` on a medium without), these addresses and these neighbours, may see
-    /// a frame that came at an instant. What it may not see is counted by the reason; if the frame claims an own address or a pinned
-    /// one, who sent it is noted.
+    /// Whether the host, which has this hardware address (`None` on a medium without), these addresses and these neighbours, and of
+    /// whose answers to queries these wait, may see a frame that came at an instant. What it may not see is counted by the reason; if
+    /// the frame claims an own address or a pinned one, who sent it is noted, and an announcement of an own one may be owed
+    /// ([`Watch::announcement_due`]).
     #[inline(always)]
     pub fn admits(
         &mut self,
@@ -137,14 +148,18 @@ impl Watch {
         hardware: Option<HardwareAddress>,
         own: &[IpCidr],
         neighbors: &Cache,
+        waits: Waits,
     ) -> bool
-        ensures admitted { result ≡ spec.admits now frame.now hardware own.now neighbors.now self.old }
-        ensures watch { self.new ≡ spec.after_arrival now frame.now hardware own.now neighbors.now self.old }
+        ensures admitted { result ≡ spec.admits now frame.now hardware own.now neighbors.now waits self.old }
+        ensures watch { self.new ≡ spec.after_arrival now frame.now hardware own.now neighbors.now waits self.old }
     {
         if !self.is_on {
             return true;
         }
-        match self.guard.judge(now, frame, hardware, own, neighbors) {
+        match self
+            .guard
+            .judge(now, frame, hardware, own, neighbors, waits)
+        {
             None => true,
             Some(reason) => {
                 self.report(now, frame, reason);
@@ -170,6 +185,16 @@ impl Watch {
                 false
             }
         }
+    }
+
+    /// The frame that announces an own address, if one is owed since somebody claimed it, for a host with this hardware address
+    /// (`None` on a medium without, where nothing is announced). It is owed no more.
+    pub fn announcement_due(&mut self, hardware: Option<HardwareAddress>) -> Option<[u8; 42]>
+        ensures due { result ≡ defence.announced hardware self.old.defence.owed }
+        ensures taken { self.new ≡ spec.after_defence self.old }
+    {
+        let owed = self.defence.take();
+        announced(hardware, owed)
     }
 
     /// Pins a neighbour to a hardware address, as `Pins::pin` says. Returns whether there was room; if there was none, nothing changes.
@@ -198,7 +223,8 @@ impl Watch {
         }
     }
 
-    /// Counts a frame that is dropped, and notes who sent it, if it claims an own address or a pinned one.
+    /// Counts a frame that is dropped, and notes who sent it, if it claims an own address or a pinned one. A defence of an own one may
+    /// be owed from then on.
     #[inline(never)]
     fn report(&mut self, now: Instant, frame: &[u8], reason: Reason)
         ensures { self.new ≡ spec.after_report now frame.now reason self.old }
@@ -209,7 +235,10 @@ impl Watch {
             at: now,
         };
         match reason {
-            Reason::OwnAddress => self.conflict = Some(conflict),
+            Reason::OwnAddress => {
+                self.conflict = Some(conflict);
+                self.defence.note_claim(now, frame);
+            }
             Reason::Pinned => self.pinned_conflict = Some(conflict),
             _ => {}
         }

@@ -6,4 +6,6 @@ mod answers;
 #[cfg(test)]
 mod frames;
 #[cfg(test)]
+mod rules;
+#[cfg(test)]
 mod strangers;

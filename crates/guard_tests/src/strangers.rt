@@ -3,6 +3,7 @@ use crate::frames::{
     request_for,
 };
 use guard::guard::{Guard, Reason};
+use guard::queries::Waits;
 use guard::watch::{Conflict, Watch};
 use iface_tables::neighbor::Cache;
 use ip_wire::{EthernetAddress, IpAddress, Ipv4Address};
@@ -15,7 +16,7 @@ type Row<'a> = (u32, &'a [u8], Option<Reason>);
 // What becomes of a frame at this many milliseconds.
 fn judged(guard: &mut Guard, millis: u32, frame: &[u8], neighbors: &Cache) -> Option<Reason> {
     let now = Instant::from_micros(i64::from(millis) * 1_000);
-    guard.judge(now, frame, hardware(), &OWN, neighbors)
+    guard.judge(now, frame, hardware(), &OWN, neighbors, Waits::NONE)
 }
 
 // Judges frames one after the other, and gives the first row that says otherwise.
@@ -214,7 +215,14 @@ fn own_packets_come_back(rt: HostRuntime) {
     (other[35], other[37]) = (7, 7);
     let mut own = other;
     put(&mut own, 6, HARDWARE);
-    let none = guard.judge(Instant::from_millis(0), &own, None, &OWN, &neighbors);
+    let none = guard.judge(
+        Instant::from_millis(0),
+        &own,
+        None,
+        &OWN,
+        &neighbors,
+        Waits::NONE,
+    );
     let mut looping = own;
     looping[29] = 9;
     let rows: [Row<'_>; 3] = [
@@ -356,7 +364,7 @@ fn fragments_are_dropped_if_told(rt: HostRuntime) {
 // Whether a frame passes a guard on its post, at this many milliseconds.
 fn admits(watch: &mut Watch, millis: u32, frame: &[u8], neighbors: &Cache) -> bool {
     let now = Instant::from_micros(i64::from(millis) * 1_000);
-    watch.admits(now, frame, hardware(), &OWN, neighbors)
+    watch.admits(now, frame, hardware(), &OWN, neighbors, Waits::NONE)
 }
 
 // A guard on its post counts what it drops by the reason, and tells who claimed an own address.

@@ -4,7 +4,7 @@ ghost use Rattle.guard.specs.Watch as watch;
 ghost use Rattle.guarded_device.specs.Guarded as spec;
 ghost use Rattle.guarded_device.specs.Guarded.{Hears};
 
-use guard::Watch;
+use guard::{Waits, Watch};
 use iface_tables::neighbor::Cache;
 use ip_address::{HardwareAddress, IpCidr};
 use net_base::phy::{Device, DeviceCapabilities, PacketMeta};
@@ -48,9 +48,9 @@ impl<D: Device> Guarded<D> {
         }
     }
 
-    /// Asks the device for a frame at a moment, for a host with this hardware address, these addresses and these neighbours. A frame
-    /// that the guard admits is at the front of the buffer, as the device delivered it; of one that is dropped nothing is to be read
-    /// there.
+    /// Asks the device for a frame at a moment, for a host with this hardware address, these addresses and these neighbours, of whose
+    /// answers to queries these wait. A frame that the guard admits is at the front of the buffer, as the device delivered it; of one
+    /// that is dropped nothing is to be read there.
     pub fn hear(
         &mut self,
         now: Instant,
@@ -58,9 +58,10 @@ impl<D: Device> Guarded<D> {
         hardware: Option<HardwareAddress>,
         own: &[IpCidr],
         neighbors: &Cache,
+        waits: Waits,
     ) -> Heard
         requires { length buffer.old ≡ 1514 }
-        ensures heard { Hears D.tells now hardware own.now neighbors.now result buffer.new self.old.device self.old.watch
+        ensures heard { Hears D.tells now hardware own.now neighbors.now waits result buffer.new self.old.device self.old.watch
             self.new.device self.new.watch }
         ensures permission { spec.is_frame result ≡ true → D.may_transmit self.new.device ≡ true }
     {
@@ -68,7 +69,10 @@ impl<D: Device> Guarded<D> {
             return Heard::Nothing;
         };
         let frame = &buffer[..len];
-        if self.watch.admits(now, frame, hardware, own, neighbors) {
+        if self
+            .watch
+            .admits(now, frame, hardware, own, neighbors, waits)
+        {
             Heard::Frame(len)
         } else {
             Heard::Dropped

@@ -4,6 +4,7 @@ use Rattle.token_bucket.specs.declared.bucket.Bucket.{Bucket}
 use Rattle.guard.specs.declared.watch.Conflict.{Conflict}
 use Rattle.guard.specs.declared.watch.Watch.{Watch}
 use Rattle.guard.specs.Pins.{no_pins}
+use Rattle.guard.specs.Queries.{no_delays}
 use Rattle.guard.specs.Watch.{no_drops}
 use Rattle.iface_host.specs.declared.host.Host.{Host}
 use Rattle.iface_c.specs.Properties.{holds_in}
@@ -26,6 +27,7 @@ watch_in c = record {
     neighbors = bucket_in c.neighbors;
     discoveries = bucket_in c.discoveries;
     queries = bucket_in c.queries;
+    delays = no_delays;
     router_time = c.routers;
     pins = no_pins;
     asked = None;
@@ -40,6 +42,7 @@ watch_in c = record {
   counts = no_drops;
   conflict = None;
   pinned_conflict = None;
+  defence = record { interval = c.defend; last = None; owed = None };
 }
 
 -- what most programs want: the usual rules and rates, but none of echo replies
@@ -57,6 +60,7 @@ usual_guard = record {
   loops = 1;
   fragments = 0;
   longest_error = 3;
+  defend = 0;
 }
 
 -- what was dropped and held back, as C reads it

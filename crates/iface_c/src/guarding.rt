@@ -12,7 +12,7 @@ ghost use Rattle.iface_c.specs.Status.{code_by, code_with};
 use crate::addresses::IfaceAddress;
 use crate::handle::Iface;
 use crate::status::{BAD_ARGUMENT, NO_HOST, NOT_THERE, OK, code};
-use guard::{Answers, Counts, Guard, Pins, Watch};
+use guard::{Answers, Counts, Defence, Delays, Guard, Pins, Watch};
 use ip_wire::EthernetAddress;
 use std::alloc::Global;
 use token_bucket::bucket::Bucket;
@@ -64,6 +64,8 @@ pub struct IfaceGuard {
     pub fragments: u8,
     /// How many times as long an error may be as what it answers; 0 sets no bound.
     pub longest_error: u32,
+    /// How long after the announcement of an own address the next one may be sent, in microseconds; 0: none is.
+    pub defend: u32,
 }
 
 impl IfaceGuard {
@@ -102,6 +104,7 @@ impl IfaceGuard {
             loops: 1,
             fragments: 0,
             longest_error: 3,
+            defend: 0,
         }
     }
 
@@ -118,6 +121,7 @@ impl IfaceGuard {
                 neighbors: self.neighbors.bucket(),
                 discoveries: self.discoveries.bucket(),
                 queries: self.queries.bucket(),
+                delays: Delays::NONE,
                 router_time: u64::from(self.routers),
                 pins: Pins::new(),
                 asked: None,
@@ -132,6 +136,11 @@ impl IfaceGuard {
             counts: Counts::NONE,
             conflict: None,
             pinned_conflict: None,
+            defence: Defence {
+                interval: u64::from(self.defend),
+                last: None,
+                owed: None,
+            },
         }
     }
 }
@@ -150,7 +159,7 @@ pub struct IfaceDrops {
     pub new_neighbor: u64,
     /// Packets for whose answer the host would have to ask.
     pub discovery: u64,
-    /// Queries of IGMP and MLD.
+    /// Queries of IGMP and MLD, beyond their rate, or about the group of all hosts.
     pub query: u64,
     /// Router advertisements.
     pub router: u64,

@@ -21,13 +21,15 @@ use Rattle.interface.specs.Refines.{HostRefinesTelling}
 use Rattle.interface.specs.Receives.{HostRefinesReceiving, frames_shown}
 use Rattle.interface.specs.Stands as interfaces
 use Rattle.interface.specs.declared.interface.Interface.{Interface}
+use Rattle.guard.specs.Defence.{announced}
 use Rattle.guard.specs.Watch as guard
 use Rattle.iface_tables.specs.Neighbor.{Neighbors}
 use Rattle.ip_address.specs.declared.cidr.IpCidr.{IpCidr}
 use Rattle.ip_address.specs.declared.hardware.HardwareAddress.{HardwareAddress}
+use Rattle.guard.specs.declared.queries.Waits.{Waits}
 use Rattle.guard.specs.declared.watch.Watch.{Watch}
 use Rattle.iface_host.specs.Frames.{Gives, IsDue, IsWritten, Made, PollsInto, Round, Takes, after_response, is_piece_left, let_go, planned}
-use Rattle.iface_host.specs.Guarded.{Admitted, Dropped, NextIs, Receives, after_arrival, after_sending, is_admitted}
+use Rattle.iface_host.specs.Guarded.{Admitted, Defends, Dropped, NextIs, Receives, after_arrival, after_sending, hardware_addr_of, is_admitted}
 use Rattle.iface_host.specs.Counters.{after_handing, after_taking}
 use Rattle.iface_host.specs.Outbox.{Tells, Waiting, empty, with_room}
 use Rattle.iface_host.specs.RoundDevice as device
@@ -81,22 +83,24 @@ all_of n octets short = sym (take_all n octets short)
 
 -- a guard judges by the host's own hardware address, addresses and neighbours
 pub admits_as : (t : ℤ) (frame : List ℕ) (hardware hardware' : Option HardwareAddress) → hardware ≡ hardware' →
-    (own own' : List IpCidr) → own ≡ own' → (known known' : Neighbors) → known ≡ known' → (w : Watch) →
-    guard.admits t frame hardware own known w ≡ guard.admits t frame hardware' own' known' w
-admits_as t frame hardware hardware' same_hardware own own' same known known' same' w =
-    ap (λ (h : Option HardwareAddress). guard.admits t frame h own known w) same_hardware
-    ∙ ap (λ (o : List IpCidr). guard.admits t frame hardware' o known w) same
-    ∙ ap (λ (k : Neighbors). guard.admits t frame hardware' own' k w) same'
+    (own own' : List IpCidr) → own ≡ own' → (known known' : Neighbors) → known ≡ known' → (waits waits' : Waits) → waits ≡ waits' →
+    (w : Watch) → guard.admits t frame hardware own known waits w ≡ guard.admits t frame hardware' own' known' waits' w
+admits_as t frame hardware hardware' same_hardware own own' same known known' same' waits waits' same_waits w =
+    ap (λ (h : Option HardwareAddress). guard.admits t frame h own known waits w) same_hardware
+    ∙ ap (λ (o : List IpCidr). guard.admits t frame hardware' o known waits w) same
+    ∙ ap (λ (k : Neighbors). guard.admits t frame hardware' own' k waits w) same'
+    ∙ ap (λ (x : Waits). guard.admits t frame hardware' own' known' x w) same_waits
 
 pub arrives_as : (t : ℤ) (frame : List ℕ) (hardware hardware' : Option HardwareAddress) → hardware ≡ hardware' →
-    (own own' : List IpCidr) → own ≡ own' → (known known' : Neighbors) → known ≡ known' → (host : Host) →
-    (w : Watch) → w ≡ guard.after_arrival t frame hardware own known host.watch →
-    record host { watch = w } ≡ record host { watch = guard.after_arrival t frame hardware' own' known' host.watch }
-arrives_as t frame hardware hardware' same_hardware own own' same known known' same' host w is =
+    (own own' : List IpCidr) → own ≡ own' → (known known' : Neighbors) → known ≡ known' → (waits waits' : Waits) → waits ≡ waits' →
+    (host : Host) (w : Watch) → w ≡ guard.after_arrival t frame hardware own known waits host.watch →
+    record host { watch = w } ≡ record host { watch = guard.after_arrival t frame hardware' own' known' waits' host.watch }
+arrives_as t frame hardware hardware' same_hardware own own' same known known' same' waits waits' same_waits host w is =
     ap (λ (v : Watch). record host { watch = v }) (is
-    ∙ ap (λ (h : Option HardwareAddress). guard.after_arrival t frame h own known host.watch) same_hardware
-    ∙ ap (λ (o : List IpCidr). guard.after_arrival t frame hardware' o known host.watch) same
-    ∙ ap (λ (k : Neighbors). guard.after_arrival t frame hardware' own' k host.watch) same')
+    ∙ ap (λ (h : Option HardwareAddress). guard.after_arrival t frame h own known waits host.watch) same_hardware
+    ∙ ap (λ (o : List IpCidr). guard.after_arrival t frame hardware' o known waits host.watch) same
+    ∙ ap (λ (k : Neighbors). guard.after_arrival t frame hardware' own' k waits host.watch) same'
+    ∙ ap (λ (x : Waits). guard.after_arrival t frame hardware' own' known' x host.watch) same_waits)
 
 -- a frame was taken
 pub received : (t : ℤ) (frame : List ℕ) (n : ℕ) (before after : List ℕ) (old : Host) (i : Interface) (s : Sockets (Bor (Unit {0})))
@@ -139,9 +143,25 @@ admitted t t' same frame n before after old mid new is mid_is takes =
     subst (λ (m : ℤ). Receives m frame n before after old new) same
     (Admitted is (subst (λ (h : Host). Takes t' frame n before after h new) mid_is takes))
 
-pub dropped : (t t' : ℤ) → t' ≡ t → (frame out : List ℕ) (old mid : Host) → is_admitted t' frame old ≡ false →
-    mid ≡ after_arrival t' frame old → Receives t frame 0 out out old mid
-dropped t t' same frame out old mid is mid_is = subst (λ (m : ℤ). Receives m frame 0 out out old mid) same (Dropped is refl refl mid_is)
+pub dropped : (t t' : ℤ) → t' ≡ t → (frame : List ℕ) (n : ℕ) (before after : List ℕ) (old mid new : Host) →
+    is_admitted t' frame old ≡ false → mid ≡ after_arrival t' frame old → Defends n before after mid new → Receives t frame n before after old new
+dropped t t' same frame n before after old mid new is mid_is defends =
+    subst (λ (m : ℤ). Receives m frame n before after old new) same
+    (Dropped is (subst (λ (h : Host). Defends n before after h new) mid_is defends))
+
+-- an announcement was written and counted, or none was owed
+pub defended : (n : ℕ) (before after : List ℕ) (old : Host) (hardware : Option HardwareAddress) → hardware ≡ hardware_addr_of old →
+    (frame result : Option (List ℕ)) → result ≡ announced hardware old.watch.defence.owed → result ≡ frame →
+    IsWritten frame n before after → (w : Watch) → w ≡ guard.after_defence old.watch → (counts : FrameCounts) →
+    counts ≡ after_handing n old.frames → Defends n before after old (record old { watch = w; frames = counts })
+defended n before after old hardware own frame result is shown written w w_is counts counts_is = record {
+  written =
+      subst (λ (x : Option (List ℕ)). IsWritten x n before after)
+      (sym shown ∙ is ∙ ap (λ (h : Option HardwareAddress). announced h old.watch.defence.owed) own) written;
+  rest =
+      ap (λ (v : Watch). record old { watch = v; frames = counts }) w_is
+      ∙ ap (λ (f : FrameCounts). record old { watch = guard.after_defence old.watch; frames = f }) counts_is;
+}
 
 pub noted : (t t' : ℤ) → t' ≡ t → (n : ℕ) (before after : List ℕ) (old given new : Host) → Gives t' n before after old given →
     new ≡ after_sending t' (take n after) given → NextIs t n before after old new

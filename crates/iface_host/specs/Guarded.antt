@@ -5,11 +5,14 @@ use Rattle.ip_address.specs.Ip.{is_unicast}
 use Rattle.ip_address.specs.declared.ethernet_address.EthernetAddress.{EthernetAddress}
 use Rattle.ip_address.specs.declared.hardware.HardwareAddress.{HardwareAddress}
 use Rattle.ip_address.specs.declared.ip.IpAddress.{IpAddress}
+use Rattle.guard.specs.Defence.{announced}
 use Rattle.guard.specs.Pins as pins
+use Rattle.guard.specs.declared.queries.Waits.{Waits}
 use Rattle.host_machine.specs.State.Config.{if_ethernet}
 use Rattle.guard.specs.Watch as guard
 use Rattle.iface_host.specs.Calls.{addresses_of}
-use Rattle.iface_host.specs.Frames.{Gives, Takes}
+use Rattle.iface_host.specs.Counters.{after_handing}
+use Rattle.iface_host.specs.Frames.{Gives, IsWritten, Takes}
 use Rattle.iface_host.specs.Properties.{machine_of}
 use Rattle.iface_host.specs.declared.host.Host.{Host}
 use Rattle.iface_host.specs.declared.refusal.Refusal.{Refusal}
@@ -19,20 +22,32 @@ use Rattle.iface_host.specs.declared.refusal.Refusal.TheVariants.{NotThere, NotU
 abbrev pub hardware_addr_of : Host → Option HardwareAddress
 hardware_addr_of host = if_ethernet (machine_of host).hardware_addr
 
+-- the guard isn't told which answers to queries wait
+abbrev pub no_waits : Waits
+no_waits = record { igmp = false; mld = false }
+
 -- whether the host gets to see a frame, and what the guard keeps afterwards
 abbrev pub is_admitted : ℤ → List ℕ → Host → Bool
 is_admitted t frame host =
-    guard.admits t frame (hardware_addr_of host) (addresses_of host) (machine_of host).neighbors host.watch
+    guard.admits t frame (hardware_addr_of host) (addresses_of host) (machine_of host).neighbors no_waits host.watch
 
 abbrev pub after_arrival : ℤ → List ℕ → Host → Host
 after_arrival t frame host =
-    record host { watch = guard.after_arrival t frame (hardware_addr_of host) (addresses_of host) (machine_of host).neighbors host.watch }
+    record host {
+      watch = guard.after_arrival t frame (hardware_addr_of host) (addresses_of host) (machine_of host).neighbors no_waits host.watch;
+    }
 
--- a frame is taken as without a guard, after that noted it; one that isn't admitted changes nothing else
+-- the announcement of an own address that the guard owes, if it does, is written, and counted
+pub record Defends (n : ℕ) (before after : List ℕ) (old new : Host) : Type 0 where
+  pub written : IsWritten (announced (hardware_addr_of old) old.watch.defence.owed) n before after
+  pub rest : new ≡ record old { watch = guard.after_defence old.watch; frames = after_handing n old.frames }
+
+-- a frame is taken as without a guard, after that noted it; one that isn't admitted changes nothing else, and is answered by an
+-- announcement if one is owed
 pub data Receives (t : ℤ) (frame : List ℕ) (n : ℕ) (before after : List ℕ) (old new : Host) : Type 0 where
   Admitted : is_admitted t frame old ≡ true → Takes t frame n before after (after_arrival t frame old) new →
       Receives t frame n before after old new
-  Dropped : is_admitted t frame old ≡ false → n ≡ 0 → after ≡ before → new ≡ after_arrival t frame old →
+  Dropped : is_admitted t frame old ≡ false → Defends n before after (after_arrival t frame old) new →
       Receives t frame n before after old new
 
 -- a frame was sent, and the guard noted it

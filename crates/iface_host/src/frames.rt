@@ -23,8 +23,9 @@ const LAST_MOMENT: i64 = 1 << 62;
 impl Host {
     /// Takes a frame at a moment, and writes the frame that is to be sent in response, if there is one, to the front of
     /// a buffer. Answers how many octets that has, 0 where there is none. A frame that the host's guard drops changes
-    /// nothing but what the guard keeps; of a response that it holds back nothing is written. `BadMoment` if the moment
-    /// is out of range, `NoRoom` if the buffer has less than 1,514 octets.
+    /// nothing but what the guard keeps, and is answered by the announcement of an own address, if one is owed; of a
+    /// response that it holds back nothing is written. `BadMoment` if the moment is out of range, `NoRoom` if the buffer
+    /// has less than 1,514 octets.
     pub fn receive(&mut self, now: i64, frame: &[u8], out: &mut [u8]) -> Result<usize, Refusal>
         ensures why { result_err result ≡ frame_refusal now (length out.old) }
         ensures received { IfOk result (λ n. Receives now frame.now n out.old out.new self.old self.new) }
@@ -36,7 +37,7 @@ impl Host {
             return Err(Refusal::NoRoom);
         }
         if !self.admits(now, frame) {
-            return Ok(0);
+            return Ok(self.defend(out));
         }
         Ok(self.take_frame(now, frame, out))
     }

@@ -1,12 +1,14 @@
 //! The guard in front of a host, and behind it.
-ghost use Rattle.std.specs.Prelude.{◌≡◌, OnOk, OnErr, take};
+ghost use Rattle.std.specs.Prelude.{◌≡◌, ◌≤◌, OnOk, OnErr, length, take};
 ghost use Rattle.std.specs.Result.{result_err};
 ghost use Rattle.iface_host.specs.Guarded as spec;
+ghost use Rattle.iface_host.specs.Guarded.{Defends};
 ghost use Rattle.iface_host.specs.Stands.{watch_for};
 
 use crate::host::{Host, Settings};
+use crate::outbox::write_front;
 use crate::refusal::Refusal;
-use guard::{Conflict, Counts, Watch};
+use guard::{Conflict, Counts, Waits, Watch};
 use ip_wire::{EthernetAddress, HardwareAddress, IpAddress};
 use net_base::time::Instant;
 
@@ -72,7 +74,25 @@ impl Host {
     {
         let (own, neighbors) = (self.interface.ip_addrs(), self.interface.neighbors());
         let hardware = self.interface.hardware_addr();
-        self.watch.admits(now, frame, hardware, own, neighbors)
+        self.watch
+            .admits(now, frame, hardware, own, neighbors, Waits::NONE)
+    }
+
+    /// Writes the announcement of an own address to the front of a buffer, if the guard owes one, and counts it. Answers how many
+    /// octets it has, 0 where there is none.
+    #[inline(never)]
+    pub(crate) fn defend(&mut self, out: &mut [u8]) -> usize
+        requires { 1514 ≤ length out.old }
+        ensures { Defends result out.old out.new self.old self.new }
+    {
+        match self.watch.announcement_due(self.interface.hardware_addr()) {
+            None => 0,
+            Some(frame) => {
+                let len = write_front(out, &frame);
+                self.frames.hand_over(len);
+                len
+            }
+        }
     }
 
     /// Notes the frame of so many octets in the front of a buffer that is sent at a moment.

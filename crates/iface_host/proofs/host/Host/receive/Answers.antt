@@ -7,7 +7,8 @@ pub returns-then-not-admits-clause-received : goal.returns-then-not-admits-claus
 returns-then-not-admits-clause-received c =
     let same : c.in_ok-now.now ≡ c.args.now = search rules in
     let is : is_admitted c.in_ok-now.now c.args.frame.now c.args.self.now ≡ false = search rules in
-    dropped c.args.now c.in_ok-now.now same c.args.frame.now c.args.out.now c.args.self.now c.admits.new.self is c.admits.ensures.rest
+    dropped c.args.now c.in_ok-now.now same c.args.frame.now c.defend.result c.args.out.now c.defend.new.out c.args.self.now c.admits.new.self
+    c.defend.new.self is c.admits.ensures.rest c.defend.ensures
 
 pub returns-clause-received : goal.returns-clause-received
 returns-clause-received c =

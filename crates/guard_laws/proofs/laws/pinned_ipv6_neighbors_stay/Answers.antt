@@ -1,0 +1,5 @@
+use Rattle.guard_laws.proofs.MessageClaimLemmas as lemma
+use Rattle.guard_laws.proofs.laws.pinned_ipv6_neighbors_stay.Goals as goal
+
+pub returns : goal.returns
+returns c = lemma.pinned_ipv6_neighbors_stay
