@@ -374,6 +374,63 @@ static void fills_a_room(void) {
     must("free", iface_streams_free(&tcp, &host)), must("free", iface_free(&host));
 }
 
+/* The packets of one connection may pass as many routers as the program says (RFC 9293 3.9.2), from the next one on. */
+static void passes_routers(void) {
+    iface host = IFACE_NONE;
+    iface_streams tcp = IFACE_STREAMS_NONE;
+    struct iface_stream s = {77, 77}, other = {77, 77};
+    make(&host, 4), make_streams(&tcp, &host, 4);
+    struct peer p = go_out(&tcp, &host, second, 40000, &s);
+    wants("64 routers at first", sent[8], 64);
+    must("hop limit", iface_stream_set_hop_limit(&tcp, &s, 1));
+    wants_nothing("nothing is due", &tcp, &host, second);
+    writes(&tcp, &host, second, &s, &p, "near"), wants("no router", sent[8], 1);
+    wants("0 is refused", iface_stream_set_hop_limit(&tcp, &s, 0), IFACE_BAD_ARGUMENT);
+    must("hop limit", iface_stream_set_hop_limit(&tcp, &s, 255));
+    reads(&tcp, &host, second, &s, &p, "far"), wants("255 routers", sent[8], 255);
+    p = go_out(&tcp, &host, second, 40001, &other), wants("another one's stays", sent[8], 64);
+    must("abort", iface_stream_abort(&tcp, &s)), wants("a reset", turn(&tcp, &host, second).flags & RST, RST);
+    wants("as far", sent[8], 255);
+    /* the next connection of the place begins with 64 again */
+    must("release", iface_stream_release(&tcp, &s)), wants_nothing("nothing more", &tcp, &host, second);
+    p = go_out(&tcp, &host, second, 40002, &s), wants("64 routers", sent[8], 64);
+    must("free", iface_streams_free(&tcp, &host)), must("free", iface_free(&host));
+}
+
+/* A closed listener takes no SYN, completes no handshake, and gives those that wait (RFC 9293 3.10.4, 3.10.7.1). */
+static void closes_a_listener(void) {
+    iface host = IFACE_NONE;
+    iface_streams tcp = IFACE_STREAMS_NONE;
+    struct iface_stream s = {77, 77};
+    make(&host, 4), make_streams(&tcp, &host, 8);
+    size_t listener = listen_at(&tcp, 7, 4), other = listen_at(&tcp, 9, 4);
+    struct peer waits = come_in(&tcp, &host, second, 4000, 7);
+    struct peer half = {4001, 7, 1000, 0};
+    come(&host, second, &half, SYN, "");
+    struct segment answer = turn(&tcp, &host, second);
+    wants("a SYN that acknowledges", answer.flags, SYN | ACK), half.seq = 1001, half.ack = answer.seq + 1;
+    must("close", iface_stream_close_listener(&tcp, listener)), must("once more", iface_stream_close_listener(&tcp, listener));
+    wants("no such one", iface_stream_close_listener(&tcp, 2), IFACE_NOT_THERE);
+    struct peer late = {4002, 7, 300, 0};
+    come(&host, second, &late, SYN, "");
+    answer = turn(&tcp, &host, second), wants("a reset", answer.flags, RST | ACK), wants("of the SYN", answer.ack, 301);
+    /* the handshake that was under way */
+    come(&host, second, &half, ACK, "");
+    answer = turn(&tcp, &host, second), wants("a reset", answer.flags & RST, RST), wants("to this peer", answer.to, 4001);
+    wants("of the number", answer.seq, half.ack);
+    /* the one that waits */
+    must("accept", iface_stream_accept(&tcp, listener, &s)), wants_state(&tcp, &s, IFACE_ESTABLISHED);
+    writes(&tcp, &host, second, &s, &waits, "accepted");
+    wants("no more", iface_stream_accept(&tcp, listener, &s), IFACE_EMPTY);
+    /* another listener serves on, and a new one at the port has another number */
+    struct peer p = come_in(&tcp, &host, second, 4003, 9);
+    must("accept", iface_stream_accept(&tcp, other, &s)), reads(&tcp, &host, second, &s, &p, "hello");
+    wants("the next number", listen_at(&tcp, 7, 4), 2);
+    p = come_in(&tcp, &host, second, 4004, 7);
+    must("accept", iface_stream_accept(&tcp, 2, &s)), reads(&tcp, &host, second, &s, &p, "again");
+    must("free", iface_streams_free(&tcp, &host)), must("free", iface_free(&host));
+}
+
 static void wants_no_stream(iface_streams *tcp, const struct iface_stream *s, uint32_t want) {
     struct iface_endpoint end = {IFACE_ANY, 77};
     uint32_t number = 77;
@@ -386,6 +443,7 @@ static void wants_no_stream(iface_streams *tcp, const struct iface_stream *s, ui
     wants("state", iface_stream_state(tcp, s, &number), want), wants("ending", iface_stream_ending(tcp, s, &number), want);
     wants("nagle", iface_stream_set_nagle(tcp, s, 1), want), wants("delay", iface_stream_set_ack_delay(tcp, s, 1), want);
     wants("keep-alive", iface_stream_set_keep_alive(tcp, s, 1), want), wants("timeout", iface_stream_set_timeout(tcp, s, 1), want);
+    wants("hop limit", iface_stream_set_hop_limit(tcp, s, 1), want);
     wants("nothing written", number == 77 && n == 77 && m == 77 && octets[0] == 77 && end.port == 77, 1);
 }
 
@@ -408,6 +466,7 @@ static void refuses(void) {
     wants("no connections", iface_streams_free(&tcp, &host), IFACE_NO_STREAMS);
     wants("no connections", iface_stream_listen(&tcp, &local, 1, &listener), IFACE_NO_STREAMS);
     wants("no connections", iface_stream_accept(&tcp, 0, &s), IFACE_NO_STREAMS);
+    wants("no connections", iface_stream_close_listener(&tcp, 0), IFACE_NO_STREAMS);
     wants("no connections", iface_stream_connect(&tcp, &host, 0, &end, &at_peer, &s), IFACE_NO_STREAMS);
     wants_no_stream(&tcp, &s, IFACE_NO_STREAMS);
     iface_streams_config_init(&config);
@@ -438,6 +497,7 @@ static void refuses(void) {
     local.port = 0, wants("port 0", iface_stream_listen(&tcp, &local, 1, &listener), IFACE_BAD_PORT);
     wants("a group", iface_stream_listen(&tcp, &group, 1, &listener), IFACE_BAD_ADDRESS);
     wants("no listener", iface_stream_accept(&tcp, 3, &s), IFACE_EMPTY);
+    wants("no listener", iface_stream_close_listener(&tcp, 0), IFACE_NOT_THERE);
     wants("bad address", iface_stream_connect(&tcp, &host, -1, &bad, &at_peer, &s), IFACE_BAD_ARGUMENT);
     wants("bad address", iface_stream_connect(&tcp, &host, -1, &end, &bad, &s), IFACE_BAD_ARGUMENT);
     wants("no host", iface_stream_connect(&tcp, &other, -1, &end, &at_peer, &s), IFACE_NO_HOST);
@@ -469,6 +529,8 @@ int main(void) {
     cuts();
     serves_eight();
     fills_a_room();
+    passes_routers();
+    closes_a_listener();
     refuses();
     printf("streams: %d checks: %d wrong\n", checks, failures);
     return failures != 0;

@@ -64,7 +64,7 @@ fn the_settings_are_those_of_the_header() {
 #[test]
 fn streams_go_between_hosts() {
     let (now, later) = (Instant::ZERO, Instant::from_millis(20));
-    let mut peers = [peer(1, 1), peer(2, 2)];
+    let mut peers = [peer(1, 1), peer(2, 3)];
     let listener = peers[0].tcp.listen(SERVER.port.into(), 4).unwrap();
     assert_eq!(peers[0].tcp.accept(listener), Err(Error::Empty));
     let Peer { node, tcp } = &mut peers[1];
@@ -81,6 +81,8 @@ fn streams_go_between_hosts() {
     peers[0].tcp.set_ack_delay(server, Duration::ZERO).unwrap();
     peers[1].tcp.set_keep_alive(client, None).unwrap();
     peers[1].tcp.set_timeout(client, Some(Duration::from_secs(9))).unwrap();
+    peers[1].tcp.set_hop_limit(client, 9).unwrap();
+    assert_eq!(peers[1].tcp.set_hop_limit(client, 0), Err(Error::BadArgument));
     assert_eq!(peers[1].tcp.send(client, b"octets"), Ok(6));
     assert_eq!(peers[1].tcp.rooms(client), Ok((16384 - 6, 0)));
     settle(&mut peers, now);
@@ -102,7 +104,13 @@ fn streams_go_between_hosts() {
     peers[0].tcp.release(server).unwrap();
     assert_eq!(peers[0].tcp.state(server), Err(Error::NoSocket));
 
-    // Where nobody listens a reset answers.
+    // Where nobody listens a reset answers, and where a listener was closed.
+    assert_eq!(peers[0].tcp.close_listener(listener + 1), Err(Error::NotThere));
+    assert_eq!(peers[0].tcp.close_listener(listener), Ok(()));
+    let Peer { node, tcp } = &mut peers[1];
+    let closed = tcp.connect(&mut node.host, later, 4002.into(), SERVER).unwrap();
+    settle(&mut peers, later);
+    assert_eq!(peers[1].tcp.ending(closed), Ok(Some(StreamEnding::Refused)));
     let Peer { node, tcp } = &mut peers[1];
     let refused = tcp.connect(&mut node.host, later, 4001.into(), IpEndpoint::new(SERVER.addr, 8)).unwrap();
     settle(&mut peers, later);

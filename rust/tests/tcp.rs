@@ -530,6 +530,28 @@ fn a_silent_peer_is_given_up() {
     assert_eq!(world.client.states(&[client]), [State::Closed]);
 }
 
+/// The packets of a connection may pass as many routers as its socket says, the first one among them.
+#[test]
+fn packets_have_the_hop_limit() {
+    let mut world = World::new();
+    world.server.listen(7);
+    let client = world.client.sockets.add(socket());
+    let socket = world.client.sockets.get_mut::<tcp::Socket>(client);
+    assert_eq!(socket.hop_limit(), None);
+    socket.set_hop_limit(Some(3));
+    assert_eq!(socket.hop_limit(), Some(3));
+    socket.connect(world.client.iface.context(), (SERVER, 7), 49152).unwrap();
+    world.client.poll(world.now);
+    let hops = |node: &Node| node.device.sent.iter().map(|packet| (packet[9], packet[8])).collect::<Vec<_>>();
+    assert_eq!(hops(&world.client), [(6, 3)]);
+    world.settle();
+    assert_eq!(world.client.states(&[client]), [State::Established]);
+    world.client.get(client).set_hop_limit(None);
+    world.client.get(client).send_slice(b"far").unwrap();
+    world.client.poll(world.now);
+    assert_eq!(hops(&world.client), [(6, 64)]);
+}
+
 /// On Ethernet, where no neighbour answers: polls come to an end at each instant, and the connection at the timeout.
 #[test]
 fn an_absent_neighbour_ends_no_poll() {

@@ -42,6 +42,11 @@ abbrev pub code_with : {A : Type 0} → (A → Option Refusal) → Option A → 
 code_with why None s = 3
 code_with why (Some a) s = code_of_one (λ _. why a) s
 
+-- the same where the rest of the call's code is known
+abbrev pub code_if_meant : {A : Type 0} → Option A → ℕ → ℕ
+code_if_meant None code = 3
+code_if_meant (Some a) code = code
+
 -- of a call of connections and a host
 abbrev pub code_of_both : (Streams → Host → Option Refusal) → Option Streams → Option Host → ℕ
 code_of_both why None host = 21

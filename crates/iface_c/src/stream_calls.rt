@@ -1,12 +1,13 @@
 //! What a program does with connections of TCP.
-ghost use Rattle.std.specs.Prelude.{◌≡◌, ◌≢◌, not, ◌==◌};
+ghost use Rattle.std.specs.Prelude.{◌≡◌, ◌≢◌, not, ◌==◌, IsSomeAnd};
+ghost use Rattle.iface_c.specs.Options.{hop_limit_in};
 ghost use Rattle.iface_c.specs.Streams as spec;
 ghost use Rattle.iface_c.specs.StreamsHandle.{streams_in};
 ghost use Rattle.iface_streams.specs.Calls as calls;
 ghost use Rattle.iface_streams.specs.Calls.{call_refusal};
 
 use crate::addresses::IfaceEndpoint;
-use crate::status::{NO_STREAMS, OK, code};
+use crate::status::{BAD_ARGUMENT, NO_STREAMS, OK, code};
 use crate::streams::{IfaceStream, time_unless_0};
 use crate::streams_handle::IfaceStreams;
 use sockets::IpEndpoint;
@@ -324,6 +325,33 @@ pub extern "C" fn iface_stream_set_timeout(
         return NO_STREAMS;
     };
     let done = streams.set_timeout(stream.handle(), time_unless_0(micros));
+    handle.put(streams);
+    match done {
+        Ok(()) => OK,
+        Err(refusal) => code(refusal),
+    }
+}
+
+/// Sets how many routers the packets of a connection may pass.
+#[unsafe(no_mangle)]
+pub extern "C" fn iface_stream_set_hop_limit(
+    handle: &mut IfaceStreams,
+    alloc: Global,
+    stream: &IfaceStream,
+    hop_limit: u8,
+) -> u32
+    ensures done { spec.DidOne result (λ old new. IsSomeAnd (hop_limit_in hop_limit)
+        (λ limit. calls.SetsHopLimit (spec.handle_in stream.now) limit old new)) handle.old handle.new }
+    ensures code { result ≡ spec.code_if_meant (hop_limit_in hop_limit)
+        (spec.code_of_one (call_refusal (spec.handle_in stream.now)) (streams_in handle.old)) }
+{
+    if hop_limit == 0 {
+        return BAD_ARGUMENT;
+    }
+    let Some(mut streams) = handle.take(alloc) else {
+        return NO_STREAMS;
+    };
+    let done = streams.set_hop_limit(stream.handle(), hop_limit);
     handle.put(streams);
     match done {
         Ok(()) => OK,

@@ -6,7 +6,7 @@ ghost use Rattle.iface_c.specs.Status.{IsDueOrMemory};
 ghost use Rattle.iface_c.specs.Streams as spec;
 ghost use Rattle.iface_c.specs.StreamsHandle.{streams_in};
 ghost use Rattle.iface_host.specs.Refusals.{moment_refusal};
-ghost use Rattle.iface_streams.specs.Connect.{Listens, listen_refusal};
+ghost use Rattle.iface_streams.specs.Connect.{ClosesListener, Listens, listen_refusal, listener_refusal};
 ghost use Rattle.iface_streams.specs.Poll.{Polls};
 
 use crate::addresses::IfaceEndpoint;
@@ -319,6 +319,27 @@ pub extern "C" fn iface_stream_accept(
             *stream = IfaceStream::of(accepted);
             OK
         }
+        Err(refusal) => code(refusal),
+    }
+}
+
+/// Closes a listener.
+#[unsafe(no_mangle)]
+pub extern "C" fn iface_stream_close_listener(
+    handle: &mut IfaceStreams,
+    alloc: Global,
+    listener: usize,
+) -> u32
+    ensures done { spec.DidOne result (ClosesListener listener) handle.old handle.new }
+    ensures code { result ≡ spec.code_of_one (listener_refusal listener) (streams_in handle.old) }
+{
+    let Some(mut streams) = handle.take(alloc) else {
+        return NO_STREAMS;
+    };
+    let done = streams.close_listener(listener);
+    handle.put(streams);
+    match done {
+        Ok(()) => OK,
         Err(refusal) => code(refusal),
     }
 }

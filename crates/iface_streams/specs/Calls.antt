@@ -8,7 +8,7 @@ use Rattle.tcp_machine.specs.Connection.{Connection}
 use Rattle.tcp_machine.specs.declared.settings.Settings.{Settings}
 use Rattle.tcp_machine.specs.declared.state.State.{State}
 use Rattle.tcp_machine.specs.declared.timers.Ending.{Ending}
-use Rattle.tcp_streams.specs.Handles.{changed, is_named, released, with_settings}
+use Rattle.tcp_streams.specs.Handles.{changed, is_named, released, with_hop_limit, with_settings}
 use Rattle.tcp_streams.specs.Host.{connection_at}
 use Rattle.tcp_streams.specs.declared.calls.Handle.{Handle}
 use Rattle.iface_host.specs.declared.refusal.Refusal.{Refusal}
@@ -77,3 +77,7 @@ pub record AreRooms (handle : Handle) (writable readable : ℕ) (s : Streams) : 
 abbrev pub Sets : Handle → (Settings → Settings) → Streams → Streams → Type 0
 Sets handle change old new =
     new ≡ with_connection handle (with_settings (change (connection_of handle old).settings) (connection_of handle old)) old
+
+-- its packets may pass so many routers
+abbrev pub SetsHopLimit : Handle → (hop_limit : ℕ) → Streams → Streams → Type 0
+SetsHopLimit handle hop_limit old new = new ≡ with_connections old (with_hop_limit handle.place hop_limit old.connections)

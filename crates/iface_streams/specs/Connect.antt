@@ -8,7 +8,7 @@ use Rattle.socket_base.specs.declared.endpoint.IpListenEndpoint.{IpListenEndpoin
 use Rattle.tcp_host.specs.Table.{IsNowhere, IsPlaceOf}
 use Rattle.tcp_host.specs.declared.iss.Endpoints.{Endpoints}
 use Rattle.tcp_streams.specs.Handles as handles
-use Rattle.tcp_streams.specs.Handles.{accepting, listening, opened_at}
+use Rattle.tcp_streams.specs.Handles.{accepting, is_listener, listener_closed, listening, opened_at}
 use Rattle.tcp_streams.specs.Host as streams
 use Rattle.tcp_streams.specs.Host.{IsFreePlace}
 use Rattle.tcp_streams.specs.declared.calls.Handle.{Handle}
@@ -48,6 +48,13 @@ pub record Accepts (listener : ℕ) (result : Result Handle Refusal) (old new : 
   pub accepted : (handle, new.connections) ≡ accepting listener old.connections
   pub told : result ≡ accepted_as handle
   pub rest : new ≡ with_connections old new.connections
+
+-- no listener has this number
+abbrev pub listener_refusal : ℕ → Streams → Option Refusal
+listener_refusal listener s = if is_listener listener s.connections then None else Some NotThere
+
+abbrev pub ClosesListener : ℕ → Streams → Streams → Type 0
+ClosesListener listener old new = new ≡ with_connections old (listener_closed listener old.connections)
 
 -- the local address of a connection: the one that is asked for, or else that from which packets to the destination are sent
 abbrev pub source_of : Host → Option IpAddress → IpAddress → Option IpAddress

@@ -64,6 +64,21 @@ impl Streams {
         }
     }
 
+    /// Closes a listener: no SYN begins a connection of it any more. A handshake that is under way ends in a reset once it is
+    /// complete, and connections that wait can still be accepted (RFC 9293 3.10.4). Its number is given to no other listener.
+    /// `NotThere` if no listener has this number; then nothing changes.
+    pub fn close_listener(&mut self, listener: usize) -> Result<(), Refusal>
+        ensures closes { OnOk result (spec.ClosesListener listener self.old self.new) }
+        ensures why { result_err result ≡ spec.listener_refusal listener self.old }
+        ensures refused { OnErr result (self.new ≡ self.old) }
+    {
+        if self.connections.close_listener(listener) {
+            Ok(())
+        } else {
+            Err(Refusal::NotThere)
+        }
+    }
+
     /// Opens a connection at a moment, from a local port and from an own address of a host, or from the one that packets to the
     /// destination are sent from. The first that applies: `BadMoment` if the moment is out of range; `BadPort` if a port is 0;
     /// `NotThere` if the host has no own address for the destination; `BadAddress` if one of the two isn't unicast, or they are

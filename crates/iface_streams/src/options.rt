@@ -1,6 +1,6 @@
 //! What a program chooses for its connections. Each call is refused, and changes nothing, if the handle names no connection:
 //! `NoSocket`.
-ghost use Rattle.std.specs.Prelude.{◌≡◌, OnOk, OnErr};
+ghost use Rattle.std.specs.Prelude.{◌≡◌, ◌≢◌, OnOk, OnErr};
 ghost use Rattle.std.specs.Result.{result_err};
 ghost use Rattle.iface_streams.specs.Calls as spec;
 
@@ -45,6 +45,20 @@ impl Streams {
             return Err(Refusal::NoSocket);
         }
         let _ = self.connections.set_keep_alive(handle, interval);
+        Ok(())
+    }
+
+    /// How many routers its packets may pass, from the next one on (RFC 9293 3.9.2). Each connection begins with 64.
+    pub fn set_hop_limit(&mut self, handle: Handle, hop_limit: u8) -> Result<(), Refusal>
+        requires { hop_limit ≢ 0 }
+        ensures set { OnOk result (spec.SetsHopLimit handle hop_limit self.old self.new) }
+        ensures why { result_err result ≡ spec.call_refusal handle self.old }
+        ensures refused { OnErr result (self.new ≡ self.old) }
+    {
+        if !self.connections.is_named(handle) {
+            return Err(Refusal::NoSocket);
+        }
+        let _ = self.connections.set_hop_limit(handle, hop_limit);
         Ok(())
     }
 

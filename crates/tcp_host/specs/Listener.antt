@@ -1,5 +1,5 @@
 -- A listener: where it listens, and which connections it has begun that the program hasn't accepted.
-use Rattle.std.specs.Prelude.{ℕ, Bool, true, nat_lt, ◌==◌, ◌&&◌, List, [], ◌∷◌, ◌++◌, length, drop, Option, Some, None, if◌then◌else◌}
+use Rattle.std.specs.Prelude.{ℕ, Bool, true, false, nat_lt, ◌==◌, ◌&&◌, List, [], ◌∷◌, ◌++◌, length, drop, Option, Some, None, if◌then◌else◌}
 use Rattle.ip_address.specs.declared.ip.IpAddress.{IpAddress}
 use Rattle.ip_address.specs.Ip.{address_key}
 use Rattle.tcp_host.specs.Backlog as backlog
@@ -9,6 +9,8 @@ pub record Listener : Type 0 where
   -- the local port, and the local address, or any
   pub port : ℕ
   pub address : Option IpAddress
+  -- it listens still
+  pub is_open : Bool
   -- the places of connections whose handshake isn't complete, and of those whose is, the oldest first
   pub half_open : Waiting
   pub ready : List ℕ
@@ -22,11 +24,25 @@ is_for (Some own) address = is_same_address own address
 
 -- a segment to a local end is for it
 abbrev pub listens_at : IpAddress → ℕ → Listener → Bool
-listens_at address port l = (port == l.port) && is_for l.address address
+listens_at address port l = l.is_open && (port == l.port) && is_for l.address address
 
--- no more SYNs are taken while as many as there may be wait for the program
+-- no more SYNs are taken while as many as there may be wait for the program, nor once it is closed
 abbrev pub has_room : Listener → Bool
-has_room l = nat_lt (length l.ready) l.half_open.most
+has_room l = l.is_open && nat_lt (length l.ready) l.half_open.most
+
+-- one that listens, and has begun no connection
+abbrev pub first : ℕ → Option IpAddress → (most : ℕ) → Listener
+first port address most = record {
+  port = port;
+  address = address;
+  is_open = true;
+  half_open = record { places = []; most = most };
+  ready = [];
+}
+
+-- it listens no more (RFC 9293 3.10.4)
+abbrev pub after_closing : Listener → Listener
+after_closing l = record l { is_open = false }
 
 -- a SYN begins a connection at a place
 abbrev pub after_syn : ℕ → Listener → Listener

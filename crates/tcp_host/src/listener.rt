@@ -15,6 +15,7 @@ use std::marker::Model;
 pub struct Listener {
     port: u16,
     address: Option<IpAddress>,
+    is_open: bool,
     half_open: Backlog,
     ready: Vec<usize>,
     most: usize,
@@ -26,7 +27,13 @@ impl Model for Listener {
 
     ghost Value = { spec.Listener };
 
-    ghost view = { λ l. record { port = l.port; address = l.address; half_open = l.half_open; ready = l.ready.items } };
+    ghost view = { λ l. record {
+      port = l.port;
+      address = l.address;
+      is_open = l.is_open;
+      half_open = l.half_open;
+      ready = l.ready.items;
+    } };
 
     ghost invariant = { λ l. (l.half_open.most ≡ l.most) × (length l.ready.items ≤ l.most) × (l.most ≤ vec_capacity l.ready) × (1 ≤ l.most) };
 }
@@ -41,11 +48,12 @@ impl Listener {
         most: usize,
     ) -> Result<Listener, AllocError>
         requires { 1 ≤ most }
-        ensures { IfOk result (λ l. l ≡ record { port = port; address = address; half_open = record { places = []; most = most }; ready = [] }) }
+        ensures { IfOk result (λ l. l ≡ spec.first port address most) }
     {
         Ok(Listener {
             port,
             address,
+            is_open: true,
             half_open: Backlog::new(alloc, most)?,
             ready: Vec::with_capacity(alloc, most)?,
             most,
@@ -63,18 +71,27 @@ impl Listener {
     pub fn listens_at(&self, address: &IpAddress, port: u16) -> bool
         ensures { result ≡ spec.listens_at address.now port self.now }
     {
-        port == self.port
+        self.is_open
+            && port == self.port
             && match &self.address {
                 None => true,
                 Some(own) => is_same_address(own, address),
             }
     }
 
-    /// Whether a SYN may begin a connection: fewer wait for the program than may.
+    /// Whether one more connection may wait for the program: it listens still, and fewer wait than may.
     pub fn has_room(&self) -> bool
         ensures { result ≡ spec.has_room self.now }
     {
-        self.ready.len() < self.most
+        self.is_open && self.ready.len() < self.most
+    }
+
+    /// It listens no more: no segment is for it, and no further connection waits for the program. Those that wait can still be
+    /// accepted (RFC 9293 3.10.4, in the LISTEN state).
+    pub fn close(&mut self)
+        ensures { self.new ≡ spec.after_closing self.old }
+    {
+        self.is_open = false;
     }
 
     /// A SYN begins a connection at a place. If as many are half-open as may be, the oldest one's place is returned, which is
@@ -101,14 +118,14 @@ impl Listener {
         self.half_open.evict()
     }
 
-    /// The handshake of the connection at a place is complete: it waits for the program. Returns false, if there are as many
-    /// as may be; then it doesn't.
+    /// The handshake of the connection at a place is complete: it waits for the program. Returns false, if as many wait as may,
+    /// or it listens no more; then that connection doesn't wait.
     pub fn complete(&mut self, place: usize) -> bool
         ensures value { result ≡ spec.has_room self.old }
         ensures completed { self.new ≡ spec.after_handshake place self.old }
     {
+        let has_room = self.has_room();
         self.half_open.remove(place);
-        let has_room = self.ready.len() < self.most;
         if has_room {
             self.ready.push_reserved(place);
         }

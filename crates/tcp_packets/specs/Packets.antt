@@ -31,6 +31,8 @@ pub record Segment : Type 0 where
   pub mss : Option ℕ
   pub scale : Option ℕ
   pub blocks : List (Option SackBlock)
+  -- how many routers its packet may pass
+  pub hop_limit : ℕ
   pub octets : List ℕ
 
 -- the same apart from where its octets are in memory
@@ -41,6 +43,7 @@ value_of o = record {
   mss = o.mss;
   scale = o.scale;
   blocks = o.blocks;
+  hop_limit = o.hop_limit;
   octets = o.octets.now;
 }
 
@@ -52,6 +55,7 @@ reset_between e r = record {
   mss = None;
   scale = None;
   blocks = None ∷ None ∷ None ∷ [];
+  hop_limit = 64;
   octets = [];
 }
 
@@ -85,23 +89,35 @@ repr_of s = record {
   };
 }
 
--- the header of its packet, which may pass 64 routers (RFC 9293 3.9.2)
-abbrev pub ipv4_header : (src dst : Ipv4Address) → ℕ → Ipv4Repr
-ipv4_header src dst len = record { src_addr = src; dst_addr = dst; next_header = protocol.Tcp; payload_len = len; hop_limit = 64 }
+-- the header of its packet (RFC 9293 3.9.2)
+abbrev pub ipv4_header : (src dst : Ipv4Address) → (len hop_limit : ℕ) → Ipv4Repr
+ipv4_header src dst len hop_limit = record {
+  src_addr = src;
+  dst_addr = dst;
+  next_header = protocol.Tcp;
+  payload_len = len;
+  hop_limit = hop_limit;
+}
 
-abbrev pub ipv6_header : (src dst : Ipv6Address) → ℕ → Ipv6Repr
-ipv6_header src dst len = record { src_addr = src; dst_addr = dst; next_header = protocol.Tcp; payload_len = len; hop_limit = 64 }
+abbrev pub ipv6_header : (src dst : Ipv6Address) → (len hop_limit : ℕ) → Ipv6Repr
+ipv6_header src dst len hop_limit = record {
+  src_addr = src;
+  dst_addr = dst;
+  next_header = protocol.Tcp;
+  payload_len = len;
+  hop_limit = hop_limit;
+}
 
-abbrev pub ip_text : IpAddress → IpAddress → ℕ → List ℕ
-ip_text (Ipv4 src) (Ipv4 dst) len = ipv4.header_text true (ipv4_header src dst len) ipv4.whole
-ip_text (Ipv4 src) (Ipv6 dst) len = []
-ip_text (Ipv6 src) (Ipv4 dst) len = []
-ip_text (Ipv6 src) (Ipv6 dst) len = ipv6.header_text (ipv6_header src dst len)
+abbrev pub ip_text : IpAddress → IpAddress → (len hop_limit : ℕ) → List ℕ
+ip_text (Ipv4 src) (Ipv4 dst) len hop_limit = ipv4.header_text true (ipv4_header src dst len hop_limit) ipv4.whole
+ip_text (Ipv4 src) (Ipv6 dst) len hop_limit = []
+ip_text (Ipv6 src) (Ipv4 dst) len hop_limit = []
+ip_text (Ipv6 src) (Ipv6 dst) len hop_limit = ipv6.header_text (ipv6_header src dst len hop_limit)
 
 -- its packet: the header of IP, and the segment with its checksum, or 0 if that is left to the device
 abbrev pub packet_text : (summed : Bool) → Segment → List ℕ
 packet_text summed s =
-    ip_text s.endpoints.local_addr s.endpoints.remote_addr (tcp.text_len (repr_of s) + length s.octets)
+    ip_text s.endpoints.local_addr s.endpoints.remote_addr (tcp.text_len (repr_of s) + length s.octets) s.hop_limit
     ++ tcp.text summed s.endpoints.local_addr s.endpoints.remote_addr (repr_of s) s.octets
 
 -- both ends are of one family

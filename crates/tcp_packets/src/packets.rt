@@ -16,7 +16,7 @@ use tcp_streams::resets::Reset;
 use tcp_streams::turns::Outgoing;
 use tcp_wire::{SackRange, TcpOptions, TcpRepr};
 
-/// The hop limit of what is sent (RFC 9293 3.9.2.5).
+/// The hop limit of a reset of no connection (RFC 9293 3.9.2).
 const HOP_LIMIT: u8 = 64;
 
 /// The most octets of a segment that a packet of IPv4 carries beside headers of 20 and 60.
@@ -39,6 +39,7 @@ pub fn reset_between(endpoints: &Endpoints, reset: &Reset) -> Outgoing<'static>
         mss: None,
         scale: None,
         blocks: [None; 3],
+        hop_limit: HOP_LIMIT,
         octets: &[],
     }
 }
@@ -56,9 +57,12 @@ pub fn write_headers(segment: &Outgoing<'_>, summed: bool, out: &mut FrameBuffer
     out.clear();
     match (&src, &dst) {
         (IpAddress::Ipv4(src), IpAddress::Ipv4(dst)) => {
-            ipv4_header(src, dst, len).emit(&Ipv4Fragment::WHOLE, true, out);
+            let header = ipv4_header(src, dst, len, segment.hop_limit);
+            header.emit(&Ipv4Fragment::WHOLE, true, out);
         }
-        (IpAddress::Ipv6(src), IpAddress::Ipv6(dst)) => ipv6_header(src, dst, len).emit(out),
+        (IpAddress::Ipv6(src), IpAddress::Ipv6(dst)) => {
+            ipv6_header(src, dst, len, segment.hop_limit).emit(out);
+        }
         _ => return false,
     }
     repr.emit_header(&src, &dst, segment.octets, summed, out);
@@ -66,28 +70,28 @@ pub fn write_headers(segment: &Outgoing<'_>, summed: bool, out: &mut FrameBuffer
 }
 
 // The header of a packet of IPv4 with so many octets.
-fn ipv4_header(src: &Ipv4Address, dst: &Ipv4Address, len: u16) -> Ipv4Repr
-    ensures { result ≡ spec.ipv4_header src.now dst.now len }
+fn ipv4_header(src: &Ipv4Address, dst: &Ipv4Address, len: u16, hop_limit: u8) -> Ipv4Repr
+    ensures { result ≡ spec.ipv4_header src.now dst.now len hop_limit }
 {
     Ipv4Repr {
         src_addr: *src,
         dst_addr: *dst,
         next_header: IpProtocol::Tcp,
         payload_len: len,
-        hop_limit: HOP_LIMIT,
+        hop_limit,
     }
 }
 
 // The header of a packet of IPv6 with so many octets.
-fn ipv6_header(src: &Ipv6Address, dst: &Ipv6Address, len: u16) -> Ipv6Repr
-    ensures { result ≡ spec.ipv6_header src.now dst.now len }
+fn ipv6_header(src: &Ipv6Address, dst: &Ipv6Address, len: u16, hop_limit: u8) -> Ipv6Repr
+    ensures { result ≡ spec.ipv6_header src.now dst.now len hop_limit }
 {
     Ipv6Repr {
         src_addr: *src,
         dst_addr: *dst,
         next_header: IpProtocol::Tcp,
         payload_len: len,
-        hop_limit: HOP_LIMIT,
+        hop_limit,
     }
 }
 

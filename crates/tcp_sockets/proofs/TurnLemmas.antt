@@ -71,9 +71,9 @@ sends_is_due place a now old h t = not_early (nat_lt now (get_or old.alarms t.pl
 pub segment_is : (o : Outgoing) (place now : ℕ) (a : Action) (m : machine.Action) (h : Host) →
     machine.action now (connection_at place h) ≡ Some m → action_of m ≡ a →
     IsHeader a (connection_at place h) o.header → AreBlocks a (connection_at place h) o.blocks → AreOctets a (connection_at place h) o.octets.now →
-    o.mss ≡ mss_of o.endpoints o.header h → o.scale ≡ scale_of o.header (connection_at place h) →
+    o.mss ≡ mss_of o.endpoints o.header h → o.scale ≡ scale_of o.header (connection_at place h) → o.hop_limit ≡ (slot_at place h).hop_limit →
     value_of o ≡ segment_at o.endpoints place m h
-segment_is o place now a m h due of is_header are_blocks are_octets is_mss is_scale =
+segment_is o place now a m h due of is_header are_blocks are_octets is_mss is_scale is_hop_limit =
     let header : o.header ≡ header_of (machine.segment_for m (connection_at place h)) = is_header m of in
     let blocks : o.blocks ≡ places_of (machine.segment_for m (connection_at place h)).blocks = are_blocks m of in
     let octets : o.octets.now ≡ (machine.segment_for m (connection_at place h)).octets = are_octets now m due of in

@@ -19,7 +19,7 @@ use Rattle.tcp_connection.specs.Actions.{action_of, header_of}
 use Rattle.tcp_connection.specs.Blocks.{places_of}
 use Rattle.tcp_host.specs.declared.iss.Endpoints.{Endpoints}
 use Rattle.tcp_host.specs.Table.{ends_at}
-use Rattle.tcp_streams.specs.Host.{Host, connection_at}
+use Rattle.tcp_streams.specs.Host.{Host, connection_at, slot_at}
 use Rattle.tcp_streams.specs.declared.turns.Turn.{Turn}
 use Rattle.tcp_streams.specs.declared.turns.Turn.TheVariants.{Idle, Quiet, Sends}
 use Rattle.tcp_streams.specs.Turns.{TakesTurn, mss_of, scale_of, is_heard, sent_if, postponed, aborted_if}
@@ -73,6 +73,7 @@ segment_at e place m h = record {
   mss = mss_of e (header_of (machine.segment_for m (connection_at place h))) h;
   scale = scale_of (header_of (machine.segment_for m (connection_at place h))) (connection_at place h);
   blocks = places_of (machine.segment_for m (connection_at place h)).blocks;
+  hop_limit = (slot_at place h).hop_limit;
   octets = (machine.segment_for m (connection_at place h)).octets;
 }
 

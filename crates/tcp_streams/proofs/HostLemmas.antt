@@ -32,9 +32,9 @@ still_nowhere e ends place nowhere p has = by (p == place) (nat_lt place (length
 
 -- what was read of a place is its slot, and its connection alone is changed
 pub connection_set : (h : Host) (place : ℕ) (seen : Slot) (c : Connection) → seen ≡ get_or h.slots place no_slot →
-    record h { slots = set h.slots place (record { connection = c; owner = seen.owner; generation = seen.generation; challenges = seen.challenges }) }
+    record h { slots = set h.slots place (record { connection = c; owner = seen.owner; generation = seen.generation; challenges = seen.challenges; hop_limit = seen.hop_limit }) }
     ≡ with_connection place c h
 connection_set h place seen c e =
     ap (λ (s : Slot). record h {
-      slots = set h.slots place (record { connection = c; owner = s.owner; generation = s.generation; challenges = s.challenges });
+      slots = set h.slots place (record { connection = c; owner = s.owner; generation = s.generation; challenges = s.challenges; hop_limit = s.hop_limit });
     }) e

@@ -12,10 +12,10 @@ use Rattle.tcp_streams.specs.declared.slot.Owner.TheVariants.{Program, Itself}
 use Rattle.tcp_streams.specs.declared.calls.Handle.{Handle}
 use Rattle.tcp_streams.specs.Arrivals.{is_proper}
 use Rattle.tcp_streams.specs.Challenges.{all_challenges}
-use Rattle.tcp_streams.specs.Host.{Host, slot_at, connection_at, with_slot, with_connection, with_owner, with_alarm, enrolled, link_mss, settings_for, listener_at, with_listener}
+use Rattle.tcp_streams.specs.Host.{Host, slot_at, connection_at, with_slot, with_connection, with_owner, with_alarm, default_hop_limit, enrolled, link_mss, settings_for, listener_at, with_listener}
 use Rattle.ip_address.specs.declared.ip.IpAddress.{IpAddress}
 use Rattle.tcp_host.specs.Backlog.{first_of}
-use Rattle.tcp_host.specs.Listener.{after_accepting}
+use Rattle.tcp_host.specs.Listener.{after_accepting, after_closing, first}
 use Rattle.tcp_machine.specs.declared.settings.Settings.{Settings}
 
 abbrev pub is_program : Owner → Bool
@@ -54,6 +54,7 @@ opened_at place now e h =
       owner = Program;
       generation = ((slot_at place h).generation + 1) % 2 ^ 64;
       challenges = all_challenges;
+      hop_limit = default_hop_limit;
     }) h)
 
 abbrev pub with_settings : Settings → Connection → Connection
@@ -76,8 +77,19 @@ accepting index h = if nat_lt index (length h.listeners) then accepting_from ind
 -- one more listener
 abbrev pub listening : ℕ → Option IpAddress → ℕ → Host → Host
 listening port address most h = record h {
-  listeners = h.listeners ++ (record { port = port; address = address; half_open = record { places = []; most = most }; ready = [] }) ∷ [];
+  listeners = h.listeners ++ first port address most ∷ [];
 }
+
+abbrev pub is_listener : ℕ → Host → Bool
+is_listener index h = nat_lt index (length h.listeners)
+
+-- a listener is closed: what it began stays as it is (RFC 9293 3.10.4)
+abbrev pub listener_closed : ℕ → Host → Host
+listener_closed index h = if is_listener index h then with_listener index (after_closing (listener_at index h)) h else h
+
+-- the packets of the connection at a place may pass so many routers
+abbrev pub with_hop_limit : (place hop_limit : ℕ) → Host → Host
+with_hop_limit place hop_limit h = with_slot place (record (slot_at place h) { hop_limit = hop_limit }) h
 
 -- a program may ask for a connection between two hosts, at ports that there are
 abbrev pub is_addressable : Endpoints → Bool

@@ -7,7 +7,7 @@ use Rattle.tcp_machine.specs.Connection.{Connection}
 use Rattle.tcp_machine.specs.Opening.{opened}
 use Rattle.tcp_machine.specs.declared.settings.Settings.{Settings}
 use Rattle.tcp_host.specs.declared.iss.Endpoints.{Endpoints}
-use Rattle.tcp_host.specs.Listener.{Listener}
+use Rattle.tcp_host.specs.Listener.{Listener, first}
 use Rattle.tcp_streams.specs.declared.slot.Slot.{Slot}
 use Rattle.tcp_streams.specs.declared.slot.Owner.{Owner}
 use Rattle.tcp_streams.specs.declared.slot.Owner.TheVariants.{Nobody}
@@ -28,6 +28,10 @@ pub record Host : Type 0 where
 abbrev pub never : ℕ
 never = 2 ^ 64 - 1
 
+-- how many routers a packet may pass, unless the program says (RFC 9293 3.9.2)
+abbrev pub default_hop_limit : ℕ
+default_hop_limit = 64
+
 unfoldable pub no_settings : Settings
 no_settings = record {
   nagle = true;
@@ -43,7 +47,13 @@ no_settings = record {
 
 -- what stands past the last place
 unfoldable pub no_slot : Slot
-no_slot = record { connection = opened 0 0 0 0 0 no_settings; owner = Nobody; generation = 0; challenges = all_challenges }
+no_slot = record {
+  connection = opened 0 0 0 0 0 no_settings;
+  owner = Nobody;
+  generation = 0;
+  challenges = all_challenges;
+  hop_limit = default_hop_limit;
+}
 
 abbrev pub slot_at : ℕ → Host → Slot
 slot_at place h = get_or h.slots place no_slot
@@ -89,6 +99,7 @@ occupied place e owner c h =
       owner = owner;
       generation = ((slot_at place h).generation + 1) % 2 ^ 64;
       challenges = all_challenges;
+      hop_limit = default_hop_limit;
     }) h)
 
 -- what is said of the family of an address: the MSS of a peer that tells none (RFC 9293 3.7.1), and the most octets of a segment
@@ -110,7 +121,7 @@ IsFreePlace h None = (place : ℕ) → place < length h.taken → 1 ≤ get_or h
 
 -- listeners by their index
 unfoldable pub no_listener : Listener
-no_listener = record { port = 0; address = None; half_open = record { places = []; most = 0 }; ready = [] }
+no_listener = first 0 None 0
 
 abbrev pub listener_at : ℕ → Host → Listener
 listener_at index h = get_or h.listeners index no_listener

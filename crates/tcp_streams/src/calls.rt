@@ -1,5 +1,5 @@
 //! What a program does with its connections (RFC 9293 3.10.1 to 3.10.5).
-ghost use Rattle.std.specs.Prelude.{◌≡◌, ◌<◌, ◌++◌, ℕ, length, drop, max, true, false, Ok, Err, None, Some, IsErr, IsNone, IfOk, OnOk, OnErr};
+ghost use Rattle.std.specs.Prelude.{◌≡◌, ◌≢◌, ◌<◌, ◌++◌, ℕ, length, drop, max, true, false, Ok, Err, None, Some, IsErr, IsNone, IfOk, OnOk, OnErr};
 ghost use Rattle.std.specs.Option.{option_map};
 ghost use Rattle.tcp_machine.specs.Calls as calls;
 ghost use Rattle.tcp_host.specs.Table.{IsNowhere, IsPlaceOf};
@@ -222,6 +222,21 @@ impl TcpHost {
         Ok(())
     }
 
+    /// How many routers the packets of a connection may pass, from the next one on (RFC 9293 3.9.2). Each connection begins with
+    /// 64. With a wrong handle nothing changes.
+    pub fn set_hop_limit(&mut self, handle: Handle, hop_limit: u8) -> Result<(), WrongHandle>
+        requires { hop_limit ≢ 0 }
+        ensures wrong { spec.is_named handle self.old ≡ false → IsErr result }
+        ensures unchanged { spec.is_named handle self.old ≡ false → self.new ≡ self.old }
+        ensures set { spec.is_named handle self.old ≡ true → self.new ≡ spec.with_hop_limit handle.place hop_limit self.old }
+    {
+        if !self.is_named(handle) {
+            return Err(WrongHandle);
+        }
+        self.slots[handle.place].hop_limit = hop_limit;
+        Ok(())
+    }
+
     /// The program lets go of a connection: its handle names nothing from now on. A connection on which the peer may still
     /// send is aborted, and another one ends by itself. Its place is free once it has ended. With a wrong handle nothing changes.
     pub fn release(&mut self, handle: Handle) -> Result<(), WrongHandle>
@@ -337,6 +352,20 @@ impl TcpHost {
         let index = self.listeners.len();
         self.listeners.push(listener)?;
         Ok(index)
+    }
+
+    /// Closes a listener (RFC 9293 3.10.4): no SYN begins a connection of it any more. A handshake that is under way ends in a
+    /// reset once it is complete, and connections that wait can still be accepted. Its index is given to no other listener.
+    /// Returns whether there is such a listener; if there is none, nothing changes.
+    pub fn close_listener(&mut self, listener: usize) -> bool
+        ensures there { result ≡ spec.is_listener listener self.old }
+        ensures closed { self.new ≡ spec.listener_closed listener self.old }
+    {
+        if listener >= self.listeners.len() {
+            return false;
+        }
+        self.listeners[listener].close();
+        true
     }
 
     // A connection that the program opens begins at a place.

@@ -5,7 +5,7 @@ ghost use Rattle.tcp_host.specs.Table.{IsNowhere, IsPlaceOf};
 ghost use Rattle.tcp_host.specs.declared.iss.Endpoints.{Endpoints};
 
 use crate::config::Config;
-use crate::slot::{CHALLENGES, Owner, Slot};
+use crate::slot::{CHALLENGES, HOP_LIMIT, Owner, Slot};
 use ip_address::IpAddress;
 use std::alloc::{AllocError, Global};
 use std::marker::Model;
@@ -85,6 +85,7 @@ impl TcpHost {
                 owner: Owner::Nobody,
                 generation: 0,
                 challenges: CHALLENGES,
+                hop_limit: HOP_LIMIT,
             });
         }
         Ok(TcpHost {

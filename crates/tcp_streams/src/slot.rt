@@ -7,6 +7,7 @@ ghost use Rattle.tcp_connection.specs.Asked.{is_only_challenged};
 ghost use Rattle.tcp_streams.specs.declared.slot.Owner.TheVariants.{Program};
 ghost use Rattle.tcp_streams.specs.Challenges as spec;
 ghost use Rattle.tcp_streams.specs.Challenges.{all_challenges};
+ghost use Rattle.tcp_streams.specs.Host.{default_hop_limit};
 
 use tcp_connection::connection::Connection;
 use tcp_connection::segment::Segment;
@@ -20,6 +21,9 @@ pub(crate) const CHALLENGES: Bucket = Bucket {
     depth: 5,
     full_at: 0,
 };
+
+/// How many routers a packet may pass, unless the program says (RFC 9293 3.9.2).
+pub(crate) const HOP_LIMIT: u8 = 64;
 
 /// Whose a connection is.
 #[derive(Clone, Copy, Debug, PartialEq, Eq)]
@@ -45,6 +49,8 @@ pub struct Slot {
     pub generation: u64,
     /// How many challenges the connection may send.
     pub challenges: Bucket,
+    /// How many routers its packets may pass.
+    pub hop_limit: u8,
 }
 
 impl Slot {
@@ -66,6 +72,7 @@ impl Slot {
           owner = owner;
           generation = (self.old.generation + 1) % 2 ^ 64;
           challenges = all_challenges;
+          hop_limit = default_hop_limit;
         } }
     {
         self.connection
@@ -73,6 +80,7 @@ impl Slot {
         self.owner = owner;
         self.generation = self.generation.wrapping_add(1);
         self.challenges = CHALLENGES;
+        self.hop_limit = HOP_LIMIT;
     }
 
     /// The program opens a connection.
@@ -84,12 +92,14 @@ impl Slot {
           owner = Program;
           generation = (self.old.generation + 1) % 2 ^ 64;
           challenges = all_challenges;
+          hop_limit = default_hop_limit;
         } }
     {
         self.connection.open(now, number, link, settings);
         self.owner = Owner::Program;
         self.generation = self.generation.wrapping_add(1);
         self.challenges = CHALLENGES;
+        self.hop_limit = HOP_LIMIT;
     }
 
     /// Whether what the connection sends now is a challenge that it may not send.

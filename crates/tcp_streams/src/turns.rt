@@ -42,6 +42,8 @@ pub struct Outgoing<'a> {
     pub scale: Option<u8>,
     /// The blocks of the option of selective acknowledgements. With octets there is none.
     pub blocks: [Option<SackBlock>; 3],
+    /// How many routers its packet may pass.
+    pub hop_limit: u8,
     pub octets: &'a [u8],
 }
 
@@ -220,13 +222,15 @@ impl TcpHost {
         ensures octets { IfSome result (λ o. AreOctets action.now (connection_at place self.now) o.octets.now) }
         ensures mss { IfSome result (λ o. o.mss ≡ spec.mss_of o.endpoints o.header self.now) }
         ensures scale { IfSome result (λ o. o.scale ≡ spec.scale_of o.header (connection_at place self.now)) }
+        ensures hop_limit { IfSome result (λ o. o.hop_limit ≡ (slot_at place self.now).hop_limit) }
         ensures none { IsNone result → ends_at self.now.ends place ≡ None }
     {
         if place >= self.slots.len() {
             return None;
         }
         let endpoints = self.table.get(place)?;
-        let connection = &self.slots[place].connection;
+        let slot = &self.slots[place];
+        let connection = &slot.connection;
         let header = connection.header(action);
         Some(Outgoing {
             endpoints,
@@ -234,6 +238,7 @@ impl TcpHost {
             mss: self.mss_of(&endpoints, &header),
             scale: scale_of(&header, connection),
             blocks: connection.blocks(action),
+            hop_limit: slot.hop_limit,
             octets: connection.octets(action),
         })
     }

@@ -385,6 +385,16 @@ impl Streams {
         Ok(Stream::from_c(&name))
     }
 
+    /// Closes a listener: a SYN for it is answered by a reset from then on, unless another one listens there. Handshakes under
+    /// way end in a reset once they are complete, and connections that wait can still be accepted. Its number is given to no
+    /// other listener.
+    ///
+    /// # Errors
+    /// [`Error::NotThere`] if no listener has this number.
+    pub fn close_listener(&mut self, listener: usize) -> Result<(), Error> {
+        call!(self.iface_stream_close_listener(listener))
+    }
+
     /// Opens a connection to a peer, from a port of one own address, or of the one that [`Host::source_for`] has. The next
     /// [`poll`](Streams::poll) sends the SYN, and [`state`](Streams::state) tells what becomes of it.
     ///
@@ -544,5 +554,13 @@ impl Streams {
     /// [`Error::NoSocket`].
     pub fn set_timeout(&mut self, stream: Stream, timeout: Option<Duration>) -> Result<(), Error> {
         call!(self.iface_stream_set_timeout(&stream.to_c(), micros(timeout)))
+    }
+
+    /// Sets how many routers its packets may pass, from the next one on. Each connection begins with 64.
+    ///
+    /// # Errors
+    /// [`Error::BadArgument`] if it is 0; [`Error::NoSocket`].
+    pub fn set_hop_limit(&mut self, stream: Stream, hop_limit: u8) -> Result<(), Error> {
+        call!(self.iface_stream_set_hop_limit(&stream.to_c(), hop_limit))
     }
 }

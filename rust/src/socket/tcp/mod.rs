@@ -646,6 +646,21 @@ impl<'a> Socket<'a> {
         self.set(|options| options.is_nagle = enabled);
     }
 
+    /// The hop limit that was set. `None`: 64.
+    pub fn hop_limit(&self) -> Option<u8> {
+        self.options.hop_limit
+    }
+
+    /// Sets the hop limit (over IPv4 the time to live) of the packets that it sends from now on. `None`: 64. Until a socket that
+    /// listens has its connection, what is sent of the handshake has 64. It stays when the socket is closed.
+    ///
+    /// # Panics
+    /// If it is 0 (RFC 1122, 3.2.1.7), as smoltcp's.
+    pub fn set_hop_limit(&mut self, hop_limit: Option<u8>) {
+        assert!(hop_limit != Some(0), "a hop limit of 0");
+        self.set(|options| options.hop_limit = hop_limit);
+    }
+
     /// Wakes both tasks.
     fn wake_all(&mut self) {
         #[cfg(feature = "async")]

@@ -13,11 +13,17 @@ pub(super) struct Options {
     pub(super) keep_alive: Option<Duration>,
     pub(super) ack_delay: Option<Duration>,
     pub(super) is_nagle: bool,
+    pub(super) hop_limit: Option<u8>,
 }
 
 impl Options {
-    pub(super) const USUAL: Options =
-        Options { timeout: None, keep_alive: None, ack_delay: Some(Duration::from_millis(10)), is_nagle: true };
+    pub(super) const USUAL: Options = Options {
+        timeout: None,
+        keep_alive: None,
+        ack_delay: Some(Duration::from_millis(10)),
+        is_nagle: true,
+        hop_limit: None,
+    };
 }
 
 /// How long a peer waits for a socket to listen again, where all that listened at the port have connections.
@@ -202,6 +208,7 @@ impl Table {
         let _ = streams.set_keep_alive(stream, options.keep_alive);
         let _ = streams.set_ack_delay(stream, options.ack_delay.unwrap_or(Duration::ZERO));
         let _ = streams.set_nagle(stream, options.is_nagle);
+        let _ = streams.set_hop_limit(stream, options.hop_limit.unwrap_or(64));
     }
 
     pub(super) fn set_options(&mut self, index: usize, new: Options) {

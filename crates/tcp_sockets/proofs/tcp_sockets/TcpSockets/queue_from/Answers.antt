@@ -12,5 +12,6 @@ returns g c = λ m due of.
     (state c.queue.new.self c.args.host.now c.queue.new.sockets)
     c.in-Some.ensures.ends (sym c.in-Some-version_between.ensures) c.is_heard.ensures c.is_near-is_near.ensures
     (segment_is c.in-Some.segment c.args.place c.args.now c.args.action.now m c.args.host.now due of
-    c.in-Some.ensures.header c.in-Some.ensures.blocks c.in-Some.ensures.octets c.in-Some.ensures.mss c.in-Some.ensures.scale)
+    c.in-Some.ensures.header c.in-Some.ensures.blocks c.in-Some.ensures.octets c.in-Some.ensures.mss c.in-Some.ensures.scale
+    c.in-Some.ensures.hop_limit)
     (c.queue.ensures.fate c.args.host.now) (c.queue.ensures.after c.args.host.now)
