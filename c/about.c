@@ -40,6 +40,8 @@ const char *iface_strerror(uint32_t code) {
     case IFACE_NO_STREAMS: return "the handle owns no connections";
     case IFACE_HAS_STREAMS: return "the handle owns connections already";
     case IFACE_IN_USE: return "a connection has these ends";
+    case IFACE_BAD_NAME: return "the text is no name";
+    case IFACE_NO_SERVER: return "there is no server to ask";
     }
     return "unknown code";
 }

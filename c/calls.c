@@ -297,6 +297,34 @@ static void guards(uint8_t on, uint8_t own_addresses) {
     must("free", iface_free(&host));
 }
 
+/* A guard that defends an own address answers a claim of it by an announcement (RFC 5227, 2.4 c), but no other one within the time
+ * between two. */
+static void defends(void) {
+    static const uint8_t arp[42] = {255, 255, 255, 255, 255, 255, 2, 0, 0, 0, 0, 9, 8, 6, 0, 1, 8, 0, 6, 4, 0, 1, 2, 0, 0, 0, 0, 9,
+                                    192, 168, 69, 1, 0, 0, 0, 0, 0, 0, 192, 168, 69, 1};
+    static const uint8_t announcement[42] = {255, 255, 255, 255, 255, 255, 2, 0, 0, 0, 0, 1, 8, 6, 0, 1, 8, 0, 6, 4, 0, 1, 2, 0, 0, 0, 0, 1,
+                                             192, 168, 69, 1, 0, 0, 0, 0, 0, 0, 192, 168, 69, 1};
+    static const int64_t at[5] = {2000, 2001, 10001999, 10002000, 10002001};
+    iface host = IFACE_NONE;
+    struct iface_config config;
+    struct iface_address own = v4(192, 168, 69, 1);
+    struct iface_counts counters;
+    size_t n;
+    iface_config_init(&config);
+    wants("not by itself", config.guard.defend, 0);
+    config.hardware_address[0] = 2, config.hardware_address[5] = 1, config.guard.defend = 10000000;
+    must("host", iface_new(&host, &config));
+    must("address", iface_add_address(&host, &own, 24));
+    for (unsigned i = 0; i < 5; i++) {
+        must("receive", iface_receive(&host, at[i], arp, sizeof arp, reply, sizeof reply, &n));
+        wants("an announcement", n, i == 0 || i == 3 ? 42 : 0);
+        if (n > 0) wants("its octets", memcmp(reply, announcement, 42) == 0, 1);
+    }
+    must("counters", iface_counters(&host, &counters));
+    wants("two were handed over, and none was taken", counters.frames_out == 2 && counters.frames_in == 0, 1);
+    must("free", iface_free(&host));
+}
+
 /* What the host itself sent may come back: a claim from the own hardware address that tells this one is no conflict. */
 static void takes_its_own_back(void) {
     uint8_t arp[42] = {2, 0, 0, 0, 0, 1, 2, 0, 0, 0, 0, 1, 8, 6, 0, 1, 8, 0, 6, 4, 0, 2, 2, 0, 0, 0, 0, 1,
@@ -650,6 +678,7 @@ int main(void) {
     chooses_sources();
     knows_neighbors();
     guards(1, 1), guards(1, 0), guards(0, 1);
+    defends();
     takes_its_own_back(), pins();
     makes_link_local_addresses();
     keeps_routes_until_their_end();

@@ -1,4 +1,5 @@
-/* Calls in any order and frames of any octets, at a host with a guard, connections of TCP and a client of DHCP, while memory is refused.
+/* Calls in any order and frames of any octets, at a host with a guard, connections of TCP, a client of DHCP and one of DNS, while memory is
+ * refused.
  *
  *   fuzz [EPISODES [SEED]]
  *
@@ -16,11 +17,11 @@
 #include <stdio.h>
 #include <stdlib.h>
 
-enum { NAMES = 8, LISTENERS = 4, KEPT = 64, LONGEST = 1514, STEPS = 400, DAY = 86400 };
+enum { NAMES = 8, LISTENERS = 4, KEPT = 64, LONGEST = 1514, FIRST = 11, STEPS = 400, DAY = 86400 };
 
 static const int64_t second = 1000000;
 
-static unsigned long failures, checks, calls, refused, gone_on, places, established, leased, datagrams;
+static unsigned long failures, checks, calls, refused, gone_on, places, established, leased, found, datagrams;
 
 static void wants(const char *what, uint64_t is, uint64_t want) {
     checks++;
@@ -94,6 +95,7 @@ struct world {
     iface host;
     iface_streams tcp;
     iface_dhcp client;
+    iface_dns dns;
     struct iface_stream names[NAMES];
     size_t listeners[LISTENERS];
 };
@@ -112,23 +114,24 @@ struct outcome {
     struct iface_drops drops;
     struct iface_stream name;
     struct iface_lease lease;
+    struct iface_dns_answer found;
     uint8_t hardware[6], flag, octets[4200];
 };
 
 enum kind {
-    FRAME, NEXT, TCP_POLL, DHCP_POLL, /* more often than others */
-    NEW, FREE, TCP_NEW, TCP_FREE, DHCP_NEW, DHCP_FREE, /* less often */
+    FRAME, NEXT, TCP_POLL, DHCP_POLL, DNS_POLL, /* more often than others */
+    NEW, FREE, TCP_NEW, TCP_FREE, DHCP_NEW, DHCP_FREE, DNS_NEW, DNS_FREE, /* less often */
     ADDRESS, NO_ADDRESS, ADDRESSES, GROUP, NO_GROUP, HARDWARE, REASSEMBLY, ANY_IP, DEFAULT, ROUTE, ROUTE_UNTIL, NO_ROUTE, PIN, UNPIN,
     UDP_OPEN, RAW_OPEN, IDENT_OPEN, PORT_OPEN, TCP_OPEN, CLOSE, HOPS, UDP_SEND, RAW_SEND, ICMP_SEND, TCP_SEND, HOLD, TCP_ABORT,
     UDP_RECEIVE, RAW_RECEIVE, ICMP_RECEIVE, TCP_RECEIVE, UDP_PEEK, RAW_PEEK, ICMP_PEEK, TCP_PEEK, GIVEN_UP, CHANGED,
     APPLY, RESET, LISTEN, ACCEPT, CONNECT, SEND, RECEIVE, PEEK, END, ABORT, RELEASE, NAGLE, ACK_DELAY, KEEP_ALIVE, TIMEOUT,
-    KINDS
+    CLOSE_LISTENER, HOP_LIMIT, SERVERS, START, CANCEL, RESULT, KINDS
 };
 
 /* Which calls take memory, by the header; and which of these may go on without it. */
 static int takes_memory(int kind) {
-    return kind == NEXT || kind == DHCP_POLL || kind == NEW || kind == TCP_NEW || kind == DHCP_NEW || kind == LISTEN ||
-           (kind >= UDP_OPEN && kind <= TCP_OPEN);
+    return kind == NEXT || kind == DHCP_POLL || kind == NEW || kind == TCP_NEW || kind == DHCP_NEW || kind == DNS_NEW || kind == LISTEN ||
+           kind == SERVERS || kind == START || (kind >= UDP_OPEN && kind <= TCP_OPEN);
 }
 
 static int goes_on(int kind) {
@@ -183,6 +186,7 @@ static void some_config(struct iface_config *c) {
     c->frame_len = below(4) ? LONGEST : 589 + below(927), c->patience = below(4) ? c->patience : 0;
     if (below(8) == 0) c->medium = (uint8_t)below(3), c->checksums.udp = (uint8_t)below(5), c->start = (int64_t)word();
     c->guard.on = (uint8_t)below(4), c->guard.fragments = (uint8_t)below(2), c->guard.longest_error = below(4);
+    c->guard.defend = below(2) * 10000000;
 }
 
 static void some_streams(struct iface_streams_config *c) {
@@ -276,10 +280,14 @@ static uint32_t call_host(struct world *w, const struct choice *c, struct outcom
     }
 }
 
+static const char name[] = "www.example.com";
+
 static uint32_t call_services(struct world *w, const struct choice *c, struct outcome *o) {
     iface *h = &w->host;
     iface_streams *t = &w->tcp;
     const struct iface_stream *s = &w->names[c->small % NAMES];
+    const struct iface_address servers[IFACE_DNS_SERVERS] = {usual[1], c->address, {0, {0}}};
+    const uint64_t key[2] = {c->large, 1};
     switch (c->kind) {
     case TCP_POLL: return iface_streams_poll(t, h, c->now);
     case DHCP_POLL: return iface_dhcp_poll(&w->client, h, c->now, &o->number);
@@ -287,6 +295,13 @@ static uint32_t call_services(struct world *w, const struct choice *c, struct ou
     case TCP_FREE: return iface_streams_free(t, h);
     case DHCP_NEW: return iface_dhcp_new(&w->client, h, c->large, &c->end.address);
     case DHCP_FREE: return iface_dhcp_free(&w->client, h);
+    case DNS_NEW: return iface_dns_new(&w->dns, c->other % 4, key, servers);
+    case DNS_FREE: return iface_dns_free(&w->dns, h);
+    case DNS_POLL: return iface_dns_poll(&w->dns, h, c->now);
+    case SERVERS: return iface_dns_servers(&w->dns, servers);
+    case START: return iface_dns_start(&w->dns, h, c->now, name, sizeof name - 1 - c->other % 4, c->small ? 1 : c->other, &o->size);
+    case CANCEL: return iface_dns_cancel(&w->dns, h, c->other % 4);
+    case RESULT: return iface_dns_result(&w->dns, c->other % 4, &o->found);
     case APPLY: return iface_dhcp_apply(&w->client, h);
     case RESET: return iface_dhcp_reset(&w->client);
     case LISTEN: return iface_stream_listen(t, &c->end, c->other % 5, &o->size);
@@ -301,12 +316,14 @@ static uint32_t call_services(struct world *w, const struct choice *c, struct ou
     case NAGLE: return iface_stream_set_nagle(t, s, (uint8_t)c->other);
     case ACK_DELAY: return iface_stream_set_ack_delay(t, s, c->other * 1000);
     case KEEP_ALIVE: return iface_stream_set_keep_alive(t, s, c->other % 2 ? c->large : c->other * 100000);
-    default: return iface_stream_set_timeout(t, s, c->other % 2 ? c->large : c->other * 100000);
+    case TIMEOUT: return iface_stream_set_timeout(t, s, c->other % 2 ? c->large : c->other * 100000);
+    case CLOSE_LISTENER: return iface_stream_close_listener(t, w->listeners[c->other % LISTENERS]);
+    default: return iface_stream_set_hop_limit(t, s, (uint8_t)c->other);
     }
 }
 
 static int is_of_services(int kind) {
-    return kind == TCP_POLL || kind == DHCP_POLL || (kind >= TCP_NEW && kind <= DHCP_FREE) || kind >= APPLY;
+    return (kind >= TCP_POLL && kind <= DNS_POLL) || (kind >= TCP_NEW && kind <= DNS_FREE) || kind >= APPLY;
 }
 
 /* The octet that no field of an endpoint has, and that of a lease. */
@@ -401,6 +418,12 @@ static uint64_t shown(struct world *w, int64_t now) {
     o.number = iface_dhcp_poll_at(&w->client, &o.at), o.code = iface_dhcp_lease(&w->client, &o.lease);
     leased += o.code == IFACE_OK;
     clear_padding(&o), hash = mix(hash, &o, offsetof(struct outcome, octets));
+    for (size_t i = 0; i < 4; i++) {
+        nothing_yet(&o);
+        o.code = iface_dns_result(&w->dns, i, &o.found), o.number = iface_dns_poll_at(&w->dns, &o.at);
+        found += o.code == IFACE_OK && o.found.state == IFACE_DNS_FOUND;
+        hash = mix(hash, &o, offsetof(struct outcome, octets));
+    }
     hash = sockets_shown(w, &o, tables_shown(w, &o, hash));
     return streams_shown(w, &o, hash);
 }
@@ -469,6 +492,17 @@ static void answer_segment(int version, uint8_t from, const uint8_t *s, size_t n
                      below(4) ? 8000 : below(50), flags == 16 ? below(60) : 0);
 }
 
+/* What a server of names answers: the question again, and an address. */
+static void answer_name(int version, uint8_t from, const uint8_t *asked, size_t n, uint32_t code, uint32_t records) {
+    static const uint8_t record[] = {0xc0, 12, 0, 1, 0, 1, 0, 0, 0, 60, 0, 4, 192, 168, 69, 9};
+    uint8_t reply[300] = {0};
+    if (n < 20 || n > sizeof reply - sizeof record) return;
+    memcpy(reply, asked, n), memcpy(reply + n, record, sizeof record);
+    put_16(reply, 53), put_16(reply + 2, get_16(asked)), put_16(reply + 4, (uint32_t)(n + sizeof record));
+    put_16(reply + 10, 0x8180 | code), put_16(reply + 14, records);
+    keep_packet(version, from, 1, 17, reply, n + sizeof record);
+}
+
 static void answer_packet(int version, uint8_t from, uint8_t protocol, const uint8_t *body, size_t n) {
     uint8_t message[64] = {0};
     if (n >= 8 && n <= sizeof message && ((protocol == 1 && body[0] == 8) || (protocol == 58 && body[0] == 128))) {
@@ -476,7 +510,8 @@ static void answer_packet(int version, uint8_t from, uint8_t protocol, const uin
         keep_packet(version, from, 1, protocol, message, n);
     }
     if (protocol == 6 && n >= 20) answer_segment(version, from, body, n);
-    if (protocol == 17 && n >= 8 && get_16(body) != 68) keep_packet(version, from, 1, 17, noise(n < 400 ? n : 400), n < 400 ? n : 400);
+    if (protocol == 17 && n >= 8 && get_16(body + 2) == 53) answer_name(version, from, body, n, below(4) ? 0 : below(6), below(8) > 0);
+    else if (protocol == 17 && n >= 8 && get_16(body) != 68) keep_packet(version, from, 1, 17, noise(n < 400 ? n : 400), n < 400 ? n : 400);
     if (protocol == 58 && n >= 24 && body[0] == 135) { /* an advertisement for a solicitation (RFC 4861, 7.2.4) */
         memcpy(message + 8, body + 8, 16), message[0] = 136, message[4] = 0x60, message[24] = 2, message[25] = 1;
         memcpy(message + 26, "\2\0\0\0\0", 5), message[31] = body[23];
@@ -543,7 +578,7 @@ static int some_kind(void) {
     case 1:
     case 2: return FRAME;
     case 3:
-    case 4: return (int)(NEXT + below(3));
+    case 4: return (int)(NEXT + below(4));
     case 5: return (int)(below(30) ? UDP_OPEN + below(TCP_PEEK - UDP_OPEN) : NEW + below(ADDRESS - NEW));
     default: return (int)(ADDRESS + below(KINDS - ADDRESS));
     }
@@ -576,26 +611,28 @@ static void begin(struct world *w) {
     static const iface no_host = IFACE_NONE;
     static const iface_streams no_streams = IFACE_STREAMS_NONE;
     static const iface_dhcp no_client = IFACE_DHCP_NONE;
+    static const iface_dns no_names = IFACE_DNS_NONE;
     memset(w, 0, sizeof *w);
-    w->host = no_host, w->tcp = no_streams, w->client = no_client;
+    w->host = no_host, w->tcp = no_streams, w->client = no_client, w->dns = no_names;
 }
 
 static void end(struct world *w) {
     iface_streams_free(&w->tcp, &w->host);
     iface_dhcp_free(&w->client, &w->host);
+    iface_dns_free(&w->dns, &w->host);
     iface_free(&w->host);
 }
 
 /* The calls with which an episode begins, and which make more than refusals of it. */
 static int first_kinds(int step) {
-    static const int kinds[] = {NEW, ADDRESSES, TCP_NEW, DHCP_NEW, LISTEN, UDP_OPEN, DHCP_POLL, NEXT};
-    return step < 8 ? kinds[step] : some_kind();
+    static const int kinds[] = {NEW, ADDRESSES, TCP_NEW, DHCP_NEW, DNS_NEW, LISTEN, UDP_OPEN, START, DHCP_POLL, DNS_POLL, NEXT};
+    return step < FIRST ? kinds[step] : some_kind();
 }
 
 static struct choice choose_at(int step, int64_t now) {
     struct choice c = choose(first_kinds(step), now);
     if (c.kind == FRAME) some_frame(&c);
-    if (step < 8) {
+    if (step < FIRST) {
         c.now = now, c.rooms = (struct iface_rooms)IFACE_ROOMS(4, 2048), c.small = 4;
         c.end.address.version = 0, c.end.port = 80;
         c.config.sockets = 16, c.config.medium = IFACE_ETHERNET, c.config.frame_len = LONGEST, c.config.start = 0;
@@ -741,6 +778,23 @@ static void leases(struct world *w, int64_t now) {
     must("apply", iface_dhcp_apply(&w->client, &w->host)), must("free", iface_dhcp_free(&w->client, &w->host));
 }
 
+static void finds(struct world *w, int64_t now) {
+    const struct iface_address servers[IFACE_DNS_SERVERS] = {usual[1]};
+    const uint64_t key[2] = {1, 2};
+    struct iface_dns_answer result;
+    size_t query;
+    must("names", iface_dns_new(&w->dns, 1, key, servers));
+    must("start", iface_dns_start(&w->dns, &w->host, now, name, sizeof name - 1, IFACE_DNS_A, &query));
+    must("poll", iface_dns_poll(&w->dns, &w->host, now));
+    size_t n = next_of(w, now, 17, 20);
+    wants("a question", n > 0 && get_16(out + 36) == 53, 1);
+    if (n > 34) answer_name(4, 2, out + 34, n - 34, 0, 1);
+    come_kept(w, now), must("poll", iface_dns_poll(&w->dns, &w->host, now));
+    must("result", iface_dns_result(&w->dns, query, &result));
+    wants("found", result.state == IFACE_DNS_FOUND && result.addresses[0].octets[3] == 9, 1);
+    must("free", iface_dns_free(&w->dns, &w->host));
+}
+
 /* There is memory again: the same host does all that a host does, if it has places for the sockets and the usual configuration of
  * what is sent; else one that is made anew. */
 static void recovers(struct world *w, int64_t now) {
@@ -748,7 +802,7 @@ static void recovers(struct world *w, int64_t now) {
     static const struct iface_cidr addresses[] = {{{4, {192, 168, 69, 1}}, 24}, {{6, {0xfe, 0x80, [15] = 1}}, 64}};
     struct iface_rooms rooms = IFACE_ROOMS(1, 1);
     uint32_t socket, sockets = 0;
-    iface_streams_free(&w->tcp, &w->host), iface_dhcp_free(&w->client, &w->host);
+    iface_streams_free(&w->tcp, &w->host), iface_dhcp_free(&w->client, &w->host), iface_dns_free(&w->dns, &w->host);
     for (uint32_t i = 0; i < 64; i++) iface_close(&w->host, i);
     while (iface_icmp_open_ident(&w->host, 1, &rooms, &socket) == IFACE_OK) sockets++;
     for (uint32_t i = 0; i < 64; i++) iface_close(&w->host, i);
@@ -770,6 +824,7 @@ static void recovers(struct world *w, int64_t now) {
     answers_neighbors(w, now);
     exchanges_datagrams(w, now);
     accepts(w, now);
+    finds(w, now);
     leases(w, now);
 }
 
@@ -778,10 +833,10 @@ int main(int argc, char **argv) {
     seed = argc > 2 ? strtoull(argv[2], NULL, 0) | 1 : 69;
     heap.refuse_at = (unsigned)NEVER;
     for (int i = 0; i < episodes; i++) episode();
-    if (episodes >= 100) wants("connections, leases, datagrams", established > 0 && leased > 0 && datagrams > 0, 1);
+    if (episodes >= 100) wants("connections, leases, names, datagrams", established > 0 && leased > 0 && found > 0 && datagrams > 0, 1);
     printf("fuzz: %d episodes, %lu calls, of which %lu were refused memory at %lu places, and %lu went on without\n", episodes, calls, refused,
            places, gone_on);
-    printf("fuzz: connections were seen %lu times, leases %lu, datagrams %lu; %lu checks: %lu wrong\n", established, leased, datagrams, checks,
-           failures);
+    printf("fuzz: connections were seen %lu times, leases %lu, names %lu, datagrams %lu; %lu checks: %lu wrong\n", established, leased, found,
+           datagrams, checks, failures);
     return failures != 0;
 }

@@ -40,9 +40,9 @@ enum iface_code {
     IFACE_NOT_UNICAST = 6,   /* a hardware address or an own address that can't be one */
     IFACE_BAD_MOMENT = 7,    /* a moment below 0 or above 2^62, that of a host's start, a route's end and a hold too */
     IFACE_BAD_ADDRESS = 8,   /* a destination that is unspecified, a group that is none, a socket's own that is no host's */
-    IFACE_NOT_THERE = 9,     /* no such address or route, no own address; the medium has no hardware addresses */
-    IFACE_TABLE_FULL = 10,   /* four addresses, four routes or eight groups are there, or all sockets are open; a list of
-                                more than four addresses */
+    IFACE_NOT_THERE = 9,     /* no such address, route or query, no own address; the medium has no hardware addresses */
+    IFACE_TABLE_FULL = 10,   /* four addresses, four routes or eight groups are there, all sockets are open, or as many queries
+                                are there as may be; a list of more than four addresses */
     IFACE_NO_SOCKET = 11,    /* no socket of this kind is open by this number; no connection has this name */
     IFACE_BAD_PORT = 12,     /* a port that is 0 */
     IFACE_TOO_LONG = 13,     /* a packet longer than is ever sent */
@@ -52,17 +52,19 @@ enum iface_code {
     IFACE_NO_ROOM = 16,      /* the room for a frame is shorter than IFACE_FRAME_ROOM, that for a packet than the packet */
     IFACE_BAD_TIMEOUT = 17,  /* reassembly_timeout: 0, or longer than a day */
     IFACE_BAD_VERSION = 18,  /* iface_new: the library isn't of this header's version */
-    IFACE_NO_CLIENT = 19,    /* the handle owns no client of DHCP */
-    IFACE_HAS_CLIENT = 20,   /* iface_dhcp_new: the handle owns a client already */
+    IFACE_NO_CLIENT = 19,    /* the handle owns no client of DHCP, or of DNS */
+    IFACE_HAS_CLIENT = 20,   /* iface_dhcp_new, iface_dns_new: the handle owns a client already */
     IFACE_NO_STREAMS = 21,   /* the handle owns no connections of TCP */
     IFACE_HAS_STREAMS = 22,  /* iface_streams_new: the handle owns connections already */
-    IFACE_IN_USE = 23        /* iface_stream_connect: a connection has these ends */
+    IFACE_IN_USE = 23,       /* iface_stream_connect: a connection has these ends */
+    IFACE_BAD_NAME = 24,     /* iface_dns_start: the text is no name */
+    IFACE_NO_SERVER = 25     /* iface_dns_start: the client knows no server */
 };
 
 /* The version of this header, an octet each: 0.14.0, and the header's number, which grows with each change of a call or
  * a structure. iface_new refuses a library of another one; a program that compares it with iface_version() before its
  * first call learns of that earlier. */
-#define IFACE_VERSION 0x000e0005u
+#define IFACE_VERSION 0x000e0006u
 
 /* The room that iface_receive and iface_next need for a frame, in octets. */
 #define IFACE_FRAME_ROOM 1514
@@ -157,7 +159,7 @@ struct iface_guard {
                                        expected: 500,000 and 8 */
     struct iface_rate discoveries;  /* packets to own addresses, other than of UDP and TCP, from those of own networks
                                        that aren't known: 2,000,000 and 1 */
-    struct iface_rate queries;      /* queries of IGMP and MLD: 1,000,000 and 1 */
+    struct iface_rate queries;      /* queries of IGMP and MLD, and none about 224.0.0.1 or ff02::1: 1,000,000 and 1 */
     struct iface_rate echo_replies; /* echo replies of either ICMP: 0 and 0 */
     struct iface_rate errors;       /* errors of either ICMP (RFC 4443, 2.4): 10,000 and 10 */
     struct iface_rate resets;       /* resets of TCP: 10,000 and 10 */
@@ -169,6 +171,8 @@ struct iface_guard {
     uint8_t loops;                  /* not 0: drops datagrams of UDP from port 7, 13, 17 or 19 to a port below 1024: 1 */
     uint8_t fragments;              /* not 0: drops fragments: 0 */
     uint32_t longest_error;         /* an error may be so many times as long as the frame that it answers; 0 sets no bound: 3 */
+    uint32_t defend;                /* a claim of an own IPv4 address that is dropped is answered by an announcement of it (RFC 5227,
+                                       2.4 c), unless one was in so many microseconds before; 0 announces nothing: 0 */
 };
 
 /* How a host is to be made: iface_config_init fills it in. */
@@ -219,7 +223,7 @@ struct iface_drops {
     uint64_t pinned;       /* messages that tell another hardware address of a pinned neighbour */
     uint64_t new_neighbor; /* by the rate `neighbors` */
     uint64_t discovery;    /* by the rate `discoveries` */
-    uint64_t query;        /* by the rate `queries` */
+    uint64_t query;        /* by the rate `queries`, or about all hosts */
     uint64_t router;       /* advertisements of other routers */
     uint64_t fragment;
     uint64_t loops;
@@ -478,7 +482,8 @@ uint32_t iface_given_up_count(iface *host, uint64_t *count);
  * back. BAD_MOMENT. `room` is at least IFACE_FRAME_ROOM. NO_ROOM. */
 
 /* Takes a frame of any octets, and writes the frame that is to be sent in response, of *length octets; none if that
- * is 0. A frame that the guard drops changes nothing but what the guard keeps. */
+ * is 0. A frame that the guard drops changes nothing but what the guard keeps, and is answered by the announcement of an
+ * own address alone, if `defend` is set. */
 uint32_t iface_receive(iface *host, int64_t now, const uint8_t *frame, size_t frame_len, uint8_t *out, size_t room,
                        size_t *length);
 
@@ -594,6 +599,94 @@ uint32_t iface_dhcp_reset(iface_dhcp *client);
  * the client gave the host stays: call iface_dhcp_reset and iface_dhcp_apply before. NO_CLIENT. */
 uint32_t iface_dhcp_free(iface_dhcp *client, iface *host);
 
+/* ---- DNS ----
+ *
+ * A client asks servers for the addresses of names (RFC 1035, RFC 3596), as many at once as it was made for. The program calls
+ * iface_dns_poll after iface_dns_start, after each frame that it hands over, and at the instant of iface_dns_poll_at, and then
+ * iface_next. A handle of a client (iface_dns) is kept as that of a host: set to IFACE_DNS_NONE before its first call, not copied,
+ * and in one call at a time. It goes with one host.
+ *
+ * A query has a UDP socket of its own as long as it waits, at a random port from 49152 on: as many places for sockets have to be
+ * free. Each server has ten seconds in turn, and is asked after 0, 1, 3 and 7 of them. Memory is taken when the client is made, when
+ * its servers are set, and for the socket of a query, whose memory is freed with it. A program that calls none of these is linked
+ * without any of it by --gc-sections. */
+
+/* A handle, which owns a client or none. Its fields are the library's. */
+typedef struct iface_dns {
+    uint64_t tag;
+    void *at;
+} iface_dns;
+
+/* A handle that owns none: iface_dns names = IFACE_DNS_NONE; */
+#define IFACE_DNS_NONE {0, NULL}
+
+/* How many servers a client has at most, and how many addresses a result. */
+#define IFACE_DNS_SERVERS 3
+#define IFACE_DNS_ADDRESSES 4
+
+/* What is asked of a name. */
+enum iface_dns_type {
+    IFACE_DNS_A = 1,    /* its IPv4 addresses */
+    IFACE_DNS_AAAA = 28 /* its IPv6 addresses */
+};
+
+/* What has become of a query. */
+enum iface_dns_state {
+    IFACE_DNS_PENDING = 0,          /* it waits for an answer */
+    IFACE_DNS_FOUND = 1,            /* the name has addresses */
+    IFACE_DNS_NO_SUCH_NAME = 2,     /* there is no such name (RCODE 3) */
+    IFACE_DNS_SERVER_FAILURE = 3,   /* the server failed, or refused: any other RCODE but 0 */
+    IFACE_DNS_TRUNCATED = 4,        /* the answer didn't fit in one message (TC) */
+    IFACE_DNS_NO_ADDRESS = 5,       /* the name has no address of the type that was asked for */
+    IFACE_DNS_TOO_MANY_ALIASES = 6, /* the name is an alias of an alias, and so on more than eight times */
+    IFACE_DNS_TIMED_OUT = 7         /* no server answered */
+};
+
+/* A query, and what it found. */
+struct iface_dns_answer {
+    uint32_t state;                    /* of enum iface_dns_state */
+    struct iface_address addresses[4]; /* the first addresses of the name, from the first place on; version 0 in the others */
+};
+
+/* Makes a client for so many queries at once, which the handle owns from then on. `key` is 16 random octets, a secret: the numbers
+ * and ports of queries come from it, and who doesn't know it can't tell the next ones from those before (RFC 5452, 9.2). `servers`
+ * is an array of IFACE_DNS_SERVERS addresses, in the order in which they are asked. Those of version 0, as IFACE_ANY, are left out;
+ * so the servers of a lease may be handed over as they are.
+ * HAS_CLIENT, BAD_ARGUMENT (a server whose version is neither 0, 4 nor 6), NO_MEMORY. */
+uint32_t iface_dns_new(iface_dns *dns, uint32_t queries, const uint64_t *key, const struct iface_address *servers);
+
+/* Sets the servers, as iface_dns_new has them, in place of those before. Queries that wait go on with the new ones: each asks the
+ * one whose turn it is, and no answer of another counts; without a server they time out. BAD_ARGUMENT, NO_CLIENT, NO_MEMORY. */
+uint32_t iface_dns_servers(iface_dns *dns, const struct iface_address *servers);
+
+/* Starts a query for a name, as "www.example.com" with 15: `length` octets, of which a dot at the end is left out. Labels between
+ * dots have 1 to 63 octets of any value, and the name is at most 253 octets long (RFC 1035, 2.3.4). `query_type` is of
+ * enum iface_dns_type. Writes the query's number, the least that names none. The query stays until it is cancelled.
+ * BAD_ARGUMENT (the type), NO_CLIENT, NO_HOST, BAD_MOMENT, BAD_NAME (a label that is empty or too long, or too long a name), NO_SERVER,
+ * TABLE_FULL (each number names a query; all sockets are open), NO_MEMORY. */
+uint32_t iface_dns_start(iface_dns *dns, iface *host, int64_t now, const char *name, size_t length, uint32_t query_type,
+                         size_t *query);
+
+/* Does what is due: queries take what came to their sockets, queue what they send now, and give up after their time. The socket of a
+ * query that waits no longer is closed. A message for which there is no room counts as lost. NO_CLIENT, NO_HOST, BAD_MOMENT. */
+uint32_t iface_dns_poll(iface_dns *dns, iface *host, int64_t now);
+
+/* Writes the instant at which iface_dns_poll is to be called again, if nothing comes before and no query is started: one that has
+ * passed, if something is due at once, and IFACE_NEVER, if no query waits. NO_CLIENT. */
+uint32_t iface_dns_poll_at(iface_dns *dns, int64_t *at);
+
+/* Writes what has become of a query. An answer counts only if it comes from the server that was asked last, from its port 53, to the
+ * query's port, with the query's number and its question (RFC 5452, 9.1). NO_CLIENT, NOT_THERE (the number names no query). */
+uint32_t iface_dns_result(iface_dns *dns, size_t query, struct iface_dns_answer *result);
+
+/* Ends a query, whatever has become of it, and closes its socket if that is still open: its number names none from then on.
+ * NO_CLIENT, NO_HOST, NOT_THERE (the number names no query). */
+uint32_t iface_dns_cancel(iface_dns *dns, iface *host, size_t query);
+
+/* Frees a client with its queries: the handle owns none from then on. If the other handle owns a host, their sockets there are
+ * closed. NO_CLIENT. */
+uint32_t iface_dns_free(iface_dns *dns, iface *host);
+
 /* ---- connections of TCP ----
  *
  * A state machine of TCP (RFC 9293) for a host: it listens, connects, sends again what was lost, and keeps what came until the program
@@ -702,6 +795,11 @@ uint32_t iface_stream_listen(iface_streams *tcp, const struct iface_endpoint *lo
 /* Takes the connection of a listener that waits longest, and writes its name. EMPTY (none waits, or there is no such listener). */
 uint32_t iface_stream_accept(iface_streams *tcp, size_t listener, struct iface_stream *stream);
 
+/* Closes a listener: a SYN for it is answered by a reset from then on, unless another one listens there. Handshakes under way end in a
+ * reset once they are complete, and connections that wait can still be accepted. Its number is given to no other listener, and its
+ * memory is freed with the connections. NOT_THERE (no listener has this number). */
+uint32_t iface_stream_close_listener(iface_streams *tcp, size_t listener);
+
 /* Opens a connection to a peer, from a port of one own address; or of the one that iface_source_for writes, if that of `local` is
  * none. Writes its name. The next iface_streams_poll sends the SYN, and iface_stream_state tells what becomes of it. An address of
  * `local` that the host doesn't have ends it then, as if aborted.
@@ -753,6 +851,10 @@ uint32_t iface_stream_set_ack_delay(iface_streams *tcp, const struct iface_strea
 uint32_t iface_stream_set_keep_alive(iface_streams *tcp, const struct iface_stream *stream, uint64_t micros);
 uint32_t iface_stream_set_timeout(iface_streams *tcp, const struct iface_stream *stream, uint64_t micros);
 
+/* Sets how many routers the packets of one connection may pass, from the next one on (RFC 9293, 3.9.2). Each begins with 64.
+ * BAD_ARGUMENT (0). */
+uint32_t iface_stream_set_hop_limit(iface_streams *tcp, const struct iface_stream *stream, uint8_t hop_limit);
+
 /* ---- the library ---- */
 
 /* The version of the header that the library was built with. */
@@ -773,9 +875,10 @@ _Static_assert(sizeof(struct iface_address) == 17 && sizeof(struct iface_endpoin
 _Static_assert(sizeof(struct iface_config) == 128 && sizeof(iface) == 16, "as the library lays them out");
 _Static_assert(sizeof(struct iface_cidr) == 18 && sizeof(struct iface_counts) == 32, "as the library lays them out");
 _Static_assert(sizeof(struct iface_queue) == 20 && sizeof(struct iface_checksums) == 5, "as the library lays them out");
-_Static_assert(sizeof(struct iface_rate) == 8 && sizeof(struct iface_guard) == 60, "as the library lays them out");
+_Static_assert(sizeof(struct iface_rate) == 8 && sizeof(struct iface_guard) == 64, "as the library lays them out");
 _Static_assert(sizeof(struct iface_drops) == 96, "as the library lays them out");
 _Static_assert(sizeof(struct iface_lease) == 112 && sizeof(iface_dhcp) == 16, "as the library lays them out");
+_Static_assert(sizeof(struct iface_dns_answer) == 72 && sizeof(iface_dns) == 16, "as the library lays them out");
 _Static_assert(sizeof(struct iface_streams_config) == 120 && sizeof(iface_streams) == 16, "as the library lays them out");
 _Static_assert(sizeof(struct iface_stream) == 16, "as the library lays them out");
 _Static_assert(sizeof(struct iface_rooms) == 16 && sizeof(struct iface_segment) == 32, "as the library lays them out");

@@ -422,12 +422,12 @@ static void refuses_frames(iface *host) {
 
 /* What the library says of itself, and of each code. */
 static void tells_of_itself(void) {
-    const char *unknown = iface_strerror(IFACE_IN_USE + 1);
+    const char *unknown = iface_strerror(IFACE_NO_SERVER + 1);
     wants("version", iface_version(), IFACE_VERSION);
     wants("name", strncmp(iface_build(), "fumitorygate 0.14.0 (", 21) == 0, 1);
     wants("a number that is no code", strcmp(unknown, "unknown code") == 0, 1);
     wants("the greatest number", strcmp(iface_strerror(UINT32_MAX), unknown) == 0, 1);
-    for (uint32_t a = 0; a <= IFACE_IN_USE; a++) {
+    for (uint32_t a = 0; a <= IFACE_NO_SERVER; a++) {
         wants("a code", strcmp(iface_strerror(a), unknown) != 0, 1);
         for (uint32_t b = 0; b < a; b++) wants("two codes", strcmp(iface_strerror(a), iface_strerror(b)) != 0, 1);
     }

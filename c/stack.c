@@ -9,6 +9,7 @@
 #define _XOPEN_SOURCE 600
 #include "iface.h"
 #include "lease_reply.h"
+#include "name_answer.h"
 
 #include <stdbool.h>
 #include <stdio.h>
@@ -111,6 +112,12 @@ static int64_t now = 1000000, at;
 static size_t length, given, list_length;
 static iface_dhcp client = IFACE_DHCP_NONE;
 static struct iface_lease lease;
+static iface_dns dns = IFACE_DNS_NONE;
+static uint64_t dns_key[2];
+static struct iface_address servers[IFACE_DNS_SERVERS];
+static struct iface_dns_answer found;
+static char name[256];
+static size_t query;
 static iface_streams tcp = IFACE_STREAMS_NONE;
 static struct iface_streams_config streams_config;
 static struct iface_stream stream;
@@ -186,6 +193,14 @@ static size_t listener, writable;
     each(dhcp_apply, iface_dhcp_apply(&client, &host)) \
     each(dhcp_reset, iface_dhcp_reset(&client)) \
     each(dhcp_free, iface_dhcp_free(&client, &host)) \
+    each(dns_new, iface_dns_new(&dns, number, dns_key, servers)) \
+    each(dns_servers, iface_dns_servers(&dns, servers)) \
+    each(dns_start, iface_dns_start(&dns, &host, now, name, given, number, &query)) \
+    each(dns_poll, iface_dns_poll(&dns, &host, now)) \
+    each(dns_poll_at, iface_dns_poll_at(&dns, &at)) \
+    each(dns_result, iface_dns_result(&dns, query, &found)) \
+    each(dns_cancel, iface_dns_cancel(&dns, &host, query)) \
+    each(dns_free, iface_dns_free(&dns, &host)) \
     each(streams_config_init, (iface_streams_config_init(&streams_config), IFACE_OK)) \
     each(streams_new, iface_streams_new(&tcp, &host, &streams_config)) \
     each(streams_poll, iface_streams_poll(&tcp, &host, now)) \
@@ -193,6 +208,7 @@ static size_t listener, writable;
     each(streams_free, iface_streams_free(&tcp, &host)) \
     each(stream_listen, iface_stream_listen(&tcp, &local, number, &listener)) \
     each(stream_accept, iface_stream_accept(&tcp, listener, &stream)) \
+    each(stream_close_listener, iface_stream_close_listener(&tcp, listener)) \
     each(stream_connect, iface_stream_connect(&tcp, &host, now, &local, &end, &stream)) \
     each(stream_send, iface_stream_send(&tcp, &stream, payload, given, &length)) \
     each(stream_receive, iface_stream_receive(&tcp, &stream, out, sizeof out, &length)) \
@@ -207,7 +223,8 @@ static size_t listener, writable;
     each(stream_set_nagle, iface_stream_set_nagle(&tcp, &stream, flag)) \
     each(stream_set_ack_delay, iface_stream_set_ack_delay(&tcp, &stream, count)) \
     each(stream_set_keep_alive, iface_stream_set_keep_alive(&tcp, &stream, count)) \
-    each(stream_set_timeout, iface_stream_set_timeout(&tcp, &stream, count))
+    each(stream_set_timeout, iface_stream_set_timeout(&tcp, &stream, count)) \
+    each(stream_set_hop_limit, iface_stream_set_hop_limit(&tcp, &stream, flag))
 
 #define NUMBER(name, expression) CALL_##name,
 #define FUNCTION(name, expression) static void do_##name(void) { code = (expression); }
@@ -451,6 +468,33 @@ static void take_leases(void) {
     MUST(dhcp_reset), MUST(dhcp_free), MUST(free);
 }
 
+/* What is sent is answered by a message of these flags and records. */
+static void answer_names(const char *flags, uint8_t records, const char *octets, size_t n) {
+    MUST(dns_poll), MUST(dns_poll_at), MUST(next);
+    given = name_answer(frame, out, length, flags, records, octets, n), MUST(receive);
+    MUST(dns_poll), MUST(dns_result);
+}
+
+/* A host asks for the longest names: answers with aliases, with other names, and none. */
+static void ask_names(void) {
+    static char loop[9 * 14 + 1];
+    MUST(config_init), config.medium = IFACE_IP, config.frame_len = 1500;
+    MUST(new_for);
+    address = v4(10, 0, 0, 1), prefix_len = 24, MUST(add_address);
+    for (int i = 0; i < 253; i++) name[i] = i % 64 == 63 ? '.' : 'a';
+    number = 4, servers[0] = v4(10, 0, 0, 2), MUST(dns_new), servers[1] = v4(10, 0, 0, 3), MUST(dns_servers);
+    number = IFACE_DNS_A, given = 253, MUST(dns_start), MUST(dns_result);
+    answer_names(GOOD, 1, RECORD_1, sizeof RECORD_1 - 1);
+    given = 253, MUST(dns_start);
+    for (int i = 0; i < 9; i++) memcpy(loop + i * 14, "\300\14\0\5\0\1\0\0\1\54\0\2\300\14", 14);
+    answer_names(GOOD, 9, loop, sizeof loop - 1);
+    given = 253, MUST(dns_start);
+    answer_names(NO_NAME, 0, "", 0);
+    MUST(dns_cancel), number = IFACE_DNS_AAAA, given = 253, MUST(dns_start);
+    for (int i = 0; i < 8; i++) MUST(dns_poll), MUST(dns_poll_at), MUST(next), now = at;
+    MUST(dns_poll), MUST(dns_cancel), MUST(dns_free), MUST(free);
+}
+
 /* Another host with connections, to which the host of the calls speaks. Its own calls aren't counted. */
 static iface peer_host = IFACE_NONE;
 static iface_streams peer_tcp = IFACE_STREAMS_NONE;
@@ -498,6 +542,7 @@ static void speak_tcp(void) {
     iface_stream_listen(&peer_tcp, &to, 4, &listener), iface_stream_listen(&peer_tcp, &from, 4, &listener);
     local.port = 5000, end = (struct iface_endpoint){own[1], 4000}, local.address.version = 0, MUST(stream_connect);
     exchange_segments(), iface_stream_accept(&peer_tcp, listener, &theirs), exchange_octets(&theirs);
+    flag = 64, MUST(stream_set_hop_limit), listener = 0, MUST(stream_close_listener);
     MUST(stream_abort), exchange_segments(), MUST(stream_release);
     iface_streams_free(&peer_tcp, &peer_host), iface_free(&peer_host);
     MUST(streams_free), MUST(free);
@@ -507,6 +552,7 @@ int main(void) {
     int wrong = 0;
     taken_by_none = used_by(do_nothing);
     take_leases();
+    ask_names();
     speak_tcp();
     for (uint8_t medium = 0; medium < 2; medium++) {
         set_up(medium);

@@ -1,7 +1,8 @@
 #!/bin/sh
-# Compares what the library wants from the program, and what it gives, with what C.md and iface.h say.
+# Compares what the library wants from the program, and what it gives, with what C.md and iface.h say; and that a program which
+# calls no service contains nothing of DHCP, DNS and connections of TCP.
 #
-#   symbols.sh LIBRARY      libiface.a; NM names the tool
+#   symbols.sh LIBRARY PROGRAM      libiface.a, and freestanding, linked by --gc-sections; NM names the tool
 set -eu
 here=$(dirname "$0")
 work=$(mktemp -d)
@@ -25,4 +26,8 @@ differ() {
 }
 differ "$work/told" "$work/needed" "what the library needs (<: as C.md says, >: as it is)"
 differ "$work/declared" "$work/given_for_c" "what it gives (<: as iface.h says, >: as it is)"
+# Functions by the names of their crates, and calls.
+"${NM:-nm}" "$2" | awk 'NF == 3 { print $3 }' |
+    grep -E '^(iface_(dhcp|dns|stream)|dhcp_|dns_|tcp_(connection|host|machine|packets|sockets|streams))' >"$work/of_services" || true
+differ /dev/null "$work/of_services" "$2 contains (>)"
 echo "symbols: it needs $(tr '\n' ' ' <"$work/needed")and gives the $(wc -l <"$work/declared") functions of iface.h"

@@ -19,16 +19,17 @@ TYPES = {
     "struct iface_checksums": "iface_checksums", "struct iface_rooms": "iface_rooms", "struct iface_segment": "iface_segment",
     "struct iface_rate": "iface_rate", "struct iface_guard": "iface_guard", "struct iface_drops": "iface_drops",
     "iface_dhcp": "iface_dhcp", "struct iface_lease": "iface_lease",
+    "iface_dns": "iface_dns", "struct iface_dns_answer": "iface_dns_answer",
     "iface_streams": "iface_streams", "struct iface_streams_config": "iface_streams_config",
     "struct iface_stream": "iface_stream",
 }
 # The enums whose numbers calls write as words. The others are octets.
-WORDS = {"iface_code", "iface_stream_state", "iface_stream_ending"}
+WORDS = {"iface_code", "iface_dns_type", "iface_dns_state", "iface_stream_state", "iface_stream_ending"}
 # IFACE_ROOMS isn't translated: `host::Rooms::new` makes the same.
 DEFINED = {"IFACE_H", "IFACE_FRAME_ROOM", "IFACE_LAST_MOMENT", "IFACE_NEVER", "IFACE_NONE", "IFACE_VERSION", "IFACE_ANY",
-           "IFACE_ROOMS", "IFACE_DHCP_NONE", "IFACE_STREAMS_NONE"}
+           "IFACE_ROOMS", "IFACE_DHCP_NONE", "IFACE_DNS_NONE", "IFACE_STREAMS_NONE", "IFACE_DNS_SERVERS", "IFACE_DNS_ADDRESSES"}
 # The handles, and what each owns.
-HANDLES = [("iface", "host"), ("iface_dhcp", "client"), ("iface_streams", "connections")]
+HANDLES = [("iface", "host"), ("iface_dhcp", "client"), ("iface_dns", "client"), ("iface_streams", "connections")]
 RESULTS = {"uint32_t ": " -> u32", "void ": "", "const char *": " -> *const c_char"}
 HEAD = """//! `c/iface.h`, declared: made by `make_sys.py`, with the comments of the header.
 //!
@@ -164,6 +165,11 @@ def constants(header):
             f"pub const IFACE_FRAME_ROOM: usize = {room};",
             "/// The last moment, in microseconds.", f"pub const IFACE_LAST_MOMENT: i64 = 1 << {last};",
             "/// The instant that stands for none.", "pub const IFACE_NEVER: i64 = i64::MAX;"]
+    for name in ("IFACE_DNS_SERVERS", "IFACE_DNS_ADDRESSES"):
+        number = re.search(rf"#define {name} (\d+)\n", header)
+        if number:
+            most = "servers of a client" if name.endswith("SERVERS") else "addresses of a result"
+            out += [f"/// How many {most} there are at most.", f"pub const {name}: usize = {number[1]};"]
     version = re.search(r"#define IFACE_VERSION (0x[0-9a-f]+)u\n", header)
     if version:
         out += ["/// The version of the header.", f"pub const IFACE_VERSION: u32 = {version[1]};"]

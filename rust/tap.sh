@@ -1,5 +1,5 @@
 #!/bin/bash
-# Runs ping, discover, server, client, httpclient, multicast, slaac and dhcp_client on TAP devices, and trace on one of a pair of
+# Runs ping, discover, server, client, httpclient, dns, multicast, slaac and dhcp_client on TAP devices, and trace on one of a pair of
 # interfaces, in a network namespace of its own, against Linux's stack. It changes nothing outside that namespace, and ends by
 # itself after at most three minutes.
 #
@@ -97,6 +97,18 @@ asks lines "$folder/client" tap0 192.168.69.100 7000
 finish 'connected' 'send data: "eerht' 'disconnected'
 asks page "$folder/httpclient" tap0 192.168.69.100 http://192.168.69.100:8080/page
 finish 'HTTP/1.1 200 OK' 'line 4999'
+
+# A server of names in Python.
+ip neigh flush dev tap0
+python3 "$here/../c/name_server.py" 192.168.69.100 >"$scratch/asked" &
+server=$!
+sleep 1
+timeout 20 "$folder/dns" tap0 alias.example.com 192.168.69.100 >"$scratch/output" || status=1
+cat "$scratch/output"
+grep -q 'Query done: .*192.0.2.1' "$scratch/output" || status=1
+kill "$server"
+wait "$server" || true
+server=
 
 ip neigh flush dev tap0
 start multicast 6

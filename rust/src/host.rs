@@ -22,8 +22,10 @@ use crate::wire::{
 use core::fmt;
 
 mod dhcp;
+mod dns;
 
 pub use dhcp::{Dhcp, Lease, LeaseEvent};
+pub use dns::{Dns, DnsFailure, DnsQuery, DnsResult};
 
 /// The octets of the longest frame.
 pub const FRAME_ROOM: usize = sys::IFACE_FRAME_ROOM;
@@ -46,10 +48,10 @@ pub enum Error {
     NotUnicast,
     /// A destination that is unspecified, an address that is no group's, or a socket's own that is a group's.
     BadAddress,
-    /// No such address or route, no own address, no ends of a connection, or no hardware addresses.
+    /// No such address, route or query, no own address, no ends of a connection, or no hardware addresses.
     NotThere,
-    /// Four addresses, four routes or eight groups are there, all sockets are open, or each place has a connection; a list
-    /// of more than four addresses.
+    /// Four addresses, four routes or eight groups are there, all sockets are open, or each place has a connection or a
+    /// query; a list of more than four addresses, or of more than three servers.
     TableFull,
     /// No socket of this kind is open by this number, or no connection has this name.
     NoSocket,
@@ -67,6 +69,10 @@ pub enum Error {
     BadTimeout,
     /// A connection of TCP has these ends.
     InUse,
+    /// A text that is no name: a label of it is empty or longer than 63 octets, or all of it longer than 253.
+    BadName,
+    /// There is no server of names to ask.
+    NoServer,
     /// There are no secrets for connections of TCP: none are set, and without the feature `std` there is no source of them.
     NoSecrets,
     /// The library isn't of the header that this crate was made from, so it makes no host. `fresh.sh` tries it.
@@ -93,7 +99,7 @@ impl fmt::Display for Error {
             Error::BadAddress => {
                 "the address is unspecified, no group's where one is wanted, or a socket's own and a group's"
             }
-            Error::NotThere => "no such address, route or ends, or no hardware addresses",
+            Error::NotThere => "no such address, route, query or ends, or no hardware addresses",
             Error::TableFull => "the table is full",
             Error::NoSocket => "no such socket or connection is open",
             Error::BadPort => "the port is 0",
@@ -103,6 +109,8 @@ impl fmt::Display for Error {
             Error::NoRoom => "the buffer is shorter than the packet",
             Error::BadTimeout => "the timeout is zero, or longer than a day",
             Error::InUse => "a connection has these ends",
+            Error::BadName => "the text is no name",
+            Error::NoServer => "there is no server to ask",
             Error::NoSecrets => "there are no secrets for connections",
             Error::OtherVersion { own, library: Some(library) } => {
                 return write!(f, "the crate is made for {}, and the library is {}", Version(own), Version(library));
@@ -150,6 +158,8 @@ fn refusal(code: u32) -> Error {
         sys::IFACE_NO_ROOM => Error::NoRoom,
         sys::IFACE_BAD_TIMEOUT => Error::BadTimeout,
         sys::IFACE_IN_USE => Error::InUse,
+        sys::IFACE_BAD_NAME => Error::BadName,
+        sys::IFACE_NO_SERVER => Error::NoServer,
         sys::IFACE_BAD_VERSION => Error::OtherVersion { own: sys::IFACE_VERSION, library: library_version() },
         other => Error::Other(other),
     }

@@ -29,8 +29,9 @@ pub mod socket;
 pub use checksum::{Checksum, ChecksumCapabilities};
 pub use guard::{Conflict, Drops, Guard, Rate};
 pub use host::{
-    Counters, Dhcp, Error, FRAME_ROOM, Frame, Host, Lease, LeaseEvent, Neighbor, Queue, Queues, Room, Rooms, Route,
-    Secrets, Segment, Settings, Stream, StreamEnding, StreamSettings, StreamState, Streams,
+    Counters, Dhcp, Dns, DnsFailure, DnsQuery, DnsResult, Error, FRAME_ROOM, Frame, Host, Lease, LeaseEvent, Neighbor,
+    Queue, Queues, Room, Rooms, Route, Secrets, Segment, Settings, Stream, StreamEnding, StreamSettings, StreamState,
+    Streams,
 };
 
 #[doc = include_str!("../API.md")]

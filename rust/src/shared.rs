@@ -155,8 +155,8 @@ impl Shared {
         Shared(Arc::new(Lock { is_taken, inner: UnsafeCell::new(inner), ip_mtu, seed }))
     }
 
-    /// A seed for a client of DHCP, another one for each.
-    #[cfg_attr(not(feature = "socket-dhcpv4"), expect(dead_code, reason = "there are no clients"))]
+    /// A seed for a client of DHCP or DNS, another one for each.
+    #[cfg_attr(not(feature = "socket-dhcpv4"), allow(dead_code, reason = "there may be no clients"))]
     pub(crate) fn next_seed(&self) -> u64 {
         // 2^64 by the golden ratio, so that seeds which are near each other don't meet.
         self.0.seed.fetch_add(0x9e37_79b9_7f4a_7c15, SeqCst)

@@ -2,7 +2,7 @@
 //!
 //! Calling any of it is `unsafe`: the header says what the caller keeps. [`Host`](crate::Host) keeps it.
 //!
-//! Sum of the header: 0x23a8f1b30caf3b07
+//! Sum of the header: 0x662c8546697ed6c8
 #![allow(non_camel_case_types)]
 
 use core::ffi::{c_char, c_void};
@@ -25,9 +25,9 @@ pub const IFACE_NOT_UNICAST: u32 = 6;
 pub const IFACE_BAD_MOMENT: u32 = 7;
 /// a destination that is unspecified, a group that is none, a socket's own that is no host's
 pub const IFACE_BAD_ADDRESS: u32 = 8;
-/// no such address or route, no own address; the medium has no hardware addresses
+/// no such address, route or query, no own address; the medium has no hardware addresses
 pub const IFACE_NOT_THERE: u32 = 9;
-/// four addresses, four routes or eight groups are there, or all sockets are open; a list of more than four addresses
+/// four addresses, four routes or eight groups are there, all sockets are open, or as many queries are there as may be; a list of more than four addresses
 pub const IFACE_TABLE_FULL: u32 = 10;
 /// no socket of this kind is open by this number; no connection has this name
 pub const IFACE_NO_SOCKET: u32 = 11;
@@ -45,9 +45,9 @@ pub const IFACE_NO_ROOM: u32 = 16;
 pub const IFACE_BAD_TIMEOUT: u32 = 17;
 /// `iface_new`: the library isn't of this header's version
 pub const IFACE_BAD_VERSION: u32 = 18;
-/// the handle owns no client of DHCP
+/// the handle owns no client of DHCP, or of DNS
 pub const IFACE_NO_CLIENT: u32 = 19;
-/// `iface_dhcp_new`: the handle owns a client already
+/// `iface_dhcp_new`, `iface_dns_new`: the handle owns a client already
 pub const IFACE_HAS_CLIENT: u32 = 20;
 /// the handle owns no connections of TCP
 pub const IFACE_NO_STREAMS: u32 = 21;
@@ -55,6 +55,10 @@ pub const IFACE_NO_STREAMS: u32 = 21;
 pub const IFACE_HAS_STREAMS: u32 = 22;
 /// `iface_stream_connect`: a connection has these ends
 pub const IFACE_IN_USE: u32 = 23;
+/// `iface_dns_start`: the text is no name
+pub const IFACE_BAD_NAME: u32 = 24;
+/// `iface_dns_start`: the client knows no server
+pub const IFACE_NO_SERVER: u32 = 25;
 
 /// `iface_control`.
 pub const IFACE_TCP_DATA: u8 = 0;
@@ -87,6 +91,28 @@ pub const IFACE_DHCP_NOTHING: u8 = 0;
 pub const IFACE_DHCP_CONFIGURED: u8 = 1;
 /// there is none any more: its address must not be used
 pub const IFACE_DHCP_DECONFIGURED: u8 = 2;
+
+/// its IPv4 addresses
+pub const IFACE_DNS_A: u32 = 1;
+/// its IPv6 addresses
+pub const IFACE_DNS_AAAA: u32 = 28;
+
+/// it waits for an answer
+pub const IFACE_DNS_PENDING: u32 = 0;
+/// the name has addresses
+pub const IFACE_DNS_FOUND: u32 = 1;
+/// there is no such name (RCODE 3)
+pub const IFACE_DNS_NO_SUCH_NAME: u32 = 2;
+/// the server failed, or refused: any other RCODE but 0
+pub const IFACE_DNS_SERVER_FAILURE: u32 = 3;
+/// the answer didn't fit in one message (TC)
+pub const IFACE_DNS_TRUNCATED: u32 = 4;
+/// the name has no address of the type that was asked for
+pub const IFACE_DNS_NO_ADDRESS: u32 = 5;
+/// the name is an alias of an alias, and so on more than eight times
+pub const IFACE_DNS_TOO_MANY_ALIASES: u32 = 6;
+/// no server answered
+pub const IFACE_DNS_TIMED_OUT: u32 = 7;
 
 /// it is gone; what came before can still be read
 pub const IFACE_CLOSED: u32 = 0;
@@ -128,8 +154,12 @@ pub const IFACE_FRAME_ROOM: usize = 1514;
 pub const IFACE_LAST_MOMENT: i64 = 1 << 62;
 /// The instant that stands for none.
 pub const IFACE_NEVER: i64 = i64::MAX;
+/// How many servers of a client there are at most.
+pub const IFACE_DNS_SERVERS: usize = 3;
+/// How many addresses of a result there are at most.
+pub const IFACE_DNS_ADDRESSES: usize = 4;
 /// The version of the header.
-pub const IFACE_VERSION: u32 = 0x000e0005;
+pub const IFACE_VERSION: u32 = 0x000e0006;
 /// Any address, for the end at which a socket listens.
 pub const IFACE_ANY: iface_address = iface_address { version: 0, octets: [0; 16] };
 
@@ -253,7 +283,7 @@ pub struct iface_guard {
     pub neighbors: iface_rate,
     /// packets to own addresses, other than of UDP and TCP, from those of own networks that aren't known: 2,000,000 and 1
     pub discoveries: iface_rate,
-    /// queries of IGMP and MLD: 1,000,000 and 1
+    /// queries of IGMP and MLD, and none about 224.0.0.1 or ff02::1: 1,000,000 and 1
     pub queries: iface_rate,
     /// echo replies of either ICMP: 0 and 0
     pub echo_replies: iface_rate,
@@ -273,6 +303,8 @@ pub struct iface_guard {
     pub fragments: u8,
     /// an error may be so many times as long as the frame that it answers; 0 sets no bound: 3
     pub longest_error: u32,
+    /// a claim of an own IPv4 address that is dropped is answered by an announcement of it (RFC 5227, 2.4 c), unless one was in so many microseconds before; 0 announces nothing: 0
+    pub defend: u32,
 }
 
 /// How a host is to be made: `iface_config_init` fills it in.
@@ -335,7 +367,7 @@ pub struct iface_drops {
     pub new_neighbor: u64,
     /// by the rate discoveries
     pub discovery: u64,
-    /// by the rate queries
+    /// by the rate queries, or about all hosts
     pub query: u64,
     /// advertisements of other routers
     pub router: u64,
@@ -375,6 +407,24 @@ pub struct iface_lease {
     pub prefix_len: u8,
     /// when it ends, unless it is renewed before; `IFACE_NEVER` for a lease without end
     pub expires_at: i64,
+}
+
+/// A handle, which owns a client or none. Its fields are the library's.
+#[repr(C)]
+#[derive(Debug)]
+pub struct iface_dns {
+    tag: u64,
+    at: *mut c_void,
+}
+
+/// A query, and what it found.
+#[repr(C)]
+#[derive(Clone, Copy, Debug)]
+pub struct iface_dns_answer {
+    /// of enum `iface_dns_state`
+    pub state: u32,
+    /// the first addresses of the name, from the first place on; version 0 in the others
+    pub addresses: [iface_address; 4],
 }
 
 /// A handle, which owns connections or none. Its fields are the library's.
@@ -451,6 +501,14 @@ impl iface_dhcp {
     };
 }
 
+impl iface_dns {
+    /// A handle that owns no client.
+    pub const NONE: iface_dns = iface_dns {
+        tag: 0,
+        at: core::ptr::null_mut(),
+    };
+}
+
 impl iface_streams {
     /// A handle that owns no connections.
     pub const NONE: iface_streams = iface_streams {
@@ -468,10 +526,12 @@ const _: () = assert!(size_of::<iface_counts>() == 32);
 const _: () = assert!(size_of::<iface_queue>() == 20);
 const _: () = assert!(size_of::<iface_checksums>() == 5);
 const _: () = assert!(size_of::<iface_rate>() == 8);
-const _: () = assert!(size_of::<iface_guard>() == 60);
+const _: () = assert!(size_of::<iface_guard>() == 64);
 const _: () = assert!(size_of::<iface_drops>() == 96);
 const _: () = assert!(size_of::<iface_lease>() == 112);
 const _: () = assert!(size_of::<iface_dhcp>() == 16);
+const _: () = assert!(size_of::<iface_dns_answer>() == 72);
+const _: () = assert!(size_of::<iface_dns>() == 16);
 const _: () = assert!(size_of::<iface_streams_config>() == 120);
 const _: () = assert!(size_of::<iface_streams>() == 16);
 const _: () = assert!(size_of::<iface_stream>() == 16);
@@ -581,7 +641,7 @@ unsafe extern "C" {
     pub fn iface_given_up(host: *mut iface, socket: u32, remote: *mut iface_address) -> u32;
     /// Writes how many packets were given up, of all sockets.
     pub fn iface_given_up_count(host: *mut iface, count: *mut u64) -> u32;
-    /// Takes a frame of any octets, and writes the frame that is to be sent in response, of `*length` octets; none if that is 0. A frame that the guard drops changes nothing but what the guard keeps.
+    /// Takes a frame of any octets, and writes the frame that is to be sent in response, of `*length` octets; none if that is 0. A frame that the guard drops changes nothing but what the guard keeps, and is answered by the announcement of an own address alone, if defend is set.
     pub fn iface_receive(host: *mut iface, now: i64, frame: *const u8, frame_len: usize, out: *mut u8, room: usize, length: *mut usize) -> u32;
     /// Writes the next frame that is to be sent, of `*length` octets; 0 says that the round sent nothing.
     ///
@@ -617,6 +677,22 @@ unsafe extern "C" {
     pub fn iface_dhcp_reset(client: *mut iface_dhcp) -> u32;
     /// Frees a client: the handle owns none from then on. If the other handle owns a host, the client's sockets there are closed. What the client gave the host stays: call `iface_dhcp_reset` and `iface_dhcp_apply` before. NO_CLIENT.
     pub fn iface_dhcp_free(client: *mut iface_dhcp, host: *mut iface) -> u32;
+    /// Makes a client for so many queries at once, which the handle owns from then on. key is 16 random octets, a secret: the numbers and ports of queries come from it, and who doesn't know it can't tell the next ones from those before (RFC 5452, 9.2). servers is an array of `IFACE_DNS_SERVERS` addresses, in the order in which they are asked. Those of version 0, as `IFACE_ANY`, are left out; so the servers of a lease may be handed over as they are. HAS_CLIENT, BAD_ARGUMENT (a server whose version is neither 0, 4 nor 6), NO_MEMORY.
+    pub fn iface_dns_new(dns: *mut iface_dns, queries: u32, key: *const u64, servers: *const iface_address) -> u32;
+    /// Sets the servers, as `iface_dns_new` has them, in place of those before. Queries that wait go on with the new ones: each asks the one whose turn it is, and no answer of another counts; without a server they time out. BAD_ARGUMENT, NO_CLIENT, NO_MEMORY.
+    pub fn iface_dns_servers(dns: *mut iface_dns, servers: *const iface_address) -> u32;
+    /// Starts a query for a name, as "www.example.com" with 15: length octets, of which a dot at the end is left out. Labels between dots have 1 to 63 octets of any value, and the name is at most 253 octets long (RFC 1035, 2.3.4). query_type is of enum `iface_dns_type`. Writes the query's number, the least that names none. The query stays until it is cancelled. BAD_ARGUMENT (the type), NO_CLIENT, NO_HOST, BAD_MOMENT, BAD_NAME (a label that is empty or too long, or too long a name), NO_SERVER, TABLE_FULL (each number names a query; all sockets are open), NO_MEMORY.
+    pub fn iface_dns_start(dns: *mut iface_dns, host: *mut iface, now: i64, name: *const c_char, length: usize, query_type: u32, query: *mut usize) -> u32;
+    /// Does what is due: queries take what came to their sockets, queue what they send now, and give up after their time. The socket of a query that waits no longer is closed. A message for which there is no room counts as lost. NO_CLIENT, NO_HOST, BAD_MOMENT.
+    pub fn iface_dns_poll(dns: *mut iface_dns, host: *mut iface, now: i64) -> u32;
+    /// Writes the instant at which `iface_dns_poll` is to be called again, if nothing comes before and no query is started: one that has passed, if something is due at once, and `IFACE_NEVER`, if no query waits. NO_CLIENT.
+    pub fn iface_dns_poll_at(dns: *mut iface_dns, at: *mut i64) -> u32;
+    /// Writes what has become of a query. An answer counts only if it comes from the server that was asked last, from its port 53, to the query's port, with the query's number and its question (RFC 5452, 9.1). NO_CLIENT, NOT_THERE (the number names no query).
+    pub fn iface_dns_result(dns: *mut iface_dns, query: usize, result: *mut iface_dns_answer) -> u32;
+    /// Ends a query, whatever has become of it, and closes its socket if that is still open: its number names none from then on. NO_CLIENT, NO_HOST, NOT_THERE (the number names no query).
+    pub fn iface_dns_cancel(dns: *mut iface_dns, host: *mut iface, query: usize) -> u32;
+    /// Frees a client with its queries: the handle owns none from then on. If the other handle owns a host, their sockets there are closed. NO_CLIENT.
+    pub fn iface_dns_free(dns: *mut iface_dns, host: *mut iface) -> u32;
     /// Writes what most programs want: the values in the comments above, and zeros for the two secrets, which the program sets.
     pub fn iface_streams_config_init(config: *mut iface_streams_config);
     /// Makes connections for a host, which the handle owns from then on, and opens two raw sockets of the host for each family. Segments are as long as the link carries: 40 octets less than its longest packet over IPv4, 60 over IPv6. HAS_STREAMS, BAD_ARGUMENT (a number that is out of range, or neither family), NO_HOST, TABLE_FULL (the host has no places for the sockets), NO_MEMORY.
@@ -631,6 +707,8 @@ unsafe extern "C" {
     pub fn iface_stream_listen(tcp: *mut iface_streams, local: *const iface_endpoint, backlog: u32, listener: *mut usize) -> u32;
     /// Takes the connection of a listener that waits longest, and writes its name. EMPTY (none waits, or there is no such listener).
     pub fn iface_stream_accept(tcp: *mut iface_streams, listener: usize, stream: *mut iface_stream) -> u32;
+    /// Closes a listener: a SYN for it is answered by a reset from then on, unless another one listens there. Handshakes under way end in a reset once they are complete, and connections that wait can still be accepted. Its number is given to no other listener, and its memory is freed with the connections. NOT_THERE (no listener has this number).
+    pub fn iface_stream_close_listener(tcp: *mut iface_streams, listener: usize) -> u32;
     /// Opens a connection to a peer, from a port of one own address; or of the one that `iface_source_for` writes, if that of local is none. Writes its name. The next `iface_streams_poll` sends the SYN, and `iface_stream_state` tells what becomes of it. An address of local that the host doesn't have ends it then, as if aborted. BAD_ARGUMENT, NO_STREAMS, NO_HOST, BAD_MOMENT, BAD_PORT (also the peer's), NOT_THERE (no own address of this family), BAD_ADDRESS (one that isn't unicast, or they are of two families), IN_USE (choose another port), TABLE_FULL (each place has a connection).
     pub fn iface_stream_connect(tcp: *mut iface_streams, host: *mut iface, now: i64, local: *const iface_endpoint, remote: *const iface_endpoint, stream: *mut iface_stream) -> u32;
     /// Queues the first octets, as many as there is room for, and writes how many: 0 once the program closed, or the connection is gone.
@@ -661,6 +739,8 @@ unsafe extern "C" {
     pub fn iface_stream_set_keep_alive(tcp: *mut iface_streams, stream: *const iface_stream, micros: u64) -> u32;
     /// Each of these sets what the field of its name in the configuration says, for one connection from now on.
     pub fn iface_stream_set_timeout(tcp: *mut iface_streams, stream: *const iface_stream, micros: u64) -> u32;
+    /// Sets how many routers the packets of one connection may pass, from the next one on (RFC 9293, 3.9.2). Each begins with 64. BAD_ARGUMENT (0).
+    pub fn iface_stream_set_hop_limit(tcp: *mut iface_streams, stream: *const iface_stream, hop_limit: u8) -> u32;
     /// The version of the header that the library was built with.
     pub fn iface_version() -> u32;
     /// The library's name, version and commit, as "fumitorygate 0.14.0 (8e6aa25f6c2d)".

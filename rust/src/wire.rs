@@ -15,6 +15,7 @@ pub use core::net::{Ipv4Addr as Ipv4Address, Ipv6Addr as Ipv6Address};
 #[macro_use]
 mod forms;
 mod arp;
+mod dns;
 mod ethernet;
 mod icmpv4;
 mod icmpv6;
@@ -27,6 +28,7 @@ mod pretty_print;
 mod udp;
 
 pub use arp::{ArpHardware, ArpOperation, ArpPacket, ArpRepr};
+pub use dns::DnsQueryType;
 pub use ethernet::{ETHERNET_HEADER_LEN, EthernetFrame, EthernetProtocol, EthernetRepr};
 pub use icmpv4::{
     Icmpv4DstUnreachable, Icmpv4Message, Icmpv4Packet, Icmpv4ParamProblem, Icmpv4Redirect, Icmpv4Repr,

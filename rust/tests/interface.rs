@@ -82,7 +82,8 @@ fn a_pinned_neighbor_stays() {
     let other = [2, 0, 0, 0, 0, 66];
     let mut device = MemoryDevice::new(Medium::Ethernet, 1514);
     let config = Config::new(HardwareAddress::Ethernet(EthernetAddress(OWN)));
-    assert_eq!(config.guard.unwrap().longest_error, Some(3));
+    let usual = config.guard.unwrap();
+    assert_eq!((usual.longest_error, usual.defend), (Some(3), None));
     let mut iface = Interface::new(config, &mut device, Instant::ZERO).unwrap();
     iface.update_ip_addrs(|list| list.push(IpCidr::new(SELF.into(), 24)).unwrap()).unwrap();
     let mut sockets = SocketSet::new(&iface);

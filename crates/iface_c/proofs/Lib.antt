@@ -1,5 +1,6 @@
 mod AsBox
 mod AsBoxDhcp
+mod AsBoxDns
 mod AsBoxStreams
 mod Codes
 mod ConnectCodes
@@ -7,4 +8,6 @@ mod Networks
 mod NewStreams
 mod Reading
 mod SameHost
+mod StartCodes
 pub mod Values
+mod ServersIn

@@ -20,6 +20,9 @@ pub mod Waits
 pub mod Dhcp
 pub mod DhcpHandle
 pub mod OwnedDhcp
+pub mod Dns
+pub mod DnsHandle
+pub mod OwnedDns
 pub mod Streams
 pub mod StreamsHandle
 pub mod OwnedStreams

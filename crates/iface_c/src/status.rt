@@ -22,7 +22,7 @@ pub const NO_MEMORY: u32 = 4;
 /// An own address or a hardware address that can't be one.
 pub const NOT_UNICAST: u32 = 6;
 
-/// There is no such address or route.
+/// There is no such address, route or query.
 pub const NOT_THERE: u32 = 9;
 
 /// The table is full, or would be more than full.
@@ -52,8 +52,14 @@ pub const HAS_STREAMS: u32 = 22;
 /// A connection has these ends.
 pub const IN_USE: u32 = 23;
 
+/// The text is no name.
+pub const BAD_NAME: u32 = 24;
+
+/// There is no server to ask.
+pub const NO_SERVER: u32 = 25;
+
 /// The version of the header, `IFACE_VERSION`.
-pub const VERSION: u32 = 0x000e_0005;
+pub const VERSION: u32 = 0x000e_0006;
 
 /// The code of a refusal.
 pub fn code(refusal: Refusal) -> u32

@@ -160,7 +160,7 @@ pub struct Interface {
     out: Box<Frame>,
     /// How many packets were given up when it was last asked whether sockets changed.
     given_up: u64,
-    /// Whether a client of DHCP has an event that wasn't told by `sockets_changed`.
+    /// Whether a client of DHCP has an event, or one of DNS a result, that wasn't told by `sockets_changed`.
     is_news: bool,
 }
 
@@ -189,7 +189,7 @@ impl Interface {
         })
     }
 
-    /// What a socket of TCP connects by.
+    /// What a socket of TCP connects by, and a client of DNS starts a query by.
     pub fn context(&mut self) -> &mut Context {
         &mut self.context
     }

@@ -116,13 +116,13 @@ impl<'a> SocketSet<'a> {
         self.sockets.iter_mut().flatten().for_each(Socket::wake);
     }
 
-    /// Lets the clients of DHCP do what is due, and tells whether one has an event.
+    /// Lets the clients of DHCP and DNS do what is due, and tells whether one has an event, or a result.
     #[inline]
     pub(super) fn step(&mut self, timestamp: Instant) -> bool {
         self.sockets.iter_mut().flatten().fold(false, |is_news, socket| socket.step(timestamp) | is_news)
     }
 
-    /// When a client of DHCP does something next, if no frame comes.
+    /// When a client of DHCP or DNS does something next, if no frame comes.
     #[inline]
     pub(super) fn poll_at(&self) -> Option<Instant> {
         self.sockets.iter().flatten().filter_map(Socket::poll_at).min()

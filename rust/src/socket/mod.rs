@@ -1,5 +1,5 @@
 //! Sockets: [`tcp`], [`udp`], [`icmp`] and [`raw`], and [`segment`] for a TCP of one's own; with the feature `socket-dhcpv4`
-//! clients of DHCP.
+//! clients of DHCP, and with `socket-dns` those of DNS.
 //!
 //! A socket is opened when it is bound in a [`SocketSet`](crate::iface::SocketSet), or when it comes into one and was
 //! bound before. Its queues are the library's: outside a set it has none.
@@ -16,6 +16,8 @@ use lent::Destination;
 
 #[cfg(feature = "socket-dhcpv4")]
 pub mod dhcpv4;
+#[cfg(feature = "socket-dns")]
+pub mod dns;
 pub mod icmp;
 mod lent;
 pub mod raw;
@@ -42,6 +44,9 @@ pub enum Socket<'a> {
     /// A client of DHCP.
     #[cfg(feature = "socket-dhcpv4")]
     Dhcpv4(dhcpv4::Socket<'a>),
+    /// A client of DNS.
+    #[cfg(feature = "socket-dns")]
+    Dns(dns::Socket<'a>),
 }
 
 impl Socket<'_> {
@@ -55,6 +60,8 @@ impl Socket<'_> {
             Socket::Segment(socket) => socket.core.attach(host),
             #[cfg(feature = "socket-dhcpv4")]
             Socket::Dhcpv4(socket) => socket.attach(host),
+            #[cfg(feature = "socket-dns")]
+            Socket::Dns(socket) => socket.attach(host),
         }
     }
 
@@ -69,6 +76,8 @@ impl Socket<'_> {
             Socket::Segment(socket) => socket.core.wake(),
             #[cfg(feature = "socket-dhcpv4")]
             Socket::Dhcpv4(socket) => socket.wake(),
+            #[cfg(feature = "socket-dns")]
+            Socket::Dns(socket) => socket.wake(),
         }
     }
 
@@ -82,15 +91,19 @@ impl Socket<'_> {
             Socket::Segment(socket) => socket.core.detach(),
             #[cfg(feature = "socket-dhcpv4")]
             Socket::Dhcpv4(socket) => socket.detach(),
+            #[cfg(feature = "socket-dns")]
+            Socket::Dns(socket) => socket.detach(),
         }
     }
 
-    /// Lets a client of DHCP do what is due, and tells whether it has an event.
+    /// Lets a client of DHCP or DNS do what is due, and tells whether it has an event, or a result.
     #[inline]
     pub(crate) fn step(&mut self, timestamp: Instant) -> bool {
         match self {
             #[cfg(feature = "socket-dhcpv4")]
             Socket::Dhcpv4(socket) => socket.step(timestamp),
+            #[cfg(feature = "socket-dns")]
+            Socket::Dns(socket) => socket.step(timestamp),
             _ => {
                 let _ = timestamp;
                 false
@@ -98,12 +111,14 @@ impl Socket<'_> {
         }
     }
 
-    /// When a client of DHCP does something next, if no frame comes.
+    /// When a client of DHCP or DNS does something next, if no frame comes.
     #[inline]
     pub(crate) fn poll_at(&self) -> Option<Instant> {
         match self {
             #[cfg(feature = "socket-dhcpv4")]
             Socket::Dhcpv4(socket) => socket.poll_at(),
+            #[cfg(feature = "socket-dns")]
+            Socket::Dns(socket) => socket.poll_at(),
             _ => None,
         }
     }

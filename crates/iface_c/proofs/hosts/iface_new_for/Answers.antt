@@ -10,20 +10,20 @@ pub returns-in-Ok-new-clause-code : goal.returns-in-Ok-new-clause-code
 returns-in-Ok-new-clause-code c =
     let at : settings_in c.args.config.now ≡ Some c.in-Some.settings = search rules in
     let none : host_in c.args.handle.now ≡ None = search rules in
-    let same : (c.args.version == 917509) ≡ true = search rules in
+    let same : (c.args.version == 917510) ≡ true = search rules in
     rw (same, at, none) (of_done c.in-Ok.host (settings_refusal c.in-Some.settings) c.in-Ok.ensures.why)
 
 pub returns-in-Ok-clause-code : goal.returns-in-Ok-clause-code
 returns-in-Ok-clause-code c =
     let at : settings_in c.args.config.now ≡ Some c.in-Some.settings = search rules in
     let none : host_in c.args.handle.now ≡ None = search rules in
-    let same : (c.args.version == 917509) ≡ true = search rules in
+    let same : (c.args.version == 917510) ≡ true = search rules in
     rw (same, at, none) (of_memory c.in-Ok.host (settings_refusal c.in-Some.settings) c.in-Ok.ensures.why)
 
 pub returns-clause-code : goal.returns-clause-code
 returns-clause-code c =
     let at : settings_in c.args.config.now ≡ Some c.in-Some.settings = search rules in
     let none : host_in c.args.handle.now ≡ None = search rules in
-    let same : (c.args.version == 917509) ≡ true = search rules in
+    let same : (c.args.version == 917510) ≡ true = search rules in
     rw (same, at, none) (of_refusal (settings_refusal c.in-Some.settings) c.in-Err.refusal c.code.result
     c.in-Err.ensures.why c.in-Err.ensures.memory c.code.ensures.code c.code.ensures.refuses)
