@@ -37,18 +37,37 @@ pub trait Owner {
 fn put_ip_addrs(interface: &mut Interface, list: &ArrayVec<IpCidr, 4>) -> Result<(), AddrError>
     ensures { HostRefines interface.old interface.new (UpdatesIpAddrs list.now.items result) }
 {
-    let mut addrs = ArrayVec::new();
-    let _ = addrs.try_extend_from_slice(list.as_slice());
-    interface.update_ip_addrs(move |_| addrs)
+    take_ip_addrs(interface, copied(list))
+}
+
+/// Replaces the addresses with a list that is handed over.
+fn take_ip_addrs(interface: &mut Interface, list: ArrayVec<IpCidr, 4>) -> Result<(), AddrError>
+    ensures { HostRefines interface.old interface.new (UpdatesIpAddrs list.items result) }
+{
+    interface.update_ip_addrs(move |_| list)
 }
 
 /// Replaces the routes with a list.
 fn put_routes(interface: &mut Interface, list: &ArrayVec<Route, 4>)
     ensures { Becomes interface.old interface.new (λ H. record H { routes = list.now.items }) }
 {
-    let mut routes = ArrayVec::new();
-    let _ = routes.try_extend_from_slice(list.as_slice());
-    interface.routes_mut().update(move |_| routes);
+    take_routes(interface, copied(list));
+}
+
+/// Replaces the routes with a list that is handed over.
+fn take_routes(interface: &mut Interface, list: ArrayVec<Route, 4>)
+    ensures { Becomes interface.old interface.new (λ H. record H { routes = list.items }) }
+{
+    interface.routes_mut().update(move |_| list);
+}
+
+/// A list with the same items.
+fn copied<T: Copy + Default>(list: &ArrayVec<T, 4>) -> ArrayVec<T, 4>
+    ensures { result.items ≡ list.now.items }
+{
+    let mut items = ArrayVec::new();
+    let _ = items.try_extend_from_slice(list.as_slice());
+    items
 }
 
 /// Adds an IPv4 default route.

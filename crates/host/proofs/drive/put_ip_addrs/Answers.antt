@@ -1,4 +1,4 @@
-use Rattle.std.proofs.Common.{◌≡◌, List, rules, subst}
+use Rattle.std.proofs.Common.{List, subst}
 use Rattle.ip_address.specs.declared.cidr.IpCidr.{IpCidr}
 use Rattle.host_machine.specs.Polling.Step.{UpdatesIpAddrs}
 use Rattle.interface.specs.Stands.{HostRefines}
@@ -6,6 +6,5 @@ use Rattle.host.proofs.drive.put_ip_addrs.Goals as goal
 
 pub returns : goal.returns
 returns c =
-    let same : c.update_ip_addrs.ensures.1.items ≡ c.args.list.now.items = search rules in
-    subst (λ (items : List IpCidr). HostRefines c.args.interface.now c.update_ip_addrs.new.self (UpdatesIpAddrs items c.update_ip_addrs.result))
-    same c.update_ip_addrs.ensures.4
+    subst (λ (items : List IpCidr). HostRefines c.args.interface.now c.take_ip_addrs.new.interface (UpdatesIpAddrs items c.take_ip_addrs.result))
+    c.copied.ensures c.take_ip_addrs.ensures
