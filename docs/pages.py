@@ -1,7 +1,8 @@
 #!/usr/bin/env python3
 """Tests the pages: that each link leads to a file and to a heading there, that each file that a page names is there,
 that tables and lines aren't too long, that the lists of CONTRIBUTING.md name the files that such a change touches and
-names that stand in them, that numbers of crates are those of crates.txt, and that THEOREM.md has each law, and no other.
+names that stand in them, that numbers of crates are those of crates.txt, that who copies crates by CLIENT.md has all that
+their lines name, and that THEOREM.md has each law, and no other, and tells how many there are.
 
 usage: pages.py            names what is wrong; its status is 1 if something is
        pages.py --words    prints how many words each page has
@@ -17,16 +18,18 @@ PAGES = [TOP / "README.md", *sorted((TOP / "docs").glob("*.md")), TOP / "rust" /
 # pages whose lines are as long as their authors like
 OF_ANY_LENGTH = {"API.md"}
 
-# Of each list: its heading, the words of its example, and files that have to be in it for another reason.
+# Of each list: its heading, the words of its examples, in the order in which it says in how many files each stands, and
+# files that have to be in it for another reason.
 LISTS = {
-    "Adding a message": (r"PktTooBig", []),
-    "Adding a call": (r"SetAnyIp|TookAnyIp|any_ip", [
+    "Adding a message": ([r"PktTooBig"], []),
+    "Adding a call": ([r"SetAnyIp|TookAnyIp|any_ip", r"TookHardwareAddr|SetsHardwareAddr"], [
         "crates/host_machine/specs/Laws/Restraint/Settings.antt",   # no proof fails without it
         "crates/iface_c/src/properties.rt",                         # the setter of C
     ]),
     "Adding a kind of socket": (
-        r"SocketOf::Icmp|\(Icmp s\)|IcmpOffer|icmp::Socket|IcmpSocket|icmp_open|down_icmp", []),
+        [r"SocketOf::Icmp|\(Icmp s\)|IcmpOffer|icmp::Socket|IcmpSocket|icmp_open|down_icmp"], []),
 }
+COUNT = re.compile(r"stands? in (\d+) files")
 # clients, which only use what is there
 CLIENTS = {"interface_client"}
 FILE = re.compile(r"`([\w/]+\.(?:rt|antt|c|h|rs|md))`")
@@ -114,23 +117,28 @@ def lost_names(section):
 
 
 def files_with(words):
-    """The files of code, definitions and proofs in which an example stands."""
+    """The files of code, definitions, proofs and cargo's tests in which an example stands."""
     found = [path for folder in ("src", "specs", "proofs") for path in TOP.glob(f"crates/*/{folder}/**/*")
              if path.suffix in (".rt", ".antt") and path.relative_to(TOP).parts[1] not in CLIENTS]
-    found += [*(TOP / "c").glob("*.[ch]"), *(TOP / "rust" / "src").rglob("*.rs")]
+    found += [*(TOP / "c").glob("*.[ch]"), *(TOP / "rust" / "src").rglob("*.rs"), *(TOP / "rust" / "tests").glob("*.rs")]
     return {str(path.relative_to(TOP)) for path in found if re.search(words, path.read_text(encoding="utf-8"))}
 
 
 def test_lists(text):
-    """Names each file of a list that isn't there, each file that a list lacks, and each name that is gone."""
+    """Names each file of a list that isn't there, each file that a list lacks, each number of files that is another one,
+    and each name that is gone."""
     sections = dict(re.findall(r"^## (.*?)\n(.*?)(?=^## |\Z)", text, re.M | re.S))
-    for heading, (words, needed) in LISTS.items():
+    for heading, (examples, needed) in LISTS.items():
         named = set(files_in(sections.get(heading, "")))
         for name in sorted(named):
             if not (TOP / name).exists():
                 yield f"'{heading}': {name} isn't there"
-        for name in sorted((files_with(words) | set(needed)) - named):
+        found = [files_with(words) for words in examples]
+        for name in sorted(set(needed).union(*found) - named):
             yield f"'{heading}' lacks {name}"
+        told, there = COUNT.findall(sections.get(heading, "")), [str(len(files)) for files in found]
+        if told != there:
+            yield f"'{heading}' tells of {' and '.join(told) or 'no'} files, and not of {' and '.join(there)}"
         for name in lost_names(sections.get(heading, "")):
             yield f"'{heading}': {name} stands in no file of its entry"
 
@@ -143,6 +151,47 @@ def test_counts(text, lines):
     for found in re.findall(r"(\d+) of the (\d+) crates", text):
         if found != due:
             yield f"{' of '.join(found)} crates, and not {' of '.join(due)}"
+
+
+def test_copies(text):
+    """Names each crate that a row of CLIENT.md's table of what to copy lacks: one that a line of crates.txt names."""
+    uses = {}
+    for line in (TOP / "crates.txt").read_text(encoding="utf-8").splitlines():
+        head, _, names = line.partition("#")[0].partition(":")
+        if head.strip():
+            uses[head.split()[0]] = names.split()
+    first = set(re.search(r"as files, into `crates/`:\n\n((?:    .*\n)+)", text).group(1).split())
+    copied = first
+    for row in re.search(r"^\| You want .*\n.*\n((?:\|.*\n)+)", text, re.M).group(1).splitlines():
+        cell = row.strip("| ").split("|")[1]
+        copied = (copied if "these" in cell else first) | set(re.findall(r"`(\w+)`", cell))
+        lacks = {name for crate in copied for name in uses.get(crate, []) if name in uses} - copied
+        yield from (f"to copy lacks {name}: {row.split('|')[1].strip()}" for name in sorted(lacks))
+
+
+def as_number(words):
+    """The number below a hundred that is written as words, as `twenty-nine`."""
+    small = ("zero one two three four five six seven eight nine ten eleven twelve thirteen fourteen fifteen sixteen seventeen "
+             "eighteen nineteen").split()
+    tens = "twenty thirty forty fifty sixty seventy eighty ninety".split()
+    first, _, rest = words.lower().partition("-")
+    return small.index(first) if first in small else 20 + 10 * tens.index(first) + (small.index(rest) if rest else 0)
+
+
+def test_law_counts(text):
+    """Names each number of laws in THEOREM.md that isn't that of the rows, or of the fields, below it."""
+    ran = (TOP / "crates" / "host_machine" / "specs" / "Laws" / "Ran.antt").read_text(encoding="utf-8")
+    fields = re.findall(r"^  pub (\w+) :", re.search(r"^pub record Laws (.*?)^$", ran, re.M | re.S).group(1), re.M)
+    counts = [(r"the (\w+) laws of runs", len(fields)), (r"keeps the (\w+) laws", len(fields))]
+    for words, heading in ((r"^([\w-]+) laws of what a host must do,", "### Laws of service"),
+                           (r"^([\w-]+) laws of what a host must not do,", "### Laws of restraint")):
+        section = text.split(heading + "\n")[1].split("\n### ")[0]
+        cells = re.findall(r"^\|([^|]*)\|", section, re.M)
+        counts.append((words, len(re.findall(r"\[`[a-z]\w*`\]", " ".join(cells)))))
+    for words, count in counts:
+        found = re.search(words, text, re.M)
+        if not found or as_number(found.group(1)) != count:
+            yield f"{found.group(0) if found else words}: there are {count}"
 
 
 def test_laws(text):
@@ -176,7 +225,8 @@ def main(arguments):
         found = [*test_links(page, text, texts), *test_files(text, ends), *test_counts(text, crates)]
         found += [] if page.name in OF_ANY_LENGTH else test_lines(text)
         problems += [f"{page.relative_to(TOP)}: {problem}" for problem in found]
-    for name, test in (("CONTRIBUTING.md", test_lists), ("THEOREM.md", test_laws)):
+    for name, test in (("CONTRIBUTING.md", test_lists), ("THEOREM.md", test_laws), ("THEOREM.md", test_law_counts),
+                       ("CLIENT.md", test_copies)):
         problems += [f"docs/{name}: {problem}" for problem in test(texts[TOP / "docs" / name])]
     print("\n".join(problems + [f"{len(texts)} pages, {len(problems) or 'no'} problems"]))
     return bool(problems)
