@@ -39,9 +39,13 @@ ip link set tap0 up
 sleep 2 # until the kernel may use its link-local address
 
 status=0
+failed() {
+    echo "failed: $*"
+    status=1
+}
 try() {
     echo "== $*"
-    "$@" || status=1
+    "$@" || failed "$*"
 }
 # Starts an example, whose output is kept.
 start() {
@@ -51,11 +55,11 @@ start() {
 }
 # Waits for its end, and shows the output, in which each of the words has to be.
 finish() {
-    wait "$running" || status=1
+    wait "$running" || failed "its exit status is $?"
     running=
     cat "$scratch/output"
     for word in "$@"; do
-        grep -q "$word" "$scratch/output" || { echo "no '$word'" && status=1; }
+        grep -q "$word" "$scratch/output" || failed "no '$word'"
     done
 }
 
@@ -91,7 +95,7 @@ asks() {
     python3 "$here/tap_peer.py" "$1" &
     running=$!
     sleep 1
-    timeout 20 "${@:2}" >"$scratch/output" || status=1
+    timeout 20 "${@:2}" >"$scratch/output" || failed "${*:2}"
 }
 asks lines "$folder/client" tap0 192.168.69.100 7000
 finish 'connected' 'send data: "eerht' 'disconnected'
@@ -103,9 +107,9 @@ ip neigh flush dev tap0
 python3 "$here/../c/name_server.py" 192.168.69.100 >"$scratch/asked" &
 server=$!
 sleep 1
-timeout 20 "$folder/dns" tap0 alias.example.com 192.168.69.100 >"$scratch/output" || status=1
+timeout 20 "$folder/dns" tap0 alias.example.com 192.168.69.100 >"$scratch/output" || failed dns
 cat "$scratch/output"
-grep -q 'Query done: .*192.0.2.1' "$scratch/output" || status=1
+grep -q 'Query done: .*192.0.2.1' "$scratch/output" || failed "no address of the name"
 kill "$server"
 wait "$server" || true
 server=
@@ -114,7 +118,7 @@ ip neigh flush dev tap0
 start multicast 6
 try python3 "$here/tap_peer.py" groups
 finish 'to 224.0.0.37' 'MembershipQuery' 'ff15::25'
-grep -q '224.0.0.38' "$scratch/output" && echo 'a datagram to a group that was not joined' && status=1
+grep -q '224.0.0.38' "$scratch/output" && failed 'a datagram to a group that was not joined'
 
 ip neigh flush dev tap0
 start slaac 6
@@ -153,6 +157,6 @@ sleep 1
 try ping -c 3 -i 0.2 192.168.70.1
 finish 'op=Reply' 'ICMPv4 echo reply id=[0-9]* seq=3 len=56'
 # RFC 792: the six messages are in the file, each behind an Ethernet header of this type.
-[ "$(grep -c 'ICMPv4 echo' "$scratch/output")" = 6 ] || { echo 'not six echo messages' && status=1; }
-[ "$(wc -c <"$scratch/frames.pcap")" -gt $((24 + 6 * (16 + 98))) ] || { echo 'too short a file of frames' && status=1; }
+[ "$(grep -c 'ICMPv4 echo' "$scratch/output")" = 6 ] || failed 'not six echo messages'
+[ "$(wc -c <"$scratch/frames.pcap")" -gt $((24 + 6 * (16 + 98))) ] || failed 'too short a file of frames'
 exit $status
