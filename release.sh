@@ -39,7 +39,7 @@ archive() {
     make -C c install "$@" PREFIX="$place" PC_PREFIX='$${pcfiledir}/../..'
     cp "c/$build/libiface_c.a" "c/$build/libiface_c.a.proof" "$place/lib/"
     mkdir "$place/examples"
-    cp c/examples/*.[ch] c/examples/*.sh c/heap.c "$place/examples/"
+    cp c/examples/*.[ch] c/examples/*.sh c/heap.c c/small.sh c/small_peer.py "$place/examples/"
     pack "$name"
     rm -rf "$place"
     tar -C "$work" -xzf "$folder/$name.tar.gz"
