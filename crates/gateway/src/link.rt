@@ -293,7 +293,8 @@ fn interface_at(
         addrs.push(IpCidr::from(own));
         addrs
     })?;
-    interface.set_neighbor_storage(Vec::with_capacity(alloc, NEIGHBORS)?);
+    let neighbors = Vec::with_capacity(alloc, NEIGHBORS)?;
+    interface.set_neighbor_storage(neighbors, Vec::with_capacity(alloc, NEIGHBORS)?);
     interface.set_any_ip(true);
     Ok(interface)
 }

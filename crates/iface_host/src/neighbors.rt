@@ -1,5 +1,5 @@
 //! The neighbours of a host.
-ghost use Rattle.std.specs.Prelude.{◌≡◌, slice_get};
+ghost use Rattle.std.specs.Prelude.{◌≡◌};
 ghost use Rattle.std.specs.Option.{option_and_then};
 ghost use Rattle.iface_host.specs.Neighbors.{IsNeighborAt, known_as};
 
@@ -25,15 +25,15 @@ impl Host {
     pub fn neighbor_at(&self, index: usize) -> Option<Known>
         ensures { IsNeighborAt index result self.now }
     {
-        neighbor_in(self.interface.neighbors().by_expiry(), index)
+        known_from(self.interface.neighbors().nth_by_expiry(index))
     }
 }
 
-/// The neighbour at a place, if there is one with an address on Ethernet.
-fn neighbor_in(list: &[(IpAddress, Neighbor)], index: usize) -> Option<Known>
-    ensures { result ≡ option_and_then known_as (slice_get list.now index) }
+/// A neighbour as it is told, if it has an address on Ethernet.
+fn known_from(found: Option<(IpAddress, Neighbor)>) -> Option<Known>
+    ensures { result ≡ option_and_then known_as found }
 {
-    let (address, neighbor) = list.get(index).copied()?;
+    let (address, neighbor) = found?;
     match neighbor.hardware_addr {
         HardwareAddress::Ethernet(hardware) => Some(Known {
             address,

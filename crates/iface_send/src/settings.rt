@@ -19,7 +19,7 @@ use crate::context::{Context, IFACE_MAX_ADDR_COUNT};
 use crate::membership::{Membership, update_solicited_node_groups};
 use arrayvec::ArrayVec;
 use fragmentation::Fragmenter;
-use iface_tables::neighbor::{Cache, Neighbor};
+use iface_tables::neighbor::{Cache, Hints, Neighbor};
 use iface_tables::route::Routes;
 use ip_wire::{HardwareAddress, IpAddress, IpCidr};
 use net_base::phy::DeviceCapabilities;
@@ -106,12 +106,16 @@ pub fn set_ip_addrs(context: &mut Context, list: ArrayVec<IpCidr, IFACE_MAX_ADDR
 }
 
 /// Forgets all neighbours, and keeps them from now on in this storage: as many as it has capacity for. Without capacity
-/// there is room for four.
-pub fn set_neighbor_storage(context: &mut Context, storage: Vec<(IpAddress, Neighbor)>)
+/// there is room for four. As many hints make lookups fast.
+pub fn set_neighbor_storage(
+    context: &mut Context,
+    storage: Vec<(IpAddress, Neighbor)>,
+    hints: Vec<Hints>,
+)
     ensures { (sockets : SocketSet) → host_of context.new sockets
         ≡ with_neighbor_room (host_of context.old sockets) (room_over (vec_capacity storage)) }
 {
-    context.neighbor_cache.set_storage(storage);
+    context.neighbor_cache.set_storage(storage, hints);
 }
 
 /// Turns AnyIP on or off: whether addresses that are routed to the interface count as its own.

@@ -1,5 +1,5 @@
 -- Lists of entries with keys that differ, as the finite maps that they make.
-use Rattle.std.proofs.Common.{◌≡◌, ℕ, zero, suc, ◌+◌, ◌<◌, List, [], ◌∷◌, length, get_or, refl, sym, ap, ◌∙◌, arith, add-one}
+use Rattle.std.proofs.Common.{◌≡◌, ℕ, zero, suc, ◌+◌, ◌<◌, List, [], ◌∷◌, length, drop, get_or, refl, sym, ap, ◌∙◌, arith, add-one}
 use Rattle.std.specs.Prelude.{Bool, true, false, cond, Some, None, Option, remove}
 use Rattle.std.specs.List.{insert as put}
 use Rattle.std.specs.Ordering.{eq_by_cmp, is_eq}
@@ -34,6 +34,16 @@ module _ {K X : Type 0} (R : K → K → Ordering) where
         | true ↦ omega arith
         | false ↦ let h = index_of-le k es in omega arith
       ]
+
+  -- a key is found as among the entries from its own on
+  pub find-drop : (k : K) (es : List (K × X)) → find R k (drop (index_of R k es) es) ≡ find R k es
+  find-drop k [] = refl
+  find-drop k (e ∷ es) =
+      elim (eq_by_cmp R k e.0) as (λ b. eq_by_cmp R k e.0 ≡ b →
+      find R k (drop (cond b 0 (index_of R k es + 1)) (e ∷ es)) ≡ cond b (Some e.1) (find R k es)) [
+        | true ↦ λ t. ap (λ b. cond b (Some e.1) (find R k es)) t
+        | false ↦ λ t. ap (λ n. find R k (drop n (e ∷ es))) (add-one (index_of R k es)) ∙ find-drop k es
+      ] refl
 
   -- where it is the length, the key is not there
   pub find-absent : (k : K) (es : List (K × X)) → index_of R k es ≡ length es → find R k es ≡ None
@@ -131,6 +141,15 @@ module _ {K X : Type 0} {R : K → K → Ordering} (o : IsTotalOrder R) (same : 
   find-at (e ∷ es) (suc i) d h distinct =
       ap (λ b. cond b (Some e.1) (find R (get_or es i d).0 es)) (other o same e.0 (get_or es i d).0 (not_at e.0 es i d distinct.0 (omega arith)))
       ∙ find-at es i d (omega arith) distinct.1
+
+  -- a key is at the place of its entry
+  pub index-at : (es : List (K × X)) (i : ℕ) (d : K × X) → i < length es → AreKeysDistinct R es → index_of R (get_or es i d).0 es ≡ i
+  index-at [] i d h distinct = absurd (omega arith)
+  index-at (e ∷ es) zero d h distinct = ap (λ b. cond b 0 (index_of R e.0 es + 1)) (tied_itself o same e.0)
+  index-at (e ∷ es) (suc i) d h distinct =
+      let k = (get_or es i d).0 in
+      ap (λ b. cond b 0 (index_of R k es + 1)) (other o same e.0 k (not_at e.0 es i d distinct.0 (omega arith)))
+      ∙ ap (λ n. n + 1) (index-at es i d (omega arith) distinct.1) ∙ add-one i
 
   pub absent_after-remove : (q : K) (es : List (K × X)) (i : ℕ) (d : K × X) →
       i < length es → AreKeysDistinct R es → find R q es ≡ None → find R q (remove es i) ≡ None

@@ -1,8 +1,9 @@
 pub mod EntriesLemmas
+pub mod ListLemmas
 pub mod NeighborLemmas
 pub mod RouteBestLemmas
 pub mod RouteLemmas
 pub mod RouteMaskLemmas
 pub mod RouteTrieLemmas
 pub mod RouteWalkLemmas
-pub mod SettleLemmas
+pub mod SortedLemmas

@@ -1,30 +1,32 @@
 -- The lists of neighbours, as the finite maps that they make.
-use Rattle.std.proofs.Common.{rules, ◌≡◌, ◌≢◌, ℕ, ◌<◌, ◌≤◌, List, [], ◌∷◌, ◌++◌, length, get_or, refl, sym, ap, subst, ◌∙◌, arith, suc}
+use Rattle.std.proofs.Common.{inl, inr, rules, ◌≡◌, ◌≢◌, ℕ, ◌<◌, ◌≤◌, List, [], ◌∷◌, ◌++◌, length, get_or, take, drop, ◌-◌, refl, sym, ap, subst, ◌∙◌, arith, suc}
 use Rattle.std.proofs.lemmas.Bool.Decides.{nat_tests}
 use Rattle.ip_address.specs.Hardware.{IsOf}
-use Rattle.std.specs.Prelude.{IfSome, Option, is_some, slice_get, nat_lt, IsTrue, if◌then◌else◌}
+use Rattle.std.specs.Prelude.{Option, is_some, slice_get, slice_set, nat_lt, IsTrue, if◌then◌else◌}
 use Rattle.std.specs.Prelude.{Bool, ℤ, pos, ◌≤ℤ◌, true, false, cond, Some, None}
-use Rattle.std.specs.List.{remove}
+use Rattle.std.specs.List.{insert, remove}
 use Rattle.std.specs.Ordering.{nat_cmp, eq_by_cmp}
 use Rattle.std.specs.Cmp.{IsTotalOrder, nat_cmp_total}
 use Rattle.std.specs.FinMap as map
 use Rattle.std.specs.FinMap.{FinMap, get-insert, get-remove, get-empty, IsAntisymmetric, find, from_entries, get-from_entries}
 use Rattle.std.proofs.lemmas.Cmp.{on_total, then_total}
 use Rattle.std.proofs.lemmas.Map.Lookups.{exact_pairs, exact_unsigned}
-use Rattle.std.proofs.lemmas.List.{get_or_default, length_push}
+use Rattle.std.proofs.lemmas.List.{length-drop, length_push}
+use Rattle.std.proofs.Math.Seq.{take-length}
+use Rattle.std.proofs.lemmas.Option.{get_or_from_slice_get, slice_get_cases, slice_get_within}
 use Rattle.ip_address.specs.Ip.{address_cmp, address_key, address_of_key, address_of_key-address_key}
-use Rattle.iface_tables.specs.Entries.{index_of}
-use Rattle.iface_tables.specs.Neighbor.{AreOf, HasPlace, Neighbors, Puts, IsKept, IsLeastEnd, IsSettled, is_same, after_renewal, renewed_from}
+use Rattle.iface_tables.specs.Entries.{AreKeysDistinct, index_of}
+use Rattle.iface_tables.specs.Neighbor.{AreOf, HasPlace, IsEarliest, IsLeastEnd, Neighbors, Puts, is_same, after_renewal, renewed_at, renewed_from}
 use Rattle.net_base.specs.declared.phy.Medium.{Medium}
 use Rattle.ip_address.specs.declared.ip.IpAddress.{IpAddress}
 use Rattle.ip_address.specs.contracts.hardware.HardwareAddressPartialEq.TheImpl as hardware_eq
 use Rattle.ip_address.specs.declared.hardware.HardwareAddress.{HardwareAddress}
 use Rattle.ip_address.specs.declared.hardware.HardwareAddress.TheVariants.{Ip, Ethernet}
 use Rattle.iface_tables.specs.declared.neighbor.Neighbor.{Neighbor}
-use Rattle.iface_tables.proofs.EntriesLemmas.{index_of-le, find-absent, find-there, key-there, from_entries-remove}
+use Rattle.iface_tables.proofs.EntriesLemmas.{find-drop, index-at, index_of-le, find-absent, find-there, key-there, from_entries-remove, tied}
 use Rattle.iface_tables.proofs.EntriesLemmas.{from_entries-put, len-from_entries, distinct_after-remove}
 use Rattle.iface_tables.proofs.EntriesLemmas.{distinct_after-put, find-at, absent_after-remove, put_over, tied_itself}
-use Rattle.iface_tables.proofs.SettleLemmas.{element_of, taken, remove_last}
+use Rattle.iface_tables.proofs.ListLemmas.{set_is_insert, remove_last}
 
 -- `==` of hardware addresses is their equality
 pub eq_is_same : (a b : HardwareAddress) → hardware_eq.ghosts.eq a b ≡ is_same a b
@@ -47,13 +49,13 @@ known_at es a = get-from_entries address_total es a
 
 -- what putting an entry leaves
 pub record PutsIn (most : ℕ) (es fs : List (IpAddress × Neighbor)) (a : IpAddress) (n : Neighbor) : Type 0 where
-  pub kept : IsKept fs
+  pub distinct : AreKeysDistinct address_cmp fs
   pub puts : Puts most (from_entries es) (from_entries fs) a n
 
 not_none : (n : Neighbor) → Some n ≢ None
 not_none n h = cc
 
-none_found : (es : List (IpAddress × Neighbor)) (a : IpAddress) (i : ℕ) → i ≡ index_of address_cmp a es → length es ≤ i → find address_cmp a es ≡ None
+pub none_found : (es : List (IpAddress × Neighbor)) (a : IpAddress) (i : ℕ) → i ≡ index_of address_cmp a es → length es ≤ i → find address_cmp a es ≡ None
 none_found es a i e past = let le = index_of-le address_cmp a es in find-absent address_cmp a es (omega arith)
 
 -- what holds of each entry holds of one that is found
@@ -66,35 +68,29 @@ found_has P (e ∷ es) b n each is =
       | false ↦ λ is. found_has P es b n (λ k d h. each (suc k) d (omega arith)) is
     ] is
 
--- the entry at the front is one of least end
-least_first : (es : List (IpAddress × Neighbor)) (d : IpAddress × Neighbor) →
-    0 < length es → IsKept es → IsLeastEnd (from_entries es) (get_or es 0 d).0
-least_first es d some kept = record {
-  entry = (get_or es 0 d).1;
-  is_there = known_at es _ ∙ find-at address_total address_same es 0 d some kept.distinct;
-  least = λ b n is. found_has (λ m. (get_or es 0 d).1.expires_at ≤ℤ m.expires_at) es b n
-      (λ k e k_in. rw (get_or_default es 0 d e some) (kept.by_end 0 k e (omega arith) k_in)) (sym (known_at es b) ∙ is);
+-- one of the earliest entries is one of least end
+least_at : (es : List (IpAddress × Neighbor)) (p : ℕ) (d : IpAddress × Neighbor) →
+    AreKeysDistinct address_cmp es → IsEarliest es p → IsLeastEnd (from_entries es) (get_or es p d).0
+least_at es p d distinct earliest = record {
+  entry = (get_or es p d).1;
+  is_there = known_at es _ ∙ find-at address_total address_same es p d earliest.within distinct;
+  least = λ b n is. found_has (λ m. (get_or es p d).1.expires_at ≤ℤ m.expires_at) es b n (earliest.least d) (sym (known_at es b) ∙ is);
 }
-
--- the other entries, where one is taken out
-others_kept : (es : List (IpAddress × Neighbor)) (i : ℕ) → i < length es → IsKept es → IsKept (remove es i)
-others_kept es i within kept =
-    record { distinct = distinct_after-remove address_total address_same es i within kept.distinct; by_end = taken es i kept.by_end within }
 
 -- a neighbour at an address that is there goes to its place
 pub place_there : (most : ℕ) (es : List (IpAddress × Neighbor)) (a : IpAddress) (d : IpAddress × Neighbor) (i : ℕ) →
-    IsKept es → i ≡ index_of address_cmp a es → i < length es → HasPlace most es es a i
-place_there most es a d i kept at within =
+    AreKeysDistinct address_cmp es → i ≡ index_of address_cmp a es → i < length es → HasPlace most es es a i
+place_there most es a d i distinct at within =
     let here : index_of address_cmp a es < length es = rw at at within in
     let key : (get_or es i d).0 ≡ a = rw at (key-there address_total address_same a es d here) in
     let is : find address_cmp a es ≡ Some (get_or es (index_of address_cmp a es) d).1 = find-there address_cmp a es d here in
     let rest : from_entries (remove es i) ≡ map.remove (from_entries es) a =
-    from_entries-remove address_total address_same es i d within kept.distinct ∙ ap (map.remove (from_entries es)) key in
+    from_entries-remove address_total address_same es i d within distinct ∙ ap (map.remove (from_entries es)) key in
     let over : (n : Neighbor) → map.insert (from_entries (remove es i)) a n ≡ map.insert (from_entries es) a n = λ n. ap (λ m. map.insert m a n) rest
     ∙ put_over address_total address_same (from_entries es) a n in
     record {
       within = within;
-      kept = others_kept es i within kept;
+      distinct = distinct_after-remove address_total address_same es i within distinct;
       absent = ap (λ m. map.get m a) rest ∙ get-remove address_total (from_entries es) a a
           ∙ ap (λ b. cond b None (map.get {R = address_cmp} (from_entries es) a)) (tied_itself address_total address_same a);
       puts = λ n. record {
@@ -104,94 +100,107 @@ place_there most es a d i kept at within =
       };
     }
 
--- one at a new address goes to the front of a full table
-pub place_front : (most : ℕ) (es : List (IpAddress × Neighbor)) (a : IpAddress) (d : IpAddress × Neighbor) (i : ℕ) →
-    IsKept es → i ≡ index_of address_cmp a es → length es ≤ i → 0 < most → most ≤ length es → HasPlace most es es a 0
-place_front most es a d i kept at past any full =
+-- one at a new address goes to that of the earliest entry of a full table
+pub place_earliest : (most : ℕ) (es : List (IpAddress × Neighbor)) (a : IpAddress) (d : IpAddress × Neighbor) (i p : ℕ) →
+    AreKeysDistinct address_cmp es → i ≡ index_of address_cmp a es → length es ≤ i → most ≤ length es → IsEarliest es p → HasPlace most es es a p
+place_earliest most es a d i p distinct at past full earliest =
     let none = none_found es a i at past in
-    let some : 0 < length es = omega arith in
-    let len = len-from_entries address_total address_same es kept.distinct in
+    let len = len-from_entries address_total address_same es distinct in
     record {
-      within = some;
-      kept = others_kept es 0 some kept;
-      absent = known_at (remove es 0) a ∙ absent_after-remove address_total address_same a es 0 d some kept.distinct none;
+      within = earliest.within;
+      distinct = distinct_after-remove address_total address_same es p earliest.within distinct;
+      absent = known_at (remove es p) a ∙ absent_after-remove address_total address_same a es p d earliest.within distinct none;
       puts = λ n. record {
         there = λ t. let u = rw (known_at es a, none) at t in cc;
         room = λ h. absurd (omega (arith, len));
         full = λ _ _. (
-          (get_or es 0 d).0,
-          least_first es d some kept,
-          ap (λ m. map.insert m a n) (from_entries-remove address_total address_same es 0 d some kept.distinct),
+          (get_or es p d).0,
+          least_at es p d distinct earliest,
+          ap (λ m. map.insert m a n) (from_entries-remove address_total address_same es p d earliest.within distinct),
         );
       };
     }
 
 -- or behind all others, where there is room
 pub place_after : (most : ℕ) (es : List (IpAddress × Neighbor)) (a : IpAddress) (e : IpAddress × Neighbor) (i : ℕ) →
-    IsKept es → i ≡ index_of address_cmp a es → length es ≤ i → length es < most → HasPlace most es (es ++ e ∷ []) a i
-place_after most es a e i kept at past room =
+    AreKeysDistinct address_cmp es → i ≡ index_of address_cmp a es → length es ≤ i → length es < most → HasPlace most es (es ++ e ∷ []) a i
+place_after most es a e i distinct at past room =
     let none = none_found es a i at past in
     let le = index_of-le address_cmp a es in
     let end : i ≡ length es = omega arith in
     let rest : remove (es ++ e ∷ []) i ≡ es = ap (remove (es ++ e ∷ [])) end ∙ remove_last es e in
-    let len = len-from_entries address_total address_same es kept.distinct in
+    let len = len-from_entries address_total address_same es distinct in
     record {
       within = omega (arith, length_push es e);
-      kept = rw rest kept;
+      distinct = rw rest distinct;
       absent = rw rest (known_at es a ∙ none);
       puts = λ n. rw rest (record { there = λ _. refl; room = λ _. refl; full = λ _ many. absurd (omega (arith, len)) });
     }
 
--- a neighbour that has settled at its place was put
-pub put_settled : (most : ℕ) (old mid new : List (IpAddress × Neighbor)) (a : IpAddress) (n : Neighbor) (i : ℕ) →
-    HasPlace most old mid a i → IsSettled (remove mid i) (a, n) new → PutsIn most old new a n
-put_settled most old mid new a n i h s =
+-- a neighbour that is written at its place was put
+pub put_over_place : (most : ℕ) (old mid : List (IpAddress × Neighbor)) (a : IpAddress) (n : Neighbor) (i : ℕ) →
+    HasPlace most old mid a i → PutsIn most old (slice_set mid i (a, n)) a n
+put_over_place most old mid a n i h =
     let none : find address_cmp a (remove mid i) ≡ None = sym (known_at (remove mid i) a) ∙ h.absent in
+    let is : slice_set mid i (a, n) ≡ insert (remove mid i) i (a, n) = set_is_insert mid i (a, n) h.within in
     record {
-      kept = record {
-        distinct = rw s.is (distinct_after-put address_total address_same a n (remove mid i) s.place none h.kept.distinct);
-        by_end = s.by_end;
-      };
-      puts = rw (s.is, from_entries-put address_total address_same a n (remove mid i) s.place none) (h.puts n);
+      distinct = rw is (distinct_after-put address_total address_same a n (remove mid i) i none h.distinct);
+      puts = rw (is, from_entries-put address_total address_same a n (remove mid i) i none) (h.puts n);
     }
 
 -- what renewing leaves in a list of entries
 pub record RenewsIn (es fs : List (IpAddress × Neighbor)) (a : IpAddress) (h : HardwareAddress) (end : ℤ) : Type 0 where
-  pub kept : IsKept fs
+  pub distinct : AreKeysDistinct address_cmp fs
   pub renews : from_entries fs ≡ renewed_from (find address_cmp a es) (from_entries es) a h end
 
--- the entry at an address's place is the one that is found
-found_is : (es : List (IpAddress × Neighbor)) (a : IpAddress) (e : IpAddress × Neighbor) (i : ℕ) →
-    i ≡ index_of address_cmp a es → i < length es → e ≡ get_or es i e → find address_cmp a es ≡ Some e.1
-found_is es a e i at within is = find-there address_cmp a es e (rw at at within) ∙ ap (λ (d : IpAddress × Neighbor). Some d.1) (sym (rw at at is))
+-- the entry at an address's index is the one that is found
+pub found_is : (es : List (IpAddress × Neighbor)) (a : IpAddress) (d : IpAddress × Neighbor) (i : ℕ) →
+    i ≡ index_of address_cmp a es → i < length es → find address_cmp a es ≡ Some (get_or es i d).1
+found_is es a d i at within = rw at (find-there address_cmp a es d (rw at at within))
 
--- the entry at an address's place has it, and its own hardware address
-pub has_address : (es : List (IpAddress × Neighbor)) (a : IpAddress) (e : IpAddress × Neighbor) (i : ℕ) →
-    i ≡ index_of address_cmp a es → i < length es → e ≡ get_or es i e
-    → IfSome (slice_get es i) (λ x. (x.0 ≡ a) × (x.1.hardware_addr ≡ e.1.hardware_addr))
-has_address es a e i at within is =
-    let key : (get_or es i e).0 ≡ a = rw at (key-there address_total address_same a es e (rw at at within)) in
-    element_of (λ x. (x.0 ≡ a) × (x.1.hardware_addr ≡ e.1.hardware_addr)) es i e within
-    (key, ap (λ (x : IpAddress × Neighbor). x.1.hardware_addr) (sym is))
+-- an address is found as among the entries from its own on
+pub found_from : (es : List (IpAddress × Neighbor)) (a : IpAddress) (i : ℕ) →
+    i ≡ index_of address_cmp a es → find address_cmp a (take (length es - i) (drop i es)) ≡ find address_cmp a es
+found_from es a i at =
+    ap (λ n. find address_cmp a (take n (drop i es))) (sym (length-drop i es)) ∙ ap (find address_cmp a) (take-length (drop i es))
+    ∙ ap (λ k. find address_cmp a (drop k es)) at ∙ find-drop address_cmp a es
 
-pub renewed_there : (es fs : List (IpAddress × Neighbor)) (a : IpAddress) (h : HardwareAddress) (end : ℤ) (e : IpAddress × Neighbor) (i : ℕ) →
-    IsKept es → i ≡ index_of address_cmp a es → i < length es → e ≡ get_or es i e → is_same e.1.hardware_addr h ≡ true →
-    IsSettled (remove es i) (a, record e.1 { expires_at = end }) fs → RenewsIn es fs a h end
-renewed_there es fs a h end e i kept at within is same settled =
-    let n : Neighbor = record e.1 { expires_at = end } in
-    let f = found_is es a e i at within is in
-    let put = put_settled 0 es es fs a n i (place_there 0 es a e i kept at within) settled in
-    let there : IsTrue (map.contains_key (from_entries {R = address_cmp} es) a) = rw (known_at es a, f) refl in
-    record { kept = put.kept; renews = rw (f, same) (put.puts.there there) }
+-- an entry that has an address is at the address's index
+pub is_index : (es : List (IpAddress × Neighbor)) (a : IpAddress) (d : IpAddress × Neighbor) (i : ℕ) →
+    AreKeysDistinct address_cmp es → i < length es → eq_by_cmp address_cmp a (get_or es i d).0 ≡ true → i ≡ index_of address_cmp a es
+is_index es a d i distinct within same =
+    let key : a ≡ (get_or es i d).0 = tied address_total address_same a (get_or es i d).0 same in
+    sym (ap (λ k. index_of address_cmp k es) key ∙ index-at address_total address_same es i d within distinct)
 
-pub renewed_other : (es : List (IpAddress × Neighbor)) (a : IpAddress) (h : HardwareAddress) (end : ℤ) (e : IpAddress × Neighbor) (i : ℕ) →
-    i ≡ index_of address_cmp a es → i < length es → e ≡ get_or es i e → is_same e.1.hardware_addr h ≡ false →
-    from_entries es ≡ renewed_from (find address_cmp a es) (from_entries es) a h end
-renewed_other es a h end e i at within is other = rw (found_is es a e i at within is, other) refl
+-- renewing at an address's index renews the neighbour there
+pub renewed : (es : List (IpAddress × Neighbor)) (a : IpAddress) (h : HardwareAddress) (end : ℤ) (i : ℕ) →
+    AreKeysDistinct address_cmp es → i ≡ index_of address_cmp a es → RenewsIn es (renewed_at (slice_get es i) es i h end) a h end
+renewed es a h end i distinct at = by (slice_get es i) refl where
+  there : (e : IpAddress × Neighbor) → slice_get es i ≡ Some e → (b : Bool) → is_same e.1.hardware_addr h ≡ b →
+      RenewsIn es (if b then slice_set es i (e.0, record e.1 { expires_at = end }) else es) a h end
+  there e is true same =
+      let within = slice_get_within es i e is in
+      let read : get_or es i e ≡ e = get_or_from_slice_get es i e e is in
+      let n : Neighbor = record e.1 { expires_at = end } in
+      let found : find address_cmp a es ≡ Some e.1 = found_is es a e i at within ∙ ap (λ (x : IpAddress × Neighbor). Some x.1) read in
+      let key : e.0 ≡ a = ap (λ (x : IpAddress × Neighbor). x.0) (sym read)
+      ∙ rw at (key-there address_total address_same a es e (rw at at within)) in
+      let put = put_over_place 0 es es a n i (place_there 0 es a e i distinct at within) in
+      let known : IsTrue (map.contains_key (from_entries {R = address_cmp} es) a) = rw (known_at es a, found) refl in
+      rw key (record { distinct = put.distinct; renews = rw (found, same) (put.puts.there known) })
+  there e is false other =
+      let within = slice_get_within es i e is in
+      let read : get_or es i e ≡ e = get_or_from_slice_get es i e e is in
+      let found : find address_cmp a es ≡ Some e.1 = found_is es a e i at within ∙ ap (λ (x : IpAddress × Neighbor). Some x.1) read in
+      record { distinct = distinct; renews = rw (found, other) refl }
 
-pub renewed_none : (es : List (IpAddress × Neighbor)) (a : IpAddress) (h : HardwareAddress) (end : ℤ) (i : ℕ) →
-    i ≡ index_of address_cmp a es → length es ≤ i → from_entries es ≡ renewed_from (find address_cmp a es) (from_entries es) a h end
-renewed_none es a h end i at past = rw (none_found es a i at past) refl
+  by : (o : Option (IpAddress × Neighbor)) → slice_get es i ≡ o → RenewsIn es (renewed_at o es i h end) a h end
+  by None is =
+      elim (slice_get_cases es i).1 [
+        | inl some ↦ let bad : None ≡ Some some.0 = sym is ∙ some.2 in cc
+        | inr none ↦ record { distinct = distinct; renews = rw (none_found es a i at none.0) refl }
+      ]
+  by (Some e) is = there e is (is_same e.1.hardware_addr h) refl
 
 -- the entries of a map, each of a medium
 abbrev EachOf : Medium → FinMap address_cmp Neighbor → Type 0

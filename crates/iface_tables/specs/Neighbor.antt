@@ -1,8 +1,9 @@
 -- Neighbours (RFC 826, RFC 4861): a finite map from their addresses, and one silence for all discoveries.
-use Rattle.std.specs.Prelude.{◌≡◌, ℕ, ◌==◌, ◌<◌, ◌≤◌, ℤ, pos, ◌+ℤ◌, ◌≤ℤ◌, Bool, true, false, IsTrue}
-use Rattle.std.specs.Prelude.{List, length, slice_index_or, Option, Some, None, if◌then◌else◌, refl}
+use Rattle.std.specs.Prelude.{◌≡◌, ℕ, ◌+◌, ◌-◌, ◌==◌, ◌<◌, ◌≤◌, ℤ, pos, ◌+ℤ◌, ◌≤ℤ◌, Bool, true, false, IsTrue}
+use Rattle.std.specs.Prelude.{List, [], ◌∷◌, length, slice_get, slice_index_or, slice_set}
+use Rattle.std.specs.Prelude.{Option, Some, None, if◌then◌else◌, refl}
 use Rattle.std.specs.List.{insert, remove}
-use Rattle.std.specs.Ordering.{int_cmp, is_lt}
+use Rattle.std.specs.Ordering.{int_cmp, int_eq, is_lt}
 use Rattle.std.specs.FinMap as map
 use Rattle.std.specs.FinMap.{FinMap}
 use Rattle.std.specs.Coded.{Coded, code_by, coded×, coded_ℕ, coded_ℤ}
@@ -102,6 +103,13 @@ renewed_from None m a h end = m
 renewed_from (Some n) m a h end =
     if is_same n.hardware_addr h then map.insert m a (record n { expires_at = end }) else m
 
+-- the same of a list of entries, at an index
+abbrev pub renewed_at : Option (IpAddress × Neighbor) → List (IpAddress × Neighbor) → ℕ → HardwareAddress → ℤ →
+    List (IpAddress × Neighbor)
+renewed_at None es index h end = es
+renewed_at (Some e) es index h end =
+    if is_same e.1.hardware_addr h then slice_set es index (e.0, record e.1 { expires_at = end }) else es
+
 -- the neighbours after the entry at a gets this expiry, if it has the hardware address h
 abbrev pub after_renewal : Neighbors → IpAddress → HardwareAddress → ℤ → Neighbors
 after_renewal c a h end = record c { known = renewed_from (map.get c.known a) c.known a h end }
@@ -111,29 +119,57 @@ abbrev pub IsByEnd : List (IpAddress × Neighbor) → Type 0
 IsByEnd es = (i j : ℕ) (d : IpAddress × Neighbor) →
     i ≤ j → j < length es → (slice_index_or es i d).1.expires_at ≤ℤ (slice_index_or es j d).1.expires_at
 
--- the order of stored entries: no address twice, and by rising expiry
-pub record IsKept (es : List (IpAddress × Neighbor)) : Type 0 where
-  pub distinct : AreKeysDistinct address_cmp es
-  pub by_end : IsByEnd es
+-- found is the pair at an index of the neighbours by rising expiry, each once: those of equal expiry in any order
+pub record IsNthByEnd (known : FinMap address_cmp Neighbor) (index : ℕ) (found : Option (IpAddress × Neighbor)) : Type 0 where
+  pub all : List (IpAddress × Neighbor)
+  pub pairs : map.from_entries all ≡ known
+  pub once : AreKeysDistinct address_cmp all
+  pub order : IsByEnd all
+  pub is : found ≡ slice_get all index
 
--- the same of entries in a store, which has room for one at least
+-- how many of a list expire before t
+abbrev pub count_before : ℤ → List (IpAddress × Neighbor) → ℕ
+count_before t [] = 0
+count_before t (e ∷ es) = if is_before e.1.expires_at t then count_before t es + 1 else count_before t es
+
+-- the list by rising expiry, those of equal expiry in the order of the list
+abbrev pub sorted : List (IpAddress × Neighbor) → List (IpAddress × Neighbor)
+sorted [] = []
+sorted (e ∷ es) = insert (sorted es) (count_before e.1.expires_at es) e
+
+-- the expiry t of the entry at an index of the sorted list: at most so many expire before it, and more up to it
+pub record IsEndAt (es : List (IpAddress × Neighbor)) (index : ℕ) (t : ℤ) : Type 0 where
+  pub before : count_before t es ≤ index
+  pub until : index < count_before (t +ℤ pos 1) es
+
+-- of those that expire at t the one after n others
+abbrev pub expiring_at : ℤ → ℕ → List (IpAddress × Neighbor) → Option (IpAddress × Neighbor)
+expiring_at t n [] = None
+expiring_at t n (e ∷ es) =
+    if int_eq e.1.expires_at t then (if n == 0 then Some e else expiring_at t (n - 1) es) else expiring_at t n es
+
+-- none expires before t, and none after it
+abbrev pub AreFrom : ℤ → List (IpAddress × Neighbor) → Type 0
+AreFrom t es = (k : ℕ) (d : IpAddress × Neighbor) → k < length es → t ≤ℤ (slice_index_or es k d).1.expires_at
+
+abbrev pub AreUpTo : ℤ → List (IpAddress × Neighbor) → Type 0
+AreUpTo t es = (k : ℕ) (d : IpAddress × Neighbor) → k < length es → (slice_index_or es k d).1.expires_at ≤ℤ t
+
+-- the entry at an index is one of those with the earliest expiry
+pub record IsEarliest (es : List (IpAddress × Neighbor)) (index : ℕ) : Type 0 where
+  pub within : index < length es
+  pub least : (d : IpAddress × Neighbor) → AreFrom (slice_index_or es index d).1.expires_at es
+
+-- the entries of a cache: no address twice, and room for one at least
 pub record IsKeptIn (s : Stored (IpAddress × Neighbor)) : Type 0 where
-  pub kept : IsKept s.items
+  pub distinct : AreKeysDistinct address_cmp s.items
   pub some : 0 < s.room
-
--- an entry was inserted among others, and all are by rising expiry
-pub record IsSettled (others : List (IpAddress × Neighbor)) (entry : IpAddress × Neighbor)
-    (new : List (IpAddress × Neighbor)) : Type 0 where
-  pub place : ℕ
-  pub within : place ≤ length others
-  pub is : new ≡ insert others place entry
-  pub by_end : IsByEnd new
 
 -- the entry at an index of new may be overwritten by a neighbour at a: the others are those of old without a, or
 -- without one with the earliest expiry
 pub record HasPlace (most : ℕ) (old new : List (IpAddress × Neighbor)) (a : IpAddress) (place : ℕ) : Type 0 where
   pub within : place < length new
-  pub kept : IsKept (remove new place)
+  pub distinct : AreKeysDistinct address_cmp (remove new place)
   pub absent : map.get (map.from_entries {R = address_cmp} (remove new place)) a ≡ None
   pub puts : (n : Neighbor) → Puts most (map.from_entries old) (map.insert (map.from_entries (remove new place)) a n) a n
 

@@ -83,6 +83,12 @@ impl<T: Drop, const N: usize> Store<T, N> {
         }
     }
 
+    /// Whether the entries are in storage that was handed over.
+    #[inline(always)]
+    pub fn is_lent(&self) -> bool {
+        matches!(&self.place, Place::Lent(_))
+    }
+
     /// How many entries there are.
     #[inline(always)]
     pub fn len(&self) -> usize

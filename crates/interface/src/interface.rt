@@ -35,7 +35,7 @@ use iface_send::settings::{
 use iface_send::transmit::send_frame;
 use iface_send::{Context, settings};
 use iface_sockets::turns::socket_egress;
-use iface_tables::neighbor::{Cache, Neighbor};
+use iface_tables::neighbor::{Cache, Hints, Neighbor};
 use iface_tables::route::Routes;
 use ip_wire::emit::FrameBuffer;
 use ip_wire::{HardwareAddress, IpAddress, IpCidr, Ipv4Address, Ipv6Address};
@@ -378,10 +378,13 @@ impl Interface {
     /// Forgets all neighbours. From now on there is room for as many as the storage has capacity for, or for four in the
     /// interface itself if it has none. Entries in the storage are dropped; a silence of discovery stays. Without this
     /// call there is room for four. In a full table a new neighbour replaces the one with the earliest expiry.
-    pub fn set_neighbor_storage(&mut self, storage: Vec<(IpAddress, Neighbor)>)
+    ///
+    /// With hints a known neighbour is found at once, among however many. There should be capacity for as many as for
+    /// neighbours, 8 octets each; without any each lookup goes over all.
+    pub fn set_neighbor_storage(&mut self, storage: Vec<(IpAddress, Neighbor)>, hints: Vec<Hints>)
         ensures { Becomes self.old self.new (λ H. host.with_neighbor_room H (room_over (vec_capacity storage))) }
     {
-        set_neighbor_storage(&mut self.context, storage);
+        set_neighbor_storage(&mut self.context, storage, hints);
     }
 
     /// Mutable access to the routes.

@@ -21,7 +21,7 @@ pub use iface_packet::packet::icmp_reply_payload_len;
 pub use iface_packet::{IpPayload, Packet, PacketV4, PacketV6};
 pub use iface_send::Context;
 pub use iface_tables::neighbor;
-pub use iface_tables::neighbor::Neighbor;
+pub use iface_tables::neighbor::{Hints, Neighbor};
 pub use iface_tables::route::{Route, RouteTableFull, Routes};
 pub use iface_tables::route_trie::Steps;
 pub use interface::{Config, Interface};

@@ -237,6 +237,7 @@ fn interface_over(alloc: Global, device: &mut MemoryDevice) -> Result<Interface>
         addrs.push(IpCidr::from(Ipv6Cidr::new(OWN_V6, 64)));
         addrs
     })?;
-    interface.set_neighbor_storage(Vec::with_capacity(alloc, NEIGHBORS)?);
+    let neighbors = Vec::with_capacity(alloc, NEIGHBORS)?;
+    interface.set_neighbor_storage(neighbors, Vec::with_capacity(alloc, NEIGHBORS)?);
     Ok(interface)
 }
