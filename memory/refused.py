@@ -46,7 +46,7 @@ PROGRAMS = {
     "hostrun": Program(["hostrun/stdin", "exchanges/data/*.txt"], [], 3, rb"out of memory\n"),
     # Each error that may be there for want of memory has words of its own.
     "simulate": Program(
-        ["simulated/data/reassembly_under_reordering.txt", "simulated/data/router_goes.txt"],
+        ["simulate/data/reassembly_under_reordering.txt", "simulate/data/router_goes.txt"],
         ["chart"],
         1,
         rb"Error: (line \d+\n\nCaused by:\n( +0: [^\n]+\n)? +(1: )?)?([Oo]ut of memory|NoMemory|memory allocation failed)\n",

@@ -29,9 +29,3 @@ pub of_done : {T : Type 0} (done : T) (first : Option Refusal) →
     ((r : Refusal) → first ≡ Some r → IsErrOf (Ok done) r) → IsDueOrMemory (code_if first) 0
 of_done done None why = record { due_one = λ other. absurd (other refl); memory = λ none refuses. absurd (refuses refl) }
 of_done done (Some r) why = absurd (not_done (why r refl))
-
--- no reason holds, and memory was refused
-pub of_memory : {T : Type 0} (done : T) (first : Option Refusal) →
-    ((r : Refusal) → first ≡ Some r → IsErrOf (Ok done) r) → IsDueOrMemory (code_if first) 4
-of_memory done None why = record { due_one = λ other. absurd (other refl); memory = λ none refuses. refl }
-of_memory done (Some r) why = absurd (not_done (why r refl))

@@ -197,13 +197,10 @@ pub extern "C" fn iface_new_for(
         return BAD_ARGUMENT;
     };
     match Host::new(alloc, &settings) {
-        Ok(host) => match Box::new(alloc, host) {
-            Ok(boxed) => {
-                handle.put(boxed);
-                OK
-            }
-            Err(_) => NO_MEMORY,
-        },
+        Ok(host) => {
+            handle.put(host);
+            OK
+        }
         Err(refusal) => code(refusal),
     }
 }

@@ -87,8 +87,8 @@ impl Host {
     /// octets, or its longest frame more than 1,514; `BadTimeout` if fragments are to wait no time, or longer than a day;
     /// `BadMoment` if it would begin below 0 or above 2^62; `NoMemory` if memory for its interface, its neighbours or the
     /// places of its sockets is refused.
-    pub fn new(alloc: Global, settings: &Settings) -> Result<Host, Refusal>
-        ensures made { IfOk result (λ host. IsFirst settings.now host) }
+    pub fn new(alloc: Global, settings: &Settings) -> Result<Box<Host>, Refusal>
+        ensures made { IfOk result (λ host. IsFirst settings.now host.value) }
         ensures why { (e : Refusal) → settings_refusal settings.now ≡ Some e → IsErrOf result e }
         ensures memory { settings_refusal settings.now ≡ None → IfErr result (λ e. e ≡ Refusal.NoMemory) }
     {
@@ -116,18 +116,25 @@ impl Host {
         let places = free_storages(alloc, settings.sockets)?;
         let names = Names::new(alloc, settings.sockets)?;
         let schedule = Schedule::new(alloc, settings.sockets, settings.patience)?;
-        Ok(Host {
+        let host = Box::new(
             alloc,
-            ip_mtu: capabilities.ip_mtu(),
-            interface,
-            sockets: SocketSet::fixed(places),
-            names,
-            outbox,
-            schedule,
-            changed: false,
-            frames: FrameCounts::NONE,
-            watch: watch_for(settings),
-        })
+            Host {
+                alloc,
+                ip_mtu: capabilities.ip_mtu(),
+                interface,
+                sockets: SocketSet::fixed(places),
+                names,
+                outbox,
+                schedule,
+                changed: false,
+                frames: FrameCounts::NONE,
+                watch: watch_for(settings),
+            },
+        );
+        match host {
+            Ok(host) => Ok(host),
+            Err(_) => Err(Refusal::NoMemory),
+        }
     }
 }
 
@@ -225,7 +232,8 @@ fn make_room(interface: &mut Interface, alloc: Global, neighbors: usize) -> Resu
         (Becomes interface.old interface.new (λ H. machine.with_neighbor_room H (room_over neighbors))) }
 {
     let storage = Vec::with_capacity(alloc, neighbors)?;
-    interface.set_neighbor_storage(storage);
+    let hints = Vec::with_capacity(alloc, neighbors)?;
+    interface.set_neighbor_storage(storage, hints);
     Ok(())
 }
 

@@ -1,6 +1,6 @@
 -- What keys tell.
 use Rattle.std.proofs.Common.{◌≡◌, ◌⊎◌, ℕ, ◌<◌, ◌≤◌, Bool, true, false, List, [], ◌∷◌, length, Option, Some, None, inl, inr, zero, suc, refl, ap, ◌∙◌}
-use Rattle.std.specs.Prelude.{◌≢◌, ◌==◌, ◌||◌, IfSome, slice_set}
+use Rattle.std.specs.Prelude.{◌≢◌, ◌==◌, ◌||◌, IfSome, replicate, slice_set}
 use Rattle.std.proofs.lemmas.Bool.{cases_lt, eqb-false}
 use Rattle.std.proofs.lemmas.List.{get_or_past}
 use Rattle.sockets.specs.Kinds.{own_port}
@@ -20,12 +20,11 @@ known_there [] i key known = absurd (known refl)
 known_there (k ∷ keys) zero key known = refl
 known_there (k ∷ keys) (suc i) key known = known_there keys i key known
 
--- nothing is known of a place within, and none has a key past the end
-pub all_unknown : (keys : List ℕ) (n i : ℕ) → ((j : ℕ) → j < n → key_at keys j ≡ 0) → (n ≤ i → length keys ≤ i) → key_at keys i ≡ 0
-all_unknown keys n i unknown ends = by (cases_lt i n) where
-  by : ((i < n) ⊎ (n ≤ i)) → key_at keys i ≡ 0
-  by (inl within) = unknown i within
-  by (inr past) = get_or_past keys i 0 (ends past)
+-- nothing is known by keys that are 0
+pub all_unknown : (n i : ℕ) → key_at (replicate n 0) i ≡ 0
+all_unknown zero i = refl
+all_unknown (suc n) zero = refl
+all_unknown (suc n) (suc i) = all_unknown n i
 
 -- no candidate has a key, another one
 neither : (this key : ℕ) → (this == 0) || (this == key) ≡ false → (this ≢ 0) × (this ≢ key)

@@ -37,15 +37,14 @@ impl Model for Keys {
 }
 
 impl Keys {
-    /// The first `places` entries are unknown; there are no sockets after them.
-    pub(crate) fn of(places: usize) -> Keys
-        ensures { (i : ℕ) → i < places → key_at result i ≡ 0 }
+    /// Nothing is known of any index.
+    #[inline(always)]
+    pub(crate) const fn unknown() -> Keys
+        ensures { (i : ℕ) → key_at result i ≡ 0 }
     {
-        let mut keys = [NOBODY; KEYED_PLACES];
-        for index in 0..places.min(KEYED_PLACES) {
-            keys[index] = UNKNOWN;
+        Keys {
+            keys: [UNKNOWN; KEYED_PLACES],
         }
-        Keys { keys }
     }
 
     /// Sets the key of an index, if it is one that has a key.

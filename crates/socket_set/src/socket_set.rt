@@ -304,14 +304,12 @@ impl<L: Drop> SocketSetOf<L> {
     pub fn new(sockets: Vec<SocketStorageOf<L>>) -> SocketSetOf<L>
         ensures { result ≡ over sockets.items true (vec_capacity sockets) }
     {
-        let keys = Keys::of(sockets.len());
-        let portless = has_portless(sockets.as_slice());
         SocketSetOf {
-            sockets,
             grows: true,
             busy: BusyMarks::all(),
-            keys,
-            portless,
+            keys: Keys::unknown(),
+            portless: has_portless(sockets.as_slice()),
+            sockets,
         }
     }
 
@@ -319,14 +317,12 @@ impl<L: Drop> SocketSetOf<L> {
     pub fn fixed(sockets: Vec<SocketStorageOf<L>>) -> SocketSetOf<L>
         ensures { result ≡ over sockets.items false (vec_capacity sockets) }
     {
-        let keys = Keys::of(sockets.len());
-        let portless = has_portless(sockets.as_slice());
         SocketSetOf {
-            sockets,
             grows: false,
             busy: BusyMarks::all(),
-            keys,
-            portless,
+            keys: Keys::unknown(),
+            portless: has_portless(sockets.as_slice()),
+            sockets,
         }
     }
 }

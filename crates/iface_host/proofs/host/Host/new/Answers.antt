@@ -10,8 +10,8 @@ in_room : {L : Type 0} {set : Sockets L} {made places : List (Storage L)} {room 
     set ≡ over made false room → made ≡ places → set ≡ over places false set.room
 in_room {room = room} is same = rw is (ap (λ xs. over xs false room) same)
 
-pub returns-clause-made : goal.returns-clause-made
-returns-clause-made c = record {
+pub returns-in-Ok-host-clause-made : goal.returns-in-Ok-host-clause-made
+returns-in-Ok-host-clause-made c = rw c.in-Ok-host.ensures.ok (record {
   stands = (rw c.deref_mut-2.ensures.value at c.in-Ok-make_room.ensures) c.fixed.result _
       ((rw (c.deref_mut.ensures.value, c.in-Ok-new.ensures.ok) at c.in-Ok-let_fragments_wait.ensures.waits) c.fixed.result _
       (stood c.args.settings.now c.in-Ok.interface c.new-outbox.result c.in_ok-start.start
@@ -27,4 +27,4 @@ returns-clause-made c = record {
   changed = refl;
   frames = refl;
   watch = c.watch_for.ensures;
-}
+})
