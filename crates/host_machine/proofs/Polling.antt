@@ -7,3 +7,4 @@ pub mod StepDeterminism
 pub mod EarliestInstant
 pub mod RunConcatenation
 pub mod SlaacPolls
+pub mod AdvertisedAddresses

@@ -11,6 +11,7 @@ pub mod FrameReplies
 pub mod DatagramDelivery
 pub mod RebuiltDelivery
 pub mod RebuiltPings
+pub mod UnknownProtocols
 pub mod DatagramDeliveryV6
 pub mod EchoReplies
 pub mod ManyDelivery
@@ -31,3 +32,5 @@ pub mod ReplyLaws
 pub mod ReplyOctets
 pub mod RequestReading
 pub mod SettingChanges
+pub mod HeardQueries
+pub mod Advertisements

@@ -21,3 +21,4 @@ pub mod ReportTimes
 pub mod FirstPackets
 pub mod ManyPackets
 pub mod FrameLengths
+pub mod WellFormed

@@ -4,6 +4,7 @@ pub mod Order
 pub mod Quiet
 pub mod Real
 pub mod Lengths
+pub mod WellFormed
 pub mod Requests
 pub mod Ran
 pub mod Unfolded
@@ -16,8 +17,11 @@ pub mod Determined
 pub mod Service
 pub mod Received
 pub mod Resets
+pub mod Protocols
 pub mod Many
 pub mod DueReports
+pub mod HeardQueries
+pub mod Autoconfiguration
 pub mod Reassembled
 pub mod ReplyOctets
 pub mod RequestOctets

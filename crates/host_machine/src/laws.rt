@@ -19,7 +19,11 @@ ghost use Rattle.host_machine.specs.Laws.Refusals.{RefusalsLoseNothing};
 ghost use Rattle.host_machine.specs.Laws.Determined.{DispatchIsDetermined, EgressIsDetermined};
 ghost use Rattle.host_machine.specs.Laws.Determined.{IngressIsDetermined, PollIsDetermined};
 ghost use Rattle.host_machine.specs.Laws.Determined.{ReceptionIsDetermined, RunIsDetermined, StepIsDetermined};
-ghost use Rattle.host_machine.specs.Laws.Reassembled.{RebuiltDatagramsAreQueued, RebuiltPingsAreAnswered};
+ghost use Rattle.host_machine.specs.Laws.Autoconfiguration.{AdvertisedAddressesStand, AdvertisementsAreLearnt};
+ghost use Rattle.host_machine.specs.Laws.HeardQueries.{QueriesAreHeard};
+ghost use Rattle.host_machine.specs.Laws.Protocols.{UnknownOptionsAreAnswered, UnknownProtocolsAreAnswered};
+ghost use Rattle.host_machine.specs.Laws.Reassembled.{LongPingsAreAnswered, RebuiltDatagramsAreQueued};
+ghost use Rattle.host_machine.specs.Laws.Reassembled.{RebuiltPingsAreAnswered};
 ghost use Rattle.host_machine.specs.Laws.RequestOctets.{PingFramesAreRead, SolicitationFramesAreRead};
 ghost use Rattle.host_machine.specs.Laws.ReplyOctets.{ArpRequestsAreAnsweredByOctets, PingsAreAnsweredByOctets};
 ghost use Rattle.host_machine.specs.Laws.Received.{EchoRepliesV6AreQueued, RawPacketsAreQueued, SegmentsAreQueued};
@@ -401,6 +405,12 @@ pub fn rebuilt_pings_are_answered()
     ensures { RebuiltPingsAreAnswered }
 {}
 
+/// If that reply is longer than the device's packets, and has at most 4,096 octets, the call sends its first fragment, and
+/// the others wait (RFC 791 3.2).
+pub fn long_pings_are_answered()
+    ensures { LongPingsAreAnswered }
+{}
+
 /// An echo reply is appended, in the call that receives it, to the queue of each ICMP socket with its identifier that
 /// has room. Nothing is sent.
 pub fn echo_replies_are_queued()
@@ -440,6 +450,37 @@ pub fn closed_ports_v6_are_answered()
 /// its sender, with the numbers of RFC 9293 3.10.7.1. It is no reset itself, and no raw socket takes the packet.
 pub fn closed_tcp_ports_are_reset()
     ensures { ClosedTcpPortsAreReset }
+{}
+
+/// A query of IGMP or MLD that asks for groups of the host makes an answer pending, at a moment within the time that the
+/// query allows, and nothing is sent. It asks all hosts with a group, or the members of one (RFC 2236 3, RFC 3810 6.2).
+pub fn queries_are_heard()
+    ensures { QueriesAreHeard }
+{}
+
+/// A host that configures itself by routers knows the prefix and the router of an advertisement until their lifetimes end,
+/// in the call that receives it, with room (RFC 4862 5.5.3, RFC 4861 6.3.4). Nothing is sent. What it learnt has changed,
+/// unless it knew that before.
+pub fn advertisements_are_learnt()
+    ensures { AdvertisementsAreLearnt }
+{}
+
+/// After maintenance with news, a host has an address of each prefix that is valid, and a route by each router that is, as
+/// far as there is room. An address that it has stays until a prefix that makes it expires (RFC 4862 5.5.3, 5.5.4).
+pub fn advertised_addresses_stand()
+    ensures { AdvertisedAddressesStand }
+{}
+
+/// A packet of a protocol that the host doesn't know, over either family, brings an error that says so and no other frame,
+/// if no raw socket takes the packet: protocol unreachable (RFC 1122 3.2.2.1), or a parameter problem (RFC 8200 4).
+pub fn unknown_protocols_are_answered()
+    ensures { UnknownProtocolsAreAnswered }
+{}
+
+/// A packet of IPv6 with a hop-by-hop option that the host doesn't know, and that asks to be told of, brings a parameter
+/// problem and no other frame (RFC 8200 4.2).
+pub fn unknown_options_are_answered()
+    ensures { UnknownOptionsAreAnswered }
 {}
 
 /// A datagram to all hosts of a network, to the group of all hosts or to a group that the host joined, of either family, is

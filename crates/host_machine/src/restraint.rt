@@ -11,11 +11,13 @@ ghost use Rattle.host_machine.specs.Laws.Restraint.NextHop.{GroupsHaveTheirAddre
 ghost use Rattle.host_machine.specs.Laws.Restraint.Queries.{JoinsAreToldOnce, ReportsAreAsked, ReportsWait};
 ghost use Rattle.host_machine.specs.Laws.Restraint.Rebuilt.{WrongRebuiltPayloadsAreDropped};
 ghost use Rattle.host_machine.specs.Laws.Restraint.Replies.{AdvertisementsTellItself, ArpRepliesTellItself};
-ghost use Rattle.host_machine.specs.Laws.Restraint.Replies.{ErrorsHaveCause, ErrorsV6HaveCause, ResetsHaveCause};
+ghost use Rattle.host_machine.specs.Laws.Restraint.Replies.{EchoesHaveCause, EchoesV6HaveCause, ErrorsHaveCause};
+ghost use Rattle.host_machine.specs.Laws.Restraint.Replies.{ErrorsV6HaveCause, RepliesAreOfKinds, ResetsHaveCause};
 ghost use Rattle.host_machine.specs.Laws.Restraint.Settings.{FramesKeepSettings, NeighborRoomStays, OtherStepsKeepSettings};
 ghost use Rattle.host_machine.specs.Laws.Restraint.Settings.{SendingKeepsSettings};
 ghost use Rattle.host_machine.specs.Laws.Restraint.Sources.{SourcesAreOwn};
 ghost use Rattle.host_machine.specs.Laws.Restraint.Words.{WordsAreLists};
+ghost use Rattle.host_machine.specs.Laws.WellFormed.{PacketsAreWellFormed};
 
 /// An IPv4 packet to an address in no list of the host's sends nothing: not assigned, no group of the host, no
 /// broadcast address of an own network, not routed here by AnyIP. It changes nothing but slots for its fragments, and
@@ -105,6 +107,23 @@ pub fn advertisements_tell_itself()
     ensures { AdvertisementsTellItself }
 {}
 
+/// A packet in reply to a frame has an echo reply or an error of ICMP, the same or an advertisement of ICMPv6, or a
+/// segment of TCP. So no frame is answered by a report of a group, a datagram, a request or a raw packet.
+pub fn replies_are_of_kinds()
+    ensures { RepliesAreOfKinds }
+{}
+
+/// An echo reply to a frame goes to the sender of an echo request that the frame brought, and has its identifier, its
+/// sequence number and its data (RFC 1122 3.2.2.6).
+pub fn echoes_have_cause()
+    ensures { EchoesHaveCause }
+{}
+
+/// The same over IPv6 (RFC 4443 4.2).
+pub fn echoes_v6_have_cause()
+    ensures { EchoesV6HaveCause }
+{}
+
 /// A message of ICMP in reply to a frame is an echo reply, or an error that quotes the packet which brought it. That
 /// was no message of ICMP, its source and its destination are addresses of one host, and no raw socket took it (RFC
 /// 1122 3.2.2).
@@ -124,6 +143,13 @@ pub fn errors_v6_have_cause()
 /// between specified addresses. No raw socket took the packet, unless an aborted TCP socket answers.
 pub fn resets_have_cause()
     ensures { ResetsHaveCause }
+{}
+
+/// A packet whose values fit their fields is sent as octets in which who verifies every checksum reads the same: the
+/// header, whole, with the length of the payload, and the payload with its checksum, if the host computes all of them.
+/// Its segments have a window within the device's bursts; all else is as its socket, or the host, has it.
+pub fn packets_are_well_formed()
+    ensures { PacketsAreWellFormed }
 {}
 
 /// A packet to one host, on Ethernet, goes to its next hop by the lists: itself on an own network, otherwise the

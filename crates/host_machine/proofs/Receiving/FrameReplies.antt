@@ -3,7 +3,7 @@ use Rattle.std.proofs.Common.{◌≡◌, ℕ, ◌+◌, ◌<◌, ◌≤◌, Bool,
 use Rattle.std.proofs.Common.{sym, ◌∙◌, ap, subst, Option, Some, None, arith, length, drop}
 use Rattle.std.proofs.lemmas.Bool.Decides.{nat_tests}
 use Rattle.std.proofs.lemmas.Int.{ints}
-use Rattle.std.specs.Prelude.{ℤ, pos, ◌+ℤ◌, ◌<ℤ◌, not, ◌||◌, ◌&&◌, cond, is_some, nat_lt, IsTrue, Ok, if◌then◌else◌}
+use Rattle.std.specs.Prelude.{ℤ, pos, ◌+ℤ◌, ◌<ℤ◌, not, ◌||◌, ◌&&◌, cond, is_some, nat_le, nat_lt, IsTrue, Ok, if◌then◌else◌}
 use Rattle.std.specs.Cmp.{int_cmp_is}
 use Rattle.std.specs.declared.cmp.Ordering.TheVariants.{Less}
 use Rattle.std.specs.FinMap as map
@@ -50,9 +50,10 @@ use Rattle.host_machine.specs.State.Note.{Note}
 use Rattle.host_machine.specs.State.Host.{Host, at, without_expired, in_same_network, with_neighbors}
 use Rattle.host_machine.specs.State.Addresses.{is_broadcast_v4, is_for_host, is_unicast_v4, may_be_source}
 use Rattle.host_machine.specs.Receiving.Reply.{Reply, Arp, Ip}
-use Rattle.host_machine.specs.Sending.Packet.{Packet, Icmpv4, total_len}
+use Rattle.host_machine.specs.Sending.Packet.{Packet, PacketV4, Icmpv4, total_len}
 use Rattle.host_machine.specs.Sending.Packet as packet
-use Rattle.host_machine.specs.Sending.Frame.{ip_frame, sends}
+use Rattle.fragmentation.specs.Cuts.{Piece, pieces_of}
+use Rattle.host_machine.specs.Sending.Frame.{ip_frame, piece_frame, sends}
 use Rattle.host_machine.specs.Receiving.Arp.{ProcessesArp, LearnsSender, answer_by, is_for_us, reply_to}
 use Rattle.host_machine.specs.Receiving.Arp as arp
 use Rattle.host_machine.specs.Receiving.Raw as raw
@@ -66,7 +67,7 @@ use Rattle.host_machine.specs.Receiving.Ethernet as ethernet
 use Rattle.host_machine.specs.Receiving.Ipv6.{ProcessesIpv6}
 use Rattle.ipv6_wire.specs.Ipv6Packet.{IsIpv6}
 use Rattle.host_machine.specs.Sending.Dispatch.{Outcome, IsNextHop, OnLink, ByRouter, Emits, DispatchesByHop, DispatchesEthernet, SendsOver}
-use Rattle.host_machine.specs.Sending.Dispatch.{Dispatches, destination_of, group_address_v4, with_next_id, multicast_hardware_addr}
+use Rattle.host_machine.specs.Sending.Dispatch.{Dispatches, datagram_of, destination_of, group_address_v4, with_next_id, multicast_hardware_addr}
 use Rattle.host_machine.specs.Sending.Dispatch as dispatch
 use Rattle.host_machine.specs.Receiving.Response.{Responds}
 use Rattle.host_machine.specs.Polling.Ingress.{Ingress}
@@ -380,42 +381,67 @@ emits_whole (dispatch.Whole fits formed o f n e) short = record { frames_are = f
 emits_whole (dispatch.InPieces q first rest is long may pieces fits formed o f n e) short = absurd (omega (arith, short, long))
 emits_whole (dispatch.TooLong long may o u) short = absurd (omega (arith, short, long))
 
-by_hop_whole : {id : ℕ} {own : EthernetAddress} {p : Packet} {hop : IpAddress} {outcome : Outcome} {H new : Host}
+-- a fragment of a packet that is too long goes to a known hop, and the others wait
+pub record GoesCut (p : PacketV4) (h : HardwareAddress) (H : Host) (frames : List (List ℕ)) (new : Host) : Type 0 where
+  pub first : Piece
+  pub rest : List Piece
+  pub pieces_are : pieces_of (datagram_of H h H.ipv4_id p) ≡ first ∷ rest
+  pub frames_are : frames ≡ piece_frame H first ∷ []
+  pub others_wait : new.left ≡ rest
+
+emits_cut : {p : PacketV4} {h : HardwareAddress} {outcome : Outcome} {H new : Host} {frames : List (List ℕ)} {notes : List Note} →
+    Emits H.ipv4_id (packet.Ipv4 p) h outcome (with_next_id H) frames notes new → ip_mtu_of H.capabilities < total_len (packet.Ipv4 p) →
+    total_len (packet.Ipv4 p) ≤ 4096 → GoesCut p h H frames new
+emits_cut (dispatch.Whole fits formed o f n e) long short = absurd (omega (arith, fits, long))
+emits_cut {p} {h} {H = H} (dispatch.InPieces q first rest is longer may pieces fits formed o f n e) long short =
+    let same : q ≡ p = let both : packet.Ipv4 p ≡ packet.Ipv4 q = is in cc in
+    record {
+      first = first;
+      rest = rest;
+      pieces_are = ap (λ x. pieces_of (datagram_of H h H.ipv4_id x)) (sym same) ∙ pieces;
+      frames_are = f;
+      others_wait = ap (λ (K : Host). K.left) e;
+    }
+emits_cut {p} (dispatch.TooLong longer may o u) long short =
+    let fits : nat_le (total_len (packet.Ipv4 p)) 4096 ≡ true = grind (arith, nat_tests) in
+    let bad : false ≡ true = sym may ∙ fits in absurd cc
+
+-- a dispatch to a known hop comes to the point at which the packet is sent
+by_hop_emits : {id : ℕ} {own : EthernetAddress} {p : Packet} {hop : IpAddress} {outcome : Outcome} (H : Host) {new : Host}
     {frames : List (List ℕ)} {notes : List Note} (h : HardwareAddress) →
     DispatchesByHop id own p hop outcome (with_next_id H) frames notes new → answer_of H.neighbors hop H.moment ≡ Found h →
-    total_len p ≤ ip_mtu_of H.capabilities → GoesWhole p h outcome H frames new
-by_hop_whole {id} {own} {p} {hop} {outcome} {H} {new} {frames} {notes} h (dispatch.Known h' k e) known short =
+    Emits id p h outcome (with_next_id H) frames notes new
+by_hop_emits {id} {own} {p} {hop} {outcome} H {new} {frames} {notes} h (dispatch.Known h' k e) known =
     let found : Found h' ≡ Found h = sym k ∙ known in
     let same : h' ≡ h = cc in
-    emits_whole (subst (λ x. Emits id p x outcome (with_next_id H) frames notes new) same e) short
-by_hop_whole h (dispatch.Silent s o u) known short = absurd cc
-by_hop_whole h (dispatch.Unknown u d) known short = absurd cc
+    subst (λ x. Emits id p x outcome (with_next_id H) frames notes new) same e
+by_hop_emits H h (dispatch.Silent s o u) known = absurd cc
+by_hop_emits H h (dispatch.Unknown u d) known = absurd cc
 
 -- taking an identification changes no way
 same_hop : {H : Host} {a : IpAddress} {hop : Option IpAddress} → IsNextHop H a hop → IsNextHop (with_next_id H) a hop
 same_hop (OnLink i e) = OnLink i e
 same_hop (ByRouter router i is e) = ByRouter router i is e
 
-ethernet_whole : {id : ℕ} {own : EthernetAddress} {p : Packet} {outcome : Outcome} {H new : Host} {frames : List (List ℕ)}
+ethernet_emits : {id : ℕ} {own : EthernetAddress} {p : Packet} {outcome : Outcome} (H : Host) {new : Host} {frames : List (List ℕ)}
     {notes : List Note} (h : HardwareAddress) →
     DispatchesEthernet id own p outcome (with_next_id H) frames notes new → multicast_hardware_addr H.ip_addrs (destination_of p) ≡ None →
-    IsReached H (destination_of p) h → total_len p ≤ ip_mtu_of H.capabilities →
-    GoesWhole p h outcome H frames new
-ethernet_whole h (dispatch.ToMulticast h' m e) one r short = absurd cc
-ethernet_whole {H = H} h (dispatch.NoHop m n o u) one r short = let none : None ≡ Some r.hop = hop_is_one n (same_hop r.next) in absurd cc
-ethernet_whole {id} {own} {p} {outcome} {H} {new} {frames} {notes} h (dispatch.ByHop hop m n s) one r short =
+    IsReached H (destination_of p) h → Emits id p h outcome (with_next_id H) frames notes new
+ethernet_emits H h (dispatch.ToMulticast h' m e) one r = absurd cc
+ethernet_emits H h (dispatch.NoHop m n o u) one r = let none : None ≡ Some r.hop = hop_is_one n (same_hop r.next) in absurd cc
+ethernet_emits {id} {own} {p} {outcome} H {new} {frames} {notes} h (dispatch.ByHop hop m n s) one r =
     let some : Some hop ≡ Some r.hop = hop_is_one n (same_hop r.next) in
     let same : hop ≡ r.hop = cc in
-    by_hop_whole {hop = r.hop} h (subst (λ x. DispatchesByHop id own p x outcome (with_next_id H) frames notes new) same s) r.known short
+    by_hop_emits {hop = r.hop} H h (subst (λ x. DispatchesByHop id own p x outcome (with_next_id H) frames notes new) same s) r.known
 
 -- or where none is needed
-sends_whole : (id : ℕ) {p : Packet} {outcome : Outcome} {H new : Host} {frames : List (List ℕ)} (notes : List Note)
+sends_emits : (id : ℕ) {p : Packet} {outcome : Outcome} (H : Host) {new : Host} {frames : List (List ℕ)} (notes : List Note)
     (own : HardwareAddress) (h : HardwareAddress) →
     SendsOver id own p outcome (with_next_id H) frames notes new → multicast_hardware_addr H.ip_addrs (destination_of p) ≡ None →
-    HasWay own H (destination_of p) h → total_len p ≤ ip_mtu_of H.capabilities → GoesWhole p h outcome H frames new
-sends_whole id notes (hardware.Ethernet own) h s one r short = ethernet_whole h s one r short
-sends_whole id {p} {outcome} {H} {new} {frames} notes hardware.Ip h s one r short =
-    emits_whole (subst (λ x. Emits id p x outcome (with_next_id H) frames notes new) (sym r) s) short
+    HasWay own H (destination_of p) h → Emits id p h outcome (with_next_id H) frames notes new
+sends_emits id H notes (hardware.Ethernet own) h s one r = ethernet_emits H h s one r
+sends_emits id {p} {outcome} H {new} {frames} notes hardware.Ip h s one r =
+    subst (λ x. Emits id p x outcome (with_next_id H) frames notes new) (sym r) s
 
 -- a way stays, as far as it is one by a neighbour
 pub way_by : {H K : Host} {a : IpAddress} {h : HardwareAddress} (own : HardwareAddress) → (IsReached H a h → IsReached K a h) →
@@ -430,7 +456,18 @@ pub goes_whole : {p : Packet} {outcome : Outcome} {H new : Host} {frames : List 
     HasWay own H (destination_of p) h → total_len p ≤ ip_mtu_of H.capabilities → GoesWhole p h outcome H frames new
 goes_whole own h (dispatch.ToUnspecified n o u) on specified one r short = absurd cc
 goes_whole {p} {outcome} {H} {new} {frames} {notes} own h (dispatch.ToSpecified more s d n) on specified one r short =
-    sends_whole H.ipv4_id more own h (subst (λ x. SendsOver H.ipv4_id x p outcome (with_next_id H) frames more new) on d) one r short
+    emits_whole (sends_emits H.ipv4_id H more own h (subst (λ x. SendsOver H.ipv4_id x p outcome (with_next_id H) frames more new) on d) one r) short
+
+pub goes_cut : {p : PacketV4} {outcome : Outcome} {H new : Host} {frames : List (List ℕ)} {notes : List Note}
+    (own : HardwareAddress) (h : HardwareAddress) →
+    Dispatches (packet.Ipv4 p) outcome H frames notes new → H.hardware_addr ≡ own → is_unspecified (Ipv4 p.dst_addr) ≡ false →
+    multicast_hardware_addr H.ip_addrs (Ipv4 p.dst_addr) ≡ None →
+    HasWay own H (Ipv4 p.dst_addr) h → ip_mtu_of H.capabilities < total_len (packet.Ipv4 p) → total_len (packet.Ipv4 p) ≤ 4096 →
+    GoesCut p h H frames new
+goes_cut own h (dispatch.ToUnspecified n o u) on specified one r long short = absurd cc
+goes_cut {p} {outcome} {H} {new} {frames} {notes} own h (dispatch.ToSpecified more s d n) on specified one r long short =
+    emits_cut (sends_emits H.ipv4_id H more own h
+    (subst (λ x. SendsOver H.ipv4_id x (packet.Ipv4 p) outcome (with_next_id H) frames more new) on d) one r) long short
 
 -- an address of one host is neither nobody's nor that of many
 pub record IsOne (own : List IpCidr) (a : Ipv4Address) : Type 0 where

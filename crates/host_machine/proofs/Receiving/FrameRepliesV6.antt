@@ -79,7 +79,7 @@ packet_taken {source} {H} {new} {octets} {payload} {reply} {notes} r p (ip.Bare 
     accepted (subst (λ q. ProcessesDatagramV6 source r q H payload reply notes new) is
     (subst (λ os. ProcessesDatagramV6 source r r.next_header H os reply notes new) same t)) for_us
 
-ipv6_taken : {source : HardwareAddress} {H new : Host} {octets : List ℕ} {reply : Option Reply} {notes : List Note} (r : Ipv6Repr)
+pub ipv6_taken : {source : HardwareAddress} {H new : Host} {octets : List ℕ} {reply : Option Reply} {notes : List Note} (r : Ipv6Repr)
     (payload : List ℕ) → ProcessesIpv6 source H octets reply notes new →
     IsIpv6 octets → ipv6_in octets ≡ (r, payload) → ProcessesPacket source r H payload reply notes new
 ipv6_taken r payload (ip.Malformed m d) is values = absurd (m is)

@@ -84,7 +84,7 @@ member_in (g ∷ gs) a state h all = here (is_same g.addr a) refl (λ there. mem
   here true e rest = not_leaving g.state (all.0 (address_is g.addr a e))
   here false e rest = rest (further h.0 h.1 e)
 
-member_of : (groups : List Group) (a : IpAddress) → IsMember groups a → is_member groups a ≡ true
+pub member_of : (groups : List Group) (a : IpAddress) → IsMember groups a → is_member groups a ≡ true
 member_of groups a m = member_in groups a m.state m.listed m.stays
 
 -- An address of many is for the host, and a socket at whatever address accepts it
@@ -97,7 +97,7 @@ or_right : (x y : Bool) → y ≡ true → (x || y) ≡ true
 or_right true y e = refl
 or_right false y e = e
 
-group_heard : (H : Host) (a : IpAddress) → is_member H.groups a ≡ true → has_multicast_group H a ≡ true
+pub group_heard : (H : Host) (a : IpAddress) → is_member H.groups a ≡ true → has_multicast_group H a ≡ true
 group_heard H (Ipv4 a) e = or_right (a.bits == ipv4_address.all_systems.bits) (is_member H.groups (Ipv4 a)) e
 group_heard H (Ipv6 a) e =
     or_right ((a.bits == ipv6_address.all_nodes.bits) || has_solicited_node H.ip_addrs a) (is_member H.groups (Ipv6 a)) e
@@ -117,11 +117,11 @@ group_is : (a : IpAddress) → IsGroup a → is_multicast a ≡ true
 group_is (Ipv4 a) g = (Decides-eqb (a.bits / 2 ^ 28) 14).1 g
 group_is (Ipv6 a) g = (Decides-eqb (a.bits / 2 ^ 120) 0xff).1 g
 
-record IsHeard (H : Host) (a : IpAddress) : Type 0 where
-  for_host : is_for_host H a ≡ true
-  many : (is_broadcast H.ip_addrs a || is_multicast a) ≡ true
+pub record IsHeard (H : Host) (a : IpAddress) : Type 0 where
+  pub for_host : is_for_host H a ≡ true
+  pub many : (is_broadcast H.ip_addrs a || is_multicast a) ≡ true
 
-heard_of : (H : Host) (a : IpAddress) → IsOfMany H a → IsHeard H a
+pub heard_of : (H : Host) (a : IpAddress) → IsOfMany H a → IsHeard H a
 heard_of H a (law.ToAll all) =
     let b = all_broadcast H.ip_addrs a all in
     record { for_host = for_all H a b; many = or_left (is_broadcast H.ip_addrs a) (is_multicast a) b }
@@ -200,7 +200,7 @@ module _ {b : Bool} {r : IpRepr} {payload : List ℕ} {reply : Option Reply} {no
       )
 
 -- where the datagram is for the host
-accepted : {source : HardwareAddress} {r : Ipv4Repr} {H new : Host} {payload : List ℕ} {reply : Option Reply} {notes : List Note} →
+pub accepted : {source : HardwareAddress} {r : Ipv4Repr} {H new : Host} {payload : List ℕ} {reply : Option Reply} {notes : List Note} →
     ProcessesDatagram source r H payload reply notes new → is_for_host H (Ipv4 r.dst_addr) ≡ true →
     ProcessesProtocol r.next_header (raw.is_taken (repr.Ipv4 r) H) r
     (sender_renewed source (repr.Ipv4 r) (raw.host_after_raw_delivery (repr.Ipv4 r) payload H)) payload reply notes new

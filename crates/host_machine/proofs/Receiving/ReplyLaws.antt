@@ -27,7 +27,8 @@ use Rattle.host_machine.specs.Sending.Packet as packet
 use Rattle.host_machine.specs.Laws.Restraint.Neighbors.{IsOwn}
 use Rattle.host_machine.specs.Laws.Restraint.Neighbors as neighbors
 use Rattle.host_machine.specs.Laws.Restraint.Readings.{Receives}
-use Rattle.host_machine.specs.Laws.Restraint.Replies.{AdvertisementsTellItself, AdvertisesItself, AnswersByArp}
+use Rattle.host_machine.specs.Laws.Restraint.Replies.{AdvertisementsTellItself, AdvertisesItself, AnswersByArp, AnswersEchoV4}
+use Rattle.host_machine.specs.Laws.Restraint.Replies.{AnswersEchoV6, EchoesHaveCause, EchoesV6HaveCause, IsOfReplyKind, RepliesAreOfKinds}
 use Rattle.host_machine.specs.Laws.Restraint.Replies.{ArpRepliesTellItself}
 use Rattle.host_machine.specs.Laws.Restraint.Replies.{BringsSegment, ErrorsHaveCause, ErrorsV6HaveCause, HasCauseV4}
 use Rattle.host_machine.specs.Laws.Restraint.Replies.{HasCauseV6}
@@ -116,6 +117,34 @@ cause_v6_before t c = record {
   reason = reason_before t c.reason;
 }
 
+echo_before : {old : Host} {frame : List ℕ} {q : PacketV4} {m : Icmpv4Repr} {octets : List ℕ} (t : ℤ) →
+    AnswersEchoV4 (without_expired old t) frame q m octets → AnswersEchoV4 old frame q m octets
+echo_before t c = record {
+  packet = c.packet;
+  header = c.header;
+  request = c.request;
+  carried = c.carried;
+  brings = c.brings;
+  of_icmp = c.of_icmp;
+  type = c.type;
+  to_sender = c.to_sender;
+  echoes = c.echoes;
+  data_is = c.data_is;
+}
+
+echo_v6_before : {old : Host} {frame : List ℕ} {q : PacketV6} {m : Icmpv6Repr} {octets : List ℕ} (t : ℤ) →
+    AnswersEchoV6 (without_expired old t) frame q m octets → AnswersEchoV6 old frame q m octets
+echo_v6_before t c = record {
+  packet = c.packet;
+  request = c.request;
+  carried = c.carried;
+  brings = c.brings;
+  type = c.type;
+  to_sender = c.to_sender;
+  echoes = c.echoes;
+  data_is = c.data_is;
+}
+
 segment_before : {old : Host} {frame segment : List ℕ} {v : IpVersion} {p : IpProtocol} {a b : ℕ} (t : ℤ) →
     BringsSegment (without_expired old t) frame segment v p a b → BringsSegment old frame segment v p a b
 segment_before t (law.OverIpv4 packet r carried brings is) = law.OverIpv4 packet r carried brings is
@@ -160,9 +189,9 @@ arp_told t frame old new told notes w own r on is = by (reply_origin w) where
       let same : mine ≡ own = let both : hardware.Ethernet mine ≡ hardware.Ethernet own = sym here ∙ on in cc in
       subst (λ x. AnswersByArp own old frame x) (same_arp e is) (subst (λ x. AnswersByArp x old frame s) same (arp_before t a))
   by (ByAdvertisement mine q message here e p a) = let bad : Some (Ip (packet.Ipv6 q)) ≡ Some (Arp r) = sym e ∙ is in absurd cc
-  by (ByEcho q ident seq_no octets e p s) = let bad : Some (Ip (packet.Ipv4 q)) ≡ Some (Arp r) = sym e ∙ is in absurd cc
+  by (ByEcho q ident seq_no octets e p s answers) = let bad : Some (Ip (packet.Ipv4 q)) ≡ Some (Arp r) = sym e ∙ is in absurd cc
   by (ByError q message octets e p c) = let bad : Some (Ip (packet.Ipv4 q)) ≡ Some (Arp r) = sym e ∙ is in absurd cc
-  by (ByEchoV6 q ident seq_no octets e p s) = let bad : Some (Ip (packet.Ipv6 q)) ≡ Some (Arp r) = sym e ∙ is in absurd cc
+  by (ByEchoV6 q ident seq_no octets e p s answers) = let bad : Some (Ip (packet.Ipv6 q)) ≡ Some (Arp r) = sym e ∙ is in absurd cc
   by (ByErrorV6 q message octets e p few c s) = let bad : Some (Ip (packet.Ipv6 q)) ≡ Some (Arp r) = sym e ∙ is in absurd cc
   by (BySegment q header e p c) = let bad : Some (Ip q) ≡ Some (Arp r) = sym e ∙ is in absurd cc
 
@@ -194,9 +223,9 @@ advert_told t frame old new told notes w own q message octets on is carries = by
       let both : packet.Icmpv6 (v6.Ndisc m) [] ≡ packet.Icmpv6 (v6.Ndisc message) octets = payload_v6 e c is carries in cc in
       subst (λ x. AdvertisesItself own old frame q x) one
       (subst (λ x. AdvertisesItself own old frame x m) (same_v6 e is) (subst (λ x. AdvertisesItself x old frame p m) same (advert_before t a)))
-  by (ByEcho p ident seq_no o e c s) = let bad : Some (Ip (packet.Ipv4 p)) ≡ Some (Ip (packet.Ipv6 q)) = sym e ∙ is in absurd cc
+  by (ByEcho p ident seq_no o e c s answers) = let bad : Some (Ip (packet.Ipv4 p)) ≡ Some (Ip (packet.Ipv6 q)) = sym e ∙ is in absurd cc
   by (ByError p m o e c cause) = let bad : Some (Ip (packet.Ipv4 p)) ≡ Some (Ip (packet.Ipv6 q)) = sym e ∙ is in absurd cc
-  by (ByEchoV6 p ident seq_no o e c s) =
+  by (ByEchoV6 p ident seq_no o e c s answers) =
       let bad : packet.Icmpv6 (v6.EchoReply ident seq_no) o ≡ packet.Icmpv6 (v6.Ndisc message) octets = payload_v6 e c is carries in absurd cc
   by (ByErrorV6 p m o e c few cause s) =
       let same : m ≡ v6.Ndisc message = let both : packet.Icmpv6 m o ≡ packet.Icmpv6 (v6.Ndisc message) octets = payload_v6 e c is carries in cc in
@@ -210,7 +239,7 @@ errors_caused t frame old new told notes w q message octets is carries other = b
   by (Silent e) = let bad : None ≡ Some (Ip (packet.Ipv4 q)) = sym e ∙ is in absurd cc
   by (ByArp mine s here e a) = let bad : Some (Arp s) ≡ Some (Ip (packet.Ipv4 q)) = sym e ∙ is in absurd cc
   by (ByAdvertisement mine p m here e c a) = let bad : Some (Ip (packet.Ipv6 p)) ≡ Some (Ip (packet.Ipv4 q)) = sym e ∙ is in absurd cc
-  by (ByEcho p ident seq_no o e c s) =
+  by (ByEcho p ident seq_no o e c s answers) =
       let same : EchoReply ident seq_no ≡ message =
       let both : packet.Icmpv4 (EchoReply ident seq_no) o ≡ packet.Icmpv4 message octets = payload_v4 e c is carries in cc in
       absurd (other (ap icmpv4.type_of (sym same)))
@@ -220,7 +249,7 @@ errors_caused t frame old new told notes w q message octets is carries other = b
       let two : o ≡ octets = cc in
       subst (λ x. HasCauseV4 old frame q message x) two
       (subst (λ x. HasCauseV4 old frame q x o) one (subst (λ x. HasCauseV4 old frame x m o) (same_v4 e is) (cause_before t cause)))
-  by (ByEchoV6 p ident seq_no o e c s) = let bad : Some (Ip (packet.Ipv6 p)) ≡ Some (Ip (packet.Ipv4 q)) = sym e ∙ is in absurd cc
+  by (ByEchoV6 p ident seq_no o e c s answers) = let bad : Some (Ip (packet.Ipv6 p)) ≡ Some (Ip (packet.Ipv4 q)) = sym e ∙ is in absurd cc
   by (ByErrorV6 p m o e c few cause s) = let bad : Some (Ip (packet.Ipv6 p)) ≡ Some (Ip (packet.Ipv4 q)) = sym e ∙ is in absurd cc
   by (BySegment p header e c cause) = let bad : packet.Tcp header [] ≡ packet.Icmpv4 message octets = payload_any e c is carries in absurd cc
 
@@ -232,9 +261,9 @@ errors_v6_caused t frame old new told notes w q message octets is carries few = 
   by (ByAdvertisement mine p m here e c a) =
       let same : v6.Ndisc m ≡ message = let both : packet.Icmpv6 (v6.Ndisc m) [] ≡ packet.Icmpv6 message octets = payload_v6 e c is carries in cc in
       absurd (no_error m (subst (λ x. icmpv6.type_of x ≤ 4) (sym same) few))
-  by (ByEcho p ident seq_no o e c s) = let bad : Some (Ip (packet.Ipv4 p)) ≡ Some (Ip (packet.Ipv6 q)) = sym e ∙ is in absurd cc
+  by (ByEcho p ident seq_no o e c s answers) = let bad : Some (Ip (packet.Ipv4 p)) ≡ Some (Ip (packet.Ipv6 q)) = sym e ∙ is in absurd cc
   by (ByError p m o e c cause) = let bad : Some (Ip (packet.Ipv4 p)) ≡ Some (Ip (packet.Ipv6 q)) = sym e ∙ is in absurd cc
-  by (ByEchoV6 p ident seq_no o e c s) =
+  by (ByEchoV6 p ident seq_no o e c s answers) =
       let same : v6.EchoReply ident seq_no ≡ message =
       let both : packet.Icmpv6 (v6.EchoReply ident seq_no) o ≡ packet.Icmpv6 message octets = payload_v6 e c is carries in cc in
       let bad : 129 ≤ 4 = subst (λ x. icmpv6.type_of x ≤ 4) (sym same) few in absurd (omega (arith, bad))
@@ -246,6 +275,67 @@ errors_v6_caused t frame old new told notes w q message octets is carries few = 
       (subst (λ x. HasCauseV6 old frame q x o) one (subst (λ x. HasCauseV6 old frame x m o) (same_v6 e is) (cause_v6_before t cause)))
   by (BySegment p header e c cause) = let bad : packet.Tcp header [] ≡ packet.Icmpv6 message octets = payload_any e c is carries in absurd cc
 
+pub echoes_caused : EchoesHaveCause
+echoes_caused t frame old new told notes w q message octets is carries zero = by (reply_origin w) where
+  by : Origin (without_expired old t) frame w.call.response.reply → AnswersEchoV4 old frame q message octets
+  by (Silent e) = let bad : None ≡ Some (Ip (packet.Ipv4 q)) = sym e ∙ is in absurd cc
+  by (ByArp mine s here e a) = let bad : Some (Arp s) ≡ Some (Ip (packet.Ipv4 q)) = sym e ∙ is in absurd cc
+  by (ByAdvertisement mine p m here e c a) = let bad : Some (Ip (packet.Ipv6 p)) ≡ Some (Ip (packet.Ipv4 q)) = sym e ∙ is in absurd cc
+  by (ByEcho p ident seq_no o e c s answers) =
+      let both : packet.Icmpv4 (EchoReply ident seq_no) o ≡ packet.Icmpv4 message octets = payload_v4 e c is carries in
+      let one : EchoReply ident seq_no ≡ message = cc in
+      let two : o ≡ octets = cc in
+      subst (λ x. AnswersEchoV4 old frame q message x) two
+      (subst (λ x. AnswersEchoV4 old frame q x o) one
+      (subst (λ x. AnswersEchoV4 old frame x (EchoReply ident seq_no) o) (same_v4 e is) (echo_before t answers)))
+  by (ByError p m o e c cause) =
+      let same : m ≡ message = let both : packet.Icmpv4 m o ≡ packet.Icmpv4 message octets = payload_v4 e c is carries in cc in
+      let bad : 3 ≡ 0 = sym (ap icmpv4.type_of cause.quotes) ∙ ap icmpv4.type_of same ∙ zero in absurd cc
+  by (ByEchoV6 p ident seq_no o e c s answers) = let bad : Some (Ip (packet.Ipv6 p)) ≡ Some (Ip (packet.Ipv4 q)) = sym e ∙ is in absurd cc
+  by (ByErrorV6 p m o e c few cause s) = let bad : Some (Ip (packet.Ipv6 p)) ≡ Some (Ip (packet.Ipv4 q)) = sym e ∙ is in absurd cc
+  by (BySegment p header e c cause) = let bad : packet.Tcp header [] ≡ packet.Icmpv4 message octets = payload_any e c is carries in absurd cc
+
+-- no message of neighbour discovery is an echo reply
+no_echo : (m : NdiscRepr) → icmpv6.type_of (v6.Ndisc m) ≡ 129 → ⊥
+no_echo (NeighborSolicit target lladdr) e = let bad : 135 ≡ 129 = e in omega (arith, bad)
+no_echo (NeighborAdvert flags target lladdr) e = let bad : 136 ≡ 129 = e in omega (arith, bad)
+
+pub echoes_v6_caused : EchoesV6HaveCause
+echoes_v6_caused t frame old new told notes w q message octets is carries reply = by (reply_origin w) where
+  by : Origin (without_expired old t) frame w.call.response.reply → AnswersEchoV6 old frame q message octets
+  by (Silent e) = let bad : None ≡ Some (Ip (packet.Ipv6 q)) = sym e ∙ is in absurd cc
+  by (ByArp mine s here e a) = let bad : Some (Arp s) ≡ Some (Ip (packet.Ipv6 q)) = sym e ∙ is in absurd cc
+  by (ByAdvertisement mine p m here e c a) =
+      let same : v6.Ndisc m ≡ message = let both : packet.Icmpv6 (v6.Ndisc m) [] ≡ packet.Icmpv6 message octets = payload_v6 e c is carries in cc in
+      absurd (no_echo m (ap icmpv6.type_of same ∙ reply))
+  by (ByEcho p ident seq_no o e c s answers) = let bad : Some (Ip (packet.Ipv4 p)) ≡ Some (Ip (packet.Ipv6 q)) = sym e ∙ is in absurd cc
+  by (ByError p m o e c cause) = let bad : Some (Ip (packet.Ipv4 p)) ≡ Some (Ip (packet.Ipv6 q)) = sym e ∙ is in absurd cc
+  by (ByEchoV6 p ident seq_no o e c s answers) =
+      let both : packet.Icmpv6 (v6.EchoReply ident seq_no) o ≡ packet.Icmpv6 message octets = payload_v6 e c is carries in
+      let one : v6.EchoReply ident seq_no ≡ message = cc in
+      let two : o ≡ octets = cc in
+      subst (λ x. AnswersEchoV6 old frame q message x) two
+      (subst (λ x. AnswersEchoV6 old frame q x o) one
+      (subst (λ x. AnswersEchoV6 old frame x (v6.EchoReply ident seq_no) o) (same_v6 e is) (echo_v6_before t answers)))
+  by (ByErrorV6 p m o e c few cause s) =
+      let same : m ≡ message = let both : packet.Icmpv6 m o ≡ packet.Icmpv6 message octets = payload_v6 e c is carries in cc in
+      let bad : 129 ≤ 4 = subst (λ n. n ≤ 4) (ap icmpv6.type_of same ∙ reply) few in absurd (omega (arith, bad))
+  by (BySegment p header e c cause) = let bad : packet.Tcp header [] ≡ packet.Icmpv6 message octets = payload_any e c is carries in absurd cc
+
+pub kinds_of_replies : RepliesAreOfKinds
+kinds_of_replies t frame old new told notes w q is = by (reply_origin w) where
+  by : Origin (without_expired old t) frame w.call.response.reply → IsOfReplyKind (payload_of q)
+  by (Silent e) = let bad : None ≡ Some (Ip q) = sym e ∙ is in absurd cc
+  by (ByArp mine s here e a) = let bad : Some (Arp s) ≡ Some (Ip q) = sym e ∙ is in absurd cc
+  by (ByAdvertisement mine p m here e c a) =
+      subst IsOfReplyKind (sym c ∙ ap payload_of (same_packet e is)) (inr (inr (ap (λ x. icmpv6.type_of (v6.Ndisc x)) a.message_is)))
+  by (ByEcho p ident seq_no o e c s answers) = subst IsOfReplyKind (sym c ∙ ap payload_of (same_packet e is)) (inl refl)
+  by (ByError p m o e c cause) =
+      subst IsOfReplyKind (sym c ∙ ap payload_of (same_packet e is)) (inr (ap icmpv4.type_of cause.quotes))
+  by (ByEchoV6 p ident seq_no o e c s answers) = subst IsOfReplyKind (sym c ∙ ap payload_of (same_packet e is)) (inr (inl refl))
+  by (ByErrorV6 p m o e c few cause s) = subst IsOfReplyKind (sym c ∙ ap payload_of (same_packet e is)) (inl few)
+  by (BySegment p header e c cause) = subst IsOfReplyKind (sym c ∙ ap payload_of (same_packet e is)) tt
+
 pub resets_caused : ResetsHaveCause
 resets_caused t frame old new told notes w q header octets is carries = by (reply_origin w) where
   by : Origin (without_expired old t) frame w.call.response.reply → HasSegmentCause old frame q header octets
@@ -253,10 +343,10 @@ resets_caused t frame old new told notes w q header octets is carries = by (repl
   by (ByArp mine s here e a) = let bad : Some (Arp s) ≡ Some (Ip q) = sym e ∙ is in absurd cc
   by (ByAdvertisement mine p m here e c a) =
       let bad : packet.Icmpv6 (v6.Ndisc m) [] ≡ packet.Tcp header octets = payload_any e c is carries in absurd cc
-  by (ByEcho p ident seq_no o e c s) =
+  by (ByEcho p ident seq_no o e c s answers) =
       let bad : packet.Icmpv4 (EchoReply ident seq_no) o ≡ packet.Tcp header octets = payload_any e c is carries in absurd cc
   by (ByError p m o e c cause) = let bad : packet.Icmpv4 m o ≡ packet.Tcp header octets = payload_any e c is carries in absurd cc
-  by (ByEchoV6 p ident seq_no o e c s) =
+  by (ByEchoV6 p ident seq_no o e c s answers) =
       let bad : packet.Icmpv6 (v6.EchoReply ident seq_no) o ≡ packet.Tcp header octets = payload_any e c is carries in absurd cc
   by (ByErrorV6 p m o e c few cause s) = let bad : packet.Icmpv6 m o ≡ packet.Tcp header octets = payload_any e c is carries in absurd cc
   by (BySegment p x e c cause) =

@@ -49,13 +49,18 @@ use Rattle.control_wire.specs.declared.icmpv4.Icmpv4Repr.{Icmpv4Repr}
 use Rattle.control_wire.specs.declared.icmpv4.Icmpv4Repr.TheVariants.{EchoRequest, EchoReply, DstUnreachable}
 use Rattle.control_wire.specs.declared.icmpv4.Icmpv4Repr.TheVariants.{TimeExceeded}
 use Rattle.control_wire.specs.Icmpv4.{icmpv4_in}
+use Rattle.wire_base.specs.Octets.{u16_at}
 use Rattle.icmpv6_wire.specs.Icmpv6.{icmpv6_in}
 use Rattle.icmpv6_wire.specs.Icmpv6 as icmpv6_text
 use Rattle.icmpv6_wire.specs.declared.icmpv6.Icmpv6Repr.{Icmpv6Repr}
 use Rattle.icmpv6_wire.specs.declared.icmpv6.Icmpv6Repr.TheVariants as v6
+use Rattle.icmpv6_wire.specs.declared.icmpv6.Icmpv6DstUnreachable.{Icmpv6DstUnreachable}
 use Rattle.icmpv6_wire.specs.declared.icmpv6.Icmpv6DstUnreachable.TheVariants as unreachable_v6
+use Rattle.icmpv6_wire.specs.declared.icmpv6.Icmpv6ParamProblem.{Icmpv6ParamProblem}
 use Rattle.icmpv6_wire.specs.declared.icmpv6.Icmpv6ParamProblem.TheVariants as problem_v6
 use Rattle.icmpv6_wire.specs.declared.ndisc.NdiscRepr.{NdiscRepr}
+use Rattle.icmpv6_wire.specs.declared.router.RouterRepr.{RouterRepr}
+use Rattle.group_wire.specs.declared.mld.MldRepr.{MldRepr}
 use Rattle.icmpv6_wire.specs.declared.ndisc.NdiscRepr.TheVariants.{NeighborAdvert}
 use Rattle.group_wire.specs.declared.mld.MldRepr.TheVariants.{Query, Report}
 use Rattle.sockets.specs.declared.socket.SocketOf.TheVariants.{Raw, Icmp, Udp, Tcp}
@@ -96,7 +101,8 @@ use Rattle.host_machine.specs.Laws.Restraint.Readings.{AreSameButRaw, CarriesV4,
 use Rattle.host_machine.specs.Laws.Restraint.Chosen.{IsChosenFor, Given}
 use Rattle.host_machine.specs.Laws.Restraint.Neighbors.{IsAssigned, IsOwn}
 use Rattle.host_machine.specs.Laws.Restraint.Sources.{IsReceiver, IsReplyFrom, FromChosen, FromReceiver, OverIpv4, OverIpv6}
-use Rattle.host_machine.specs.Laws.Restraint.Replies.{AdvertisesItself, AnswersByArp, BringsSegment, BringsV4, BringsV6}
+use Rattle.host_machine.specs.Laws.Restraint.Replies.{AdvertisesItself, AnswersByArp, AnswersEchoV4, AnswersEchoV6}
+use Rattle.host_machine.specs.Laws.Restraint.Replies.{BringsSegment, BringsV4, BringsV6}
 use Rattle.host_machine.specs.Laws.Restraint.Replies.{GoesBack, HasAborted, HasCauseV4}
 use Rattle.host_machine.specs.Laws.Restraint.Replies.{HasCauseV6, HasReasonV6, HasSegmentCause, IsNoRawFor}
 use Rattle.host_machine.specs.Laws.Restraint.Replies as law
@@ -118,17 +124,81 @@ pub data Origin (H : Host) (frame : List ℕ) (reply : Option Reply) : Type 0 wh
       Origin H frame reply
   ByEcho : (q : PacketV4) (ident seq_no : ℕ) (octets : List ℕ) →
       reply ≡ Some (Ip (packet.Ipv4 q)) → q.payload ≡ packet.Icmpv4 (EchoReply ident seq_no) octets →
-      IsReplyFrom H frame (packet.Ipv4 q) → Origin H frame reply
+      IsReplyFrom H frame (packet.Ipv4 q) → AnswersEchoV4 H frame q (EchoReply ident seq_no) octets → Origin H frame reply
   ByError : (q : PacketV4) (message : Icmpv4Repr) (octets : List ℕ) → reply ≡ Some (Ip (packet.Ipv4 q)) →
       q.payload ≡ packet.Icmpv4 message octets → HasCauseV4 H frame q message octets → Origin H frame reply
   ByEchoV6 : (q : PacketV6) (ident seq_no : ℕ) (octets : List ℕ) →
       reply ≡ Some (Ip (packet.Ipv6 q)) → q.payload ≡ packet.Icmpv6 (v6.EchoReply ident seq_no) octets →
-      IsReplyFrom H frame (packet.Ipv6 q) → Origin H frame reply
+      IsReplyFrom H frame (packet.Ipv6 q) → AnswersEchoV6 H frame q (v6.EchoReply ident seq_no) octets → Origin H frame reply
   ByErrorV6 : (q : PacketV6) (message : Icmpv6Repr) (octets : List ℕ) → reply ≡ Some (Ip (packet.Ipv6 q)) →
       q.payload ≡ packet.Icmpv6 message octets → icmpv6_text.type_of message ≤ 4 → HasCauseV6 H frame q message octets →
       IsReplyFrom H frame (packet.Ipv6 q) → Origin H frame reply
   BySegment : (q : Packet) (header : TcpRepr) → reply ≡ Some (Ip q) → payload_of q ≡ packet.Tcp header [] →
       HasSegmentCause H frame q header [] → Origin H frame reply
+
+-- a message of another kind isn't read as an echo request
+abbrev other : Bool → Bool → Icmpv4DstUnreachable → Ipv4Repr → ℕ → ℕ → ℕ → List ℕ → List ℕ → Icmpv4Repr × List ℕ
+other reply unreachable reason header a b c xs ys =
+    if reply then (EchoReply a b, xs) else if unreachable then (DstUnreachable reason header, ys) else (TimeExceeded c header, ys)
+
+other_message : (reply unreachable : Bool) (reason : Icmpv4DstUnreachable) (header : Ipv4Repr) (a b c ident seq_no : ℕ) (xs ys : List ℕ) →
+    (other reply unreachable reason header a b c xs ys).0 ≡ EchoRequest ident seq_no → ⊥
+other_message true unreachable reason header a b c ident seq_no xs ys e = absurd cc
+other_message false true reason header a b c ident seq_no xs ys e = absurd cc
+other_message false false reason header a b c ident seq_no xs ys e = absurd cc
+
+-- the octets of a message that is read as one
+echo_octets : (octets : List ℕ) (ident seq_no : ℕ) → (icmpv4_in octets).0 ≡ EchoRequest ident seq_no →
+    (slice_index octets 0 ≡ 8) × (EchoReply ident seq_no ≡ EchoReply (u16_at octets 4) (u16_at octets 6)) × ((icmpv4_in octets).1 ≡ drop 8 octets)
+echo_octets octets ident seq_no is = by (slice_index octets 0 == 8) refl where
+  by : (b : Bool) → (slice_index octets 0 == 8) ≡ b →
+      (slice_index octets 0 ≡ 8) × (EchoReply ident seq_no ≡ EchoReply (u16_at octets 4) (u16_at octets 6)) × ((icmpv4_in octets).1 ≡ drop 8 octets)
+  by true e =
+      let type : slice_index octets 0 ≡ 8 = (Decides-eqb (slice_index octets 0) 8).0 e in
+      let same : EchoRequest (u16_at octets 4) (u16_at octets 6) ≡ EchoRequest ident seq_no = rw type at is in (type, cc, rw type refl)
+  by false e = absurd (other_message (slice_index octets 0 == 0) (slice_index octets 0 == 3) _ _ _ _ _ ident seq_no _ _ (rw e at is))
+
+-- the same of ICMPv6
+no_error_request : (b1 b2 b3 : Bool) (u : Icmpv6DstUnreachable) (p : Icmpv6ParamProblem) (header : Ipv6Repr) (a b ident seq_no : ℕ) →
+    (if b1 then v6.DstUnreachable u header else if b2 then v6.PktTooBig a header else if b3 then v6.TimeExceeded b header else
+    v6.ParamProblem p a header) ≡ v6.EchoRequest ident seq_no → ⊥
+no_error_request true b2 b3 u p header a b ident seq_no e = absurd cc
+no_error_request false true b3 u p header a b ident seq_no e = absurd cc
+no_error_request false false true u p header a b ident seq_no e = absurd cc
+no_error_request false false false u p header a b ident seq_no e = absurd cc
+
+abbrev other_v6 : Bool → Bool → Bool → Bool → Bool → Bool → Bool → NdiscRepr → RouterRepr → MldRepr → Icmpv6Repr → ℕ → ℕ →
+    List ℕ → List ℕ → List ℕ → Icmpv6Repr × List ℕ
+other_v6 b1 b2 b3 b4 b5 b6 b7 n r m x a b xs ys zs =
+    if b1 then (v6.EchoReply a b, xs) else if b2 then (v6.Ndisc n, []) else if b3 then (v6.Ndisc n, []) else
+    if b4 then (v6.Router r, []) else if b5 then (v6.Router r, []) else if b6 then (v6.Mld m, ys) else if b7 then (v6.Mld m, ys) else (x, zs)
+
+other_message_v6 : (b1 b2 b3 b4 b5 b6 b7 : Bool) (n : NdiscRepr) (r : RouterRepr) (m : MldRepr) (x : Icmpv6Repr) (a b ident seq_no : ℕ)
+    (xs ys zs : List ℕ) → (x ≡ v6.EchoRequest ident seq_no → ⊥) →
+    (other_v6 b1 b2 b3 b4 b5 b6 b7 n r m x a b xs ys zs).0 ≡ v6.EchoRequest ident seq_no → ⊥
+other_message_v6 true b2 b3 b4 b5 b6 b7 n r m x a b ident seq_no xs ys zs unlike e = absurd cc
+other_message_v6 false true b3 b4 b5 b6 b7 n r m x a b ident seq_no xs ys zs unlike e = absurd cc
+other_message_v6 false false true b4 b5 b6 b7 n r m x a b ident seq_no xs ys zs unlike e = absurd cc
+other_message_v6 false false false true b5 b6 b7 n r m x a b ident seq_no xs ys zs unlike e = absurd cc
+other_message_v6 false false false false true b6 b7 n r m x a b ident seq_no xs ys zs unlike e = absurd cc
+other_message_v6 false false false false false true b7 n r m x a b ident seq_no xs ys zs unlike e = absurd cc
+other_message_v6 false false false false false false true n r m x a b ident seq_no xs ys zs unlike e = absurd cc
+other_message_v6 false false false false false false false n r m x a b ident seq_no xs ys zs unlike e = unlike e
+
+echo_octets_v6 : (octets : List ℕ) (ident seq_no : ℕ) → (icmpv6_in octets).0 ≡ v6.EchoRequest ident seq_no →
+    (slice_index octets 0 ≡ 128) × (v6.EchoReply ident seq_no ≡ v6.EchoReply (u16_at octets 4) (u16_at octets 6))
+    × ((icmpv6_in octets).1 ≡ drop 8 octets)
+echo_octets_v6 octets ident seq_no is = by (slice_index octets 0 == 128) refl where
+  by : (b : Bool) → (slice_index octets 0 == 128) ≡ b →
+      (slice_index octets 0 ≡ 128) × (v6.EchoReply ident seq_no ≡ v6.EchoReply (u16_at octets 4) (u16_at octets 6))
+      × ((icmpv6_in octets).1 ≡ drop 8 octets)
+  by true e =
+      let type : slice_index octets 0 ≡ 128 = (Decides-eqb (slice_index octets 0) 128).0 e in
+      let same : v6.EchoRequest (u16_at octets 4) (u16_at octets 6) ≡ v6.EchoRequest ident seq_no = rw type at is in (type, cc, rw type refl)
+  by false e = absurd (other_message_v6 (slice_index octets 0 == 129) (slice_index octets 0 == 135) (slice_index octets 0 == 136)
+      (slice_index octets 0 == 133) (slice_index octets 0 == 134) (slice_index octets 0 == 130) (slice_index octets 0 == 143)
+      _ _ _ _ _ _ ident seq_no _ _ _
+      (no_error_request (slice_index octets 0 == 1) (slice_index octets 0 == 2) (slice_index octets 0 == 3) _ _ _ _ _ ident seq_no) (rw e at is))
 
 pub silent : {H K new : Host} {frame : List ℕ} {reply : Option Reply} {notes : List Note} → IsDropped K reply notes new → Origin H frame reply
 silent d = Silent d.silent
@@ -263,36 +333,56 @@ module _ (H : Host) (frame packet : List ℕ) (carried : CarriesV4 H.hardware_ad
     by (law.Whole w e p) = ap (λ (x : Ipv4Repr). x.dst_addr) e
     by (law.Reassembled f e) = ap (λ (x : Ipv4Repr). x.dst_addr) e
 
+  -- the reply to an echo request
+  echoes : r.next_header ≡ protocol.Icmp → (ident seq_no : ℕ) (octets : List ℕ) →
+      (slice_index payload 0 ≡ 8) × (EchoReply ident seq_no ≡ EchoReply (u16_at payload 4) (u16_at payload 6)) × (octets ≡ drop 8 payload) →
+      (q : PacketV4) → q.dst_addr ≡ r.src_addr → AnswersEchoV4 H frame q (EchoReply ident seq_no) octets
+  echoes icmp ident seq_no octets is q to_sender = record {
+    packet = packet;
+    header = r;
+    request = payload;
+    carried = carried;
+    brings = brings;
+    of_icmp = icmp;
+    type = is.0;
+    to_sender = to_sender;
+    echoes = is.1;
+    data_is = is.2;
+  }
+
   echo_origin : {reply : Option Reply} (own : List IpCidr) (ident seq_no : ℕ) (octets : List ℕ) → own ≡ H.ip_addrs →
+      ((q : PacketV4) → q.dst_addr ≡ r.src_addr → AnswersEchoV4 H frame q (EchoReply ident seq_no) octets) →
       reply ≡ icmpv4.icmpv4_reply own r (EchoReply ident seq_no) octets → Origin H frame reply
-  echo_origin {reply} own ident seq_no octets same e =
+  echo_origin {reply} own ident seq_no octets same answers e =
       by (is_unicast_v4 own r.src_addr) (is_unicast_v4 own r.dst_addr) (is_broadcast_v4 own r.dst_addr) refl e where
         by_first : (o : Option Ipv4Address) → ipv4_addr own ≡ o → reply ≡ option_map (message_back r (EchoReply ident seq_no) octets) o →
             Origin H frame reply
         by_first None f q = Silent q
         by_first (Some a) f q =
             ByEcho _ ident seq_no octets q refl (FromChosen (Given (subst (λ o. IsAssigned o (address.Ipv4 a)) same (first_assigned own a f))))
+            (answers _ refl)
 
         by : (s d w : Bool) → is_unicast_v4 own r.dst_addr ≡ d → reply ≡ option_map (message_back r (EchoReply ident seq_no) octets)
             (if s then if d then Some r.dst_addr else if w then (if true then ipv4_addr own else None) else None else None) →
             Origin H frame reply
         by true true w y q = ByEcho _ ident seq_no octets q refl
-            (FromReceiver received_at (subst (λ o. law.IsOneHostV4 o r.dst_addr.bits) same (one_host_v4 own r.dst_addr y)))
+            (FromReceiver received_at (subst (λ o. law.IsOneHostV4 o r.dst_addr.bits) same (one_host_v4 own r.dst_addr y))) (answers _ refl)
         by true false true y q = by_first (ipv4_addr own) refl q
         by true false false y q = Silent q
         by false d w y q = Silent q
 
-  answer_origin : {reply : Option Reply} (own : List IpCidr) (m : Icmpv4Repr) (octets : List ℕ) → own ≡ H.ip_addrs →
-      reply ≡ answer_to own r m octets → Origin H frame reply
-  answer_origin own (EchoRequest ident seq_no) octets same e = echo_origin own ident seq_no octets same e
-  answer_origin own (EchoReply ident seq_no) octets same e = Silent e
-  answer_origin own (DstUnreachable reason header) octets same e = Silent e
-  answer_origin own (TimeExceeded code header) octets same e = Silent e
+  answer_origin : {reply : Option Reply} (own : List IpCidr) (m : Icmpv4Repr) → r.next_header ≡ protocol.Icmp → (icmpv4_in payload).0 ≡ m →
+      own ≡ H.ip_addrs → reply ≡ answer_to own r m (icmpv4_in payload).1 → Origin H frame reply
+  answer_origin own (EchoRequest ident seq_no) icmp is same e =
+      echo_origin own ident seq_no (icmpv4_in payload).1 same (echoes icmp ident seq_no (icmpv4_in payload).1 (echo_octets payload ident seq_no is)) e
+  answer_origin own (EchoReply ident seq_no) icmp is same e = Silent e
+  answer_origin own (DstUnreachable reason header) icmp is same e = Silent e
+  answer_origin own (TimeExceeded code header) icmp is same e = Silent e
 
-  icmpv4_origin : {K new : Host} {reply : Option Reply} {notes : List Note} → K.ip_addrs ≡ H.ip_addrs →
+  icmpv4_origin : {K new : Host} {reply : Option Reply} {notes : List Note} → r.next_header ≡ protocol.Icmp → K.ip_addrs ≡ H.ip_addrs →
       ProcessesIcmpv4 r K payload reply notes new → Origin H frame reply
-  icmpv4_origin same (icmpv4.Malformed m d) = silent d
-  icmpv4_origin {K = K} same (icmpv4.Taken i e n s) = answer_origin K.ip_addrs (icmpv4_in payload).0 (icmpv4_in payload).1 same e
+  icmpv4_origin icmp same (icmpv4.Malformed m d) = silent d
+  icmpv4_origin {K = K} icmp same (icmpv4.Taken i e n s) = answer_origin K.ip_addrs (icmpv4_in payload).0 icmp refl same e
 
   igmp_origin : {K new : Host} {reply : Option Reply} {notes : List Note} → reports.ProcessesIgmp r K payload reply notes new → Origin H frame reply
   igmp_origin (reports.Malformed m d) = silent d
@@ -308,7 +398,7 @@ module _ (H : Host) (frame packet : List ℕ) (carried : CarriesV4 H.hardware_ad
   protocol_origin : (p : IpProtocol) (b : Bool) (K : Host) (reply : Option Reply) (notes : List Note) (new : Host) → r.next_header ≡ p →
       K.ip_addrs ≡ H.ip_addrs → list_any (raw.accepts version.Ipv4 r.next_header) H.sockets.places ≡ b →
       AreSameButRaw H.sockets.places K.sockets.places → ip.ProcessesProtocol p b r K payload reply notes new → Origin H frame reply
-  protocol_origin protocol.Icmp b K reply notes new is same taken raw t = icmpv4_origin same t
+  protocol_origin protocol.Icmp b K reply notes new is same taken raw t = icmpv4_origin is same t
   protocol_origin protocol.Udp b K reply notes new is same taken raw t = udp_origin same (λ e. absurd cc) taken t
   protocol_origin protocol.Tcp b K reply notes new is same taken raw t =
       tcp_origin H frame payload version.Ipv4 r.next_header (repr.Ipv4 r) (law.OverIpv4 packet r carried brings is) (λ t. (refl, refl)) taken raw t
@@ -473,33 +563,44 @@ module _ (H : Host) (frame packet : List ℕ) (carried : CarriesV6 H.hardware_ad
   ndisc_origin {message} {K} same owned (ndisc.FromNeighbor own near mine h) = heard_origin {K = K} (sym same ∙ mine)
       ((Decides-eqb r.hop_limit 255).0 near) owned h
 
-  message_origin : (m : Icmpv6Repr) (octets : List ℕ) (K : Host) (reply : Option Reply) (notes : List Note) (new : Host) →
+  message_origin : (payload : List ℕ) → BringsV6 packet protocol.Icmpv6 payload → (m : Icmpv6Repr) (octets : List ℕ) →
+      (icmpv6_in payload).0 ≡ m → (icmpv6_in payload).1 ≡ octets → (K : Host) (reply : Option Reply) (notes : List Note) (new : Host) →
       K.hardware_addr ≡ H.hardware_addr → K.ip_addrs ≡ H.ip_addrs → ((a : IpAddress) → has_ip_addr K a ≡ true → IsOwn H a) →
       ProcessesMessage r m octets K reply notes new → Origin H frame reply
-  message_origin (v6.EchoRequest ident seq_no) octets K reply notes new same addrs owned t =
-      ByEchoV6 _ ident seq_no octets t.0 refl (from_v6 K.ip_addrs (v6.EchoReply ident seq_no) octets addrs)
-  message_origin (v6.Ndisc message) octets K reply notes new same addrs owned t = ndisc_origin {K = K} same owned t
-  message_origin (v6.Router message) octets K reply notes new same addrs owned t = Silent t.0
-  message_origin (v6.Mld (Query code group)) octets K reply notes new same addrs owned t = Silent t.0
-  message_origin (v6.Mld (Report count)) octets K reply notes new same addrs owned t = silent t
-  message_origin (v6.EchoReply ident seq_no) octets K reply notes new same addrs owned t = silent t
-  message_origin (v6.DstUnreachable reason header) octets K reply notes new same addrs owned t = silent t
-  message_origin (v6.PktTooBig mtu header) octets K reply notes new same addrs owned t = silent t
-  message_origin (v6.TimeExceeded code header) octets K reply notes new same addrs owned t = silent t
-  message_origin (v6.ParamProblem reason pointer header) octets K reply notes new same addrs owned t = silent t
+  message_origin payload brings (v6.EchoRequest ident seq_no) octets is behind K reply notes new same addrs owned t =
+      let read = echo_octets_v6 payload ident seq_no is in
+      ByEchoV6 _ ident seq_no octets t.0 refl (from_v6 K.ip_addrs (v6.EchoReply ident seq_no) octets addrs) (record {
+        packet = packet;
+        request = payload;
+        carried = carried;
+        brings = brings;
+        type = read.0;
+        to_sender = refl;
+        echoes = read.1;
+        data_is = sym behind ∙ read.2;
+      })
+  message_origin payload brings (v6.Ndisc message) octets is behind K reply notes new same addrs owned t = ndisc_origin {K = K} same owned t
+  message_origin payload brings (v6.Router message) octets is behind K reply notes new same addrs owned t = Silent t.0
+  message_origin payload brings (v6.Mld (Query code group)) octets is behind K reply notes new same addrs owned t = Silent t.0
+  message_origin payload brings (v6.Mld (Report count)) octets is behind K reply notes new same addrs owned t = silent t
+  message_origin payload brings (v6.EchoReply ident seq_no) octets is behind K reply notes new same addrs owned t = silent t
+  message_origin payload brings (v6.DstUnreachable reason header) octets is behind K reply notes new same addrs owned t = silent t
+  message_origin payload brings (v6.PktTooBig mtu header) octets is behind K reply notes new same addrs owned t = silent t
+  message_origin payload brings (v6.TimeExceeded code header) octets is behind K reply notes new same addrs owned t = silent t
+  message_origin payload brings (v6.ParamProblem reason pointer header) octets is behind K reply notes new same addrs owned t = silent t
 
-  icmpv6_origin : {payload : List ℕ} {K new : Host} {reply : Option Reply} {notes : List Note} → K.hardware_addr ≡ H.hardware_addr →
-      K.ip_addrs ≡ H.ip_addrs → ((a : IpAddress) → has_ip_addr K a ≡ true → IsOwn H a) → ProcessesIcmpv6 r K payload reply notes new → Origin H frame reply
-  icmpv6_origin same addrs owned (icmpv6.Malformed m d) = silent d
-  icmpv6_origin {payload} {K} {new} {reply} {notes} same addrs owned (icmpv6.Taken i t) =
-      message_origin (icmpv6_in payload).0 (icmpv6_in payload).1 (icmpv6.host_after_delivery r payload K) reply notes new same addrs owned t
+  icmpv6_origin : {payload : List ℕ} {K new : Host} {reply : Option Reply} {notes : List Note} → BringsV6 packet protocol.Icmpv6 payload →
+      K.hardware_addr ≡ H.hardware_addr → K.ip_addrs ≡ H.ip_addrs → ((a : IpAddress) → has_ip_addr K a ≡ true → IsOwn H a) → ProcessesIcmpv6 r K payload reply notes new → Origin H frame reply
+  icmpv6_origin brings same addrs owned (icmpv6.Malformed m d) = silent d
+  icmpv6_origin {payload} {K} {new} {reply} {notes} brings same addrs owned (icmpv6.Taken i t) =
+      message_origin payload brings (icmpv6_in payload).0 (icmpv6_in payload).1 refl refl (icmpv6.host_after_delivery r payload K) reply notes new same addrs owned t
 
   protocol_v6_origin : (p : IpProtocol) (payload : List ℕ) (b : Bool) (K : Host) (reply : Option Reply) (notes : List Note) (new : Host) →
       BringsV6 packet p payload → K.hardware_addr ≡ H.hardware_addr → K.ip_addrs ≡ H.ip_addrs →
       ((a : IpAddress) → has_ip_addr K a ≡ true → IsOwn H a) →
       list_any (raw.accepts version.Ipv6 r.next_header) H.sockets.places ≡ b → AreSameButRaw H.sockets.places K.sockets.places →
       ipv6.ProcessesProtocol p b r K payload reply notes new → Origin H frame reply
-  protocol_v6_origin protocol.Icmpv6 payload b K reply notes new brings same addrs owned taken raw t = icmpv6_origin {K = K} same addrs owned t
+  protocol_v6_origin protocol.Icmpv6 payload b K reply notes new brings same addrs owned taken raw t = icmpv6_origin {K = K} brings same addrs owned t
   protocol_v6_origin protocol.Udp payload b K reply notes new brings same addrs owned taken raw t =
       udp_v6_origin protocol.Udp payload brings addrs (λ e. absurd cc) taken t
   protocol_v6_origin protocol.Tcp payload b K reply notes new brings same addrs owned taken raw t =

@@ -45,7 +45,7 @@ whole_packet : {packet : List ℕ} → CarriesIcmp packet → is_fragment (ipv4_
 whole_packet p = rw (p.none_follow, p.none_precede) refl
 
 pub pings_read : PingFramesAreRead
-pings_read own H frame packet message is carries f p m from to given = record {
+pings_read own H frame packet message is carries f p m from of_link to given = record {
   payload = message;
   in_packet = record {
     taken = taken _ f refl;
@@ -61,6 +61,7 @@ pings_read own H frame packet message is carries f p m from to given = record {
     whole = ap (λ os. is_fragment (ipv4_in os).1) (sym is) ∙ whole_packet p;
     behind = ap (λ os. (ipv4_in os).2) (sym is) ∙ sym carries;
     sender = from;
+    of_link = of_link;
     receiver = to;
     given = given;
   };

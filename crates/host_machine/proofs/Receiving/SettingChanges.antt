@@ -208,20 +208,20 @@ left_then : {H mid new : Host} {frame : List ℕ} → Stays H mid → Stays mid 
 left_then a b = left_by (stays_then a b)
 
 -- how long a query allows
-interval_fits : (code count : ℕ) → reports.igmp_interval_for (query_version code) (reports.answer_time code) count ≤ allowed code
+pub interval_fits : (code count : ℕ) → reports.igmp_interval_for (query_version code) (reports.answer_time code) count ≤ allowed code
 interval_fits code count = by (code == 0) where
   by : (b : Bool) → reports.igmp_interval_for (if b then Version1 else Version2) (tenths_of code * 100_000) count
       ≤ (if b then 10_000_000 else tenths_of code * 100_000)
   by true = omega arith
   by false = div-le_self (tenths_of code * 100_000) (count + 1)
 
-quarter_fits : (code : ℕ) → reports.answer_time code / 4 ≤ allowed code
+pub quarter_fits : (code : ℕ) → reports.answer_time code / 4 ≤ allowed code
 quarter_fits code = by (code == 0) refl where
   by : (b : Bool) → (code == 0) ≡ b → tenths_of code * 100_000 / 4 ≤ (if b then 10_000_000 else tenths_of code * 100_000)
   by true e = let none : code ≡ 0 = (Decides-eqb code 0).0 e in rw none (omega arith)
   by false e = div-le_self (tenths_of code * 100_000) 4
 
-delay_fits : (code random : ℕ) → reports.delay code random ≤ code * 1000
+pub delay_fits : (code random : ℕ) → reports.delay code random ≤ code * 1000
 delay_fits code random = by (code == 0) refl where
   by : (b : Bool) → (code == 0) ≡ b → (if b then 0 else next random / 2 ^ 48 % code * 1000) ≤ code * 1000
   by true e = omega arith
@@ -230,10 +230,10 @@ delay_fits code random = by (code == 0) refl where
       let less = mod-lt (next random / 2 ^ 48) some in
       omega (arith, less)
 
-later_by : (t : ℤ) (n : ℕ) → t ≤ℤ (t +ℤ pos n)
+pub later_by : (t : ℤ) (n : ℕ) → t ≤ℤ (t +ℤ pos n)
 later_by t n = omega (arith, ints)
 
-no_later : (t : ℤ) (n m : ℕ) → n ≤ m → (t +ℤ pos n) ≤ℤ (t +ℤ pos m)
+pub no_later : (t : ℤ) (n m : ℕ) → n ≤ m → (t +ℤ pos n) ≤ℤ (t +ℤ pos m)
 no_later t n m few = omega (arith, ints, few)
 
 -- IPv4

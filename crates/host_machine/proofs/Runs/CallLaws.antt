@@ -28,8 +28,12 @@ use Rattle.host_machine.proofs.Receiving.FrameRepliesV6.{advertisers_learnt, pin
 use Rattle.host_machine.proofs.Receiving.LearntNeighbors.{neighbors_came}
 use Rattle.host_machine.proofs.Receiving.ManyDelivery.{many_queued}
 use Rattle.host_machine.proofs.Receiving.RebuiltDelivery.{rebuilt_queued}
-use Rattle.host_machine.proofs.Receiving.RebuiltPings.{rebuilt_pings_served}
-use Rattle.host_machine.proofs.Receiving.ReplyLaws.{advert_told, arp_told, errors_caused, errors_v6_caused, resets_caused}
+use Rattle.host_machine.proofs.Receiving.RebuiltPings.{long_pings_served, rebuilt_pings_served}
+use Rattle.host_machine.proofs.Receiving.Advertisements.{advertisements_learnt}
+use Rattle.host_machine.proofs.Receiving.HeardQueries.{queries_heard}
+use Rattle.host_machine.proofs.Receiving.UnknownProtocols.{options_told, unknown_told}
+use Rattle.host_machine.proofs.Receiving.ReplyLaws.{advert_told, arp_told, echoes_caused, echoes_v6_caused, errors_caused, errors_v6_caused}
+use Rattle.host_machine.proofs.Receiving.ReplyLaws.{kinds_of_replies, resets_caused}
 use Rattle.host_machine.proofs.Receiving.SettingChanges.{frames_keep, reports_asked}
 use Rattle.host_machine.proofs.Receiving.SocketDelivery.{raw_packets_queued, segments_queued}
 use Rattle.host_machine.proofs.Receiving.WrongRebuilt.{rebuilt_dropped}
@@ -63,6 +67,9 @@ restrained t frame old new told notes w = record {
   settings = frames_keep t frame old new told notes w;
   arp_replies = arp_told t frame old new told notes w;
   advertisements = advert_told t frame old new told notes w;
+  kinds = kinds_of_replies t frame old new told notes w;
+  echoes = echoes_caused t frame old new told notes w;
+  echoes_v6 = echoes_v6_caused t frame old new told notes w;
   errors = errors_caused t frame old new told notes w;
   errors_v6 = errors_v6_caused t frame old new told notes w;
   resets = resets_caused t frame old new told notes w;
@@ -84,6 +91,7 @@ received t answer p i = record {
     advertisers = advertisers_learnt t p.before p.after p.told;
     pings = pings_served t p.before p.after p.told;
     rebuilt_pings = rebuilt_pings_served t p.before p.after p.told;
+    long_pings = long_pings_served t p.before p.after p.told;
     pings_v6 = pings_v6_served t p.before p.after p.told;
     datagrams = datagrams_queued t p.before p.after p.told;
     datagrams_v6 = datagrams_v6_queued t p.before p.after p.told;
@@ -96,6 +104,13 @@ received t answer p i = record {
     raw_packets_v6 = (raw_packets_queued t p.before p.after p.told).1;
     segments = (segments_queued t p.before p.after p.told).0;
     segments_v6 = (segments_queued t p.before p.after p.told).1;
+    prefixes = (advertisements_learnt t p.before p.after p.told).0;
+    routers = (advertisements_learnt t p.before p.after p.told).1;
+    igmp_queries = (queries_heard t p.before p.after p.told).0;
+    mld_queries = (queries_heard t p.before p.after p.told).1;
+    unknown_protocols = (unknown_told t p.before p.after p.told).0;
+    unknown_protocols_v6 = (unknown_told t p.before p.after p.told).1;
+    unknown_options = options_told t p.before p.after p.told;
     closed_tcp_ports = (ports_reset t p.before p.after p.told).0;
     closed_tcp_ports_v6 = (ports_reset t p.before p.after p.told).1;
     datagrams_to_many = (many_queued t p.before p.after p.told).0;

@@ -397,9 +397,9 @@ reply_sized {H} p real (ByAdvertisement own q message on e c a) is =
     (sized_v6 H.capabilities (packet.Ipv6 q) (v6.Ndisc (NeighborAdvert a.flags a.target (Some own))) []
     (c ∙ ap (λ m. packet.Icmpv6 (v6.Ndisc m) []) a.message_is) refl
     (ndisc_body 2 a.target own (six H.capabilities.medium own (rw on at real.own))))
-reply_sized {H} p real (ByEcho q ident seq_no octets e c s) is = subst (IsSized H.capabilities) (same_packet e is) (sized_echo_v4 H.capabilities _ _ octets c)
+reply_sized {H} p real (ByEcho q ident seq_no octets e c s answers) is = subst (IsSized H.capabilities) (same_packet e is) (sized_echo_v4 H.capabilities _ _ octets c)
 reply_sized {H} p real (ByError q m octets e c cause) is = subst (IsSized H.capabilities) (same_packet e is) (sized_echo_v4 H.capabilities _ m octets c)
-reply_sized {H} p real (ByEchoV6 q ident seq_no octets e c s) is =
+reply_sized {H} p real (ByEchoV6 q ident seq_no octets e c s answers) is =
     subst (IsSized H.capabilities) (same_packet e is) (sized_v6 H.capabilities _ (v6.EchoReply ident seq_no) octets c refl refl)
 reply_sized {H} p real (ByErrorV6 q m octets e c few cause s) is =
     subst (IsSized H.capabilities) (same_packet e is) (error_sized H.capabilities _ m octets c few)

@@ -582,9 +582,9 @@ arp_own : {H : Host} {frame : List ℕ} {reply : Option Reply} {r : ArpRepr} →
 arp_own (Silent e) is = absurd cc
 arp_own (ByArp own s on e a) is = (own, on)
 arp_own (ByAdvertisement own q message on e p a) is = absurd cc
-arp_own (ByEcho q ident seq_no octets e p s) is = absurd cc
+arp_own (ByEcho q ident seq_no octets e p s answers) is = absurd cc
 arp_own (ByError q message octets e p c) is = absurd cc
-arp_own (ByEchoV6 q ident seq_no octets e p s) is = absurd cc
+arp_own (ByEchoV6 q ident seq_no octets e p s answers) is = absurd cc
 arp_own (ByErrorV6 q message octets e p few c s) is = absurd cc
 arp_own (BySegment q header e p c) is = absurd cc
 

@@ -305,7 +305,7 @@ replied_from t frame old new told notes w p is = from_before t (by (reply_origin
   by (ByAdvertisement mine q m here e c a) =
       subst (IsReplyFrom (without_expired old t) frame) (same_packet e is)
       (law.FromTarget (subst (λ x. IsOwn (without_expired old t) (Ipv6 x)) (sym a.from_it) a.own_address))
-  by (ByEcho q ident seq_no o e c s) = subst (IsReplyFrom (without_expired old t) frame) (same_packet e is) s
+  by (ByEcho q ident seq_no o e c s answers) = subst (IsReplyFrom (without_expired old t) frame) (same_packet e is) s
   by (ByError q m o e c cause) = subst (IsReplyFrom (without_expired old t) frame) (same_packet e is) (law.FromReceiver
       (law.OverIpv4 cause.packet cause.carried (ap Ipv4 (cause.from_receiver ∙ at_destination cause.brings)))
       (subst (λ a. replies.IsOneHostV4 old.ip_addrs (bits_of a)) (sym cause.from_receiver) cause.receiver)) where
@@ -315,7 +315,7 @@ replied_from t frame old new told notes w p is = from_before t (by (reply_origin
         at_destination : {packet : List ℕ} {r : Ipv4Repr} {payload : List ℕ} → BringsV4 packet r payload → r.dst_addr ≡ (ipv4_in packet).0.dst_addr
         at_destination (replies.Whole w e p) = ap (λ (x : Ipv4Repr). x.dst_addr) e
         at_destination (replies.Reassembled f e) = ap (λ (x : Ipv4Repr). x.dst_addr) e
-  by (ByEchoV6 q ident seq_no o e c s) = subst (IsReplyFrom (without_expired old t) frame) (same_packet e is) s
+  by (ByEchoV6 q ident seq_no o e c s answers) = subst (IsReplyFrom (without_expired old t) frame) (same_packet e is) s
   by (ByErrorV6 q m o e c few cause s) = subst (IsReplyFrom (without_expired old t) frame) (same_packet e is) s
   by (BySegment q header e c cause) = subst (IsReplyFrom (without_expired old t) frame) (same_packet e is) (law.OfReset header c
       (segment_from (cause.segment, cause.of_version, cause.next, cause.sender, cause.receiver, cause.brings, cause.goes_back)))

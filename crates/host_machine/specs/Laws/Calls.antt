@@ -21,9 +21,12 @@ use Rattle.host_machine.specs.Laws.Service.{SendsPieces, SendsRequests}
 use Rattle.host_machine.specs.Laws.Received.{QueuesEchoRepliesV6, QueuesRawPackets, QueuesRawPacketsV6}
 use Rattle.host_machine.specs.Laws.Received.{QueuesSegments, QueuesSegmentsV6}
 use Rattle.host_machine.specs.Laws.DueReports.{SendsDueReport, SendsDueReportV6}
+use Rattle.host_machine.specs.Laws.Autoconfiguration.{LearnsPrefixes, LearnsRouters}
+use Rattle.host_machine.specs.Laws.HeardQueries.{HearsIgmpQueries, HearsMldQueries}
 use Rattle.host_machine.specs.Laws.Many.{QueuesToMany, QueuesToManyV6, SendsToMany}
 use Rattle.host_machine.specs.Laws.Resets.{ResetsClosedPorts, ResetsClosedPortsV6}
-use Rattle.host_machine.specs.Laws.Reassembled.{AnswersRebuiltPings, QueuesRebuiltDatagrams}
+use Rattle.host_machine.specs.Laws.Protocols.{AnswersUnknownOptions, AnswersUnknownProtocols, AnswersUnknownProtocolsV6}
+use Rattle.host_machine.specs.Laws.Reassembled.{AnswersRebuiltPings, BeginsLongReplies, QueuesRebuiltDatagrams}
 use Rattle.host_machine.specs.Laws.Unfolded.{Unfolds}
 use Rattle.host_machine.specs.Laws.Restraint.Checksums.{DropsWrongHeaders, DropsWrongPayloads, DropsWrongPayloadsV6}
 use Rattle.host_machine.specs.Laws.Restraint.Foreign.{DropsForeignPackets, DropsForeignPacketsV6, DropsFramesForOthers}
@@ -33,7 +36,8 @@ use Rattle.host_machine.specs.Laws.Restraint.Queries.{IgmpGoesOn, IgmpIsAsked, M
 use Rattle.host_machine.specs.Laws.Restraint.Queries.{MldIsAsked}
 use Rattle.host_machine.specs.Laws.Restraint.Readings.{Receives}
 use Rattle.host_machine.specs.Laws.Restraint.Rebuilt.{DropsWrongRebuiltPayloads}
-use Rattle.host_machine.specs.Laws.Restraint.Replies.{AdvertisesOnlyItself, SendsErrorsV6WithCause, SendsErrorsWithCause}
+use Rattle.host_machine.specs.Laws.Restraint.Replies.{AdvertisesOnlyItself, SendsEchoesV6WithCause, SendsEchoesWithCause}
+use Rattle.host_machine.specs.Laws.Restraint.Replies.{SendsErrorsV6WithCause, SendsErrorsWithCause, SendsReplyKinds}
 use Rattle.host_machine.specs.Laws.Restraint.Replies.{SendsResetsWithCause, TellsItselfByArp}
 use Rattle.host_machine.specs.Laws.Restraint.SentFrames.{IsOfReply, SendsInOrder}
 use Rattle.host_machine.specs.Laws.Restraint.Sources.{RepliesFromOwn, SendsFromOwn}
@@ -47,6 +51,7 @@ pub record ServesOthers (t : ℤ) (old : Host) (told : List Event) (new : Host) 
   pub advertisers : LearnsAdvertisers t old told new
   pub pings : AnswersPings t old told new
   pub rebuilt_pings : AnswersRebuiltPings t old told new
+  pub long_pings : BeginsLongReplies t old told new
   pub pings_v6 : AnswersPingsV6 t old told new
   pub datagrams : QueuesDatagrams t old told new
   pub datagrams_v6 : QueuesDatagramsV6 t old told new
@@ -59,8 +64,15 @@ pub record ServesOthers (t : ℤ) (old : Host) (told : List Event) (new : Host) 
   pub raw_packets_v6 : QueuesRawPacketsV6 t old told new
   pub segments : QueuesSegments t old told new
   pub segments_v6 : QueuesSegmentsV6 t old told new
+  pub unknown_protocols : AnswersUnknownProtocols t old told new
+  pub unknown_protocols_v6 : AnswersUnknownProtocolsV6 t old told new
+  pub unknown_options : AnswersUnknownOptions t old told new
   pub closed_tcp_ports : ResetsClosedPorts t old told new
   pub closed_tcp_ports_v6 : ResetsClosedPortsV6 t old told new
+  pub prefixes : LearnsPrefixes t old told new
+  pub routers : LearnsRouters t old told new
+  pub igmp_queries : HearsIgmpQueries t old told new
+  pub mld_queries : HearsMldQueries t old told new
   pub datagrams_to_many : QueuesToMany t old told new
   pub datagrams_to_many_v6 : QueuesToManyV6 t old told new
 
@@ -80,6 +92,9 @@ pub record IsRestrained (t : ℤ) (frame : List ℕ) (reply : Option Reply) (old
   pub settings : KeepsAtFrame frame old new
   pub arp_replies : TellsItselfByArp frame old reply
   pub advertisements : AdvertisesOnlyItself frame old reply
+  pub kinds : SendsReplyKinds reply
+  pub echoes : SendsEchoesWithCause frame old reply
+  pub echoes_v6 : SendsEchoesV6WithCause frame old reply
   pub errors : SendsErrorsWithCause frame old reply
   pub errors_v6 : SendsErrorsV6WithCause frame old reply
   pub resets : SendsResetsWithCause frame old reply

@@ -1,6 +1,6 @@
 -- What a host must do with a payload that comes in fragments: the call that takes the last missing one queues a
 -- datagram, and answers an echo request.
-use Rattle.std.specs.Prelude.{◌≡◌, ◌≤◌, ℕ, ◌+◌, ℤ, true, List, [], ◌∷◌, length}
+use Rattle.std.specs.Prelude.{◌≡◌, ◌<◌, ◌≤◌, ℕ, ◌+◌, ℤ, true, List, [], ◌∷◌, length}
 use Rattle.control_wire.specs.declared.icmpv4.Icmpv4Repr.TheVariants.{EchoRequest, EchoReply}
 use Rattle.control_wire.specs.Icmpv4.{IsIcmpv4, icmpv4_in}
 use Rattle.net_base.specs.Checksum.{is_rx, ip_mtu_of}
@@ -16,19 +16,21 @@ use Rattle.ip_wire.specs.declared.udp.UdpRepr.{UdpRepr}
 use Rattle.ip_wire.specs.Ipv4Packet.{IsIpv4, ipv4_in, is_fragment}
 use Rattle.ip_wire.specs.Udp.{udp_in}
 use Rattle.transport_sockets.specs.Udp.{UdpSocket}
+use Rattle.fragmentation.specs.Cuts.{Piece, pieces_of}
 use Rattle.host_machine.specs.State.Note.{Note, slot_notes}
 use Rattle.host_machine.specs.State.Host.{Host, at, is_assigned}
 use Rattle.host_machine.specs.State.Addresses.{is_unicast_v4}
 use Rattle.host_machine.specs.Receiving.Ipv4.{datagram_header, key_in}
 use Rattle.host_machine.specs.Receiving.Udp.{IsDatagram}
-use Rattle.host_machine.specs.Sending.Packet.{Icmpv4}
+use Rattle.host_machine.specs.Sending.Dispatch.{datagram_of}
+use Rattle.host_machine.specs.Sending.Packet.{Icmpv4, PacketV4}
 use Rattle.host_machine.specs.Sending.Packet as packet
-use Rattle.host_machine.specs.Sending.Frame.{ip_frame}
+use Rattle.host_machine.specs.Sending.Frame.{ip_frame, piece_frame}
 use Rattle.host_machine.specs.Laws.Arrivals.{rebuilt}
-use Rattle.host_machine.specs.Laws.Service.{HasWay, IsAccepted, IsAcceptedBy, IsQueued, IsToItself, Takes, packet_in}
+use Rattle.host_machine.specs.Laws.Service.{HasWay, IsAccepted, IsAcceptedBy, IsOfLink, IsQueued, IsToItself, Takes, packet_in}
 
--- the frame carries a fragment with this header and these fields (RFC 791 3.1), from a unicast address, to one assigned
--- to the host
+-- the frame carries a fragment with this header and these fields (RFC 791 3.1), from a unicast address that may be a
+-- source, to one assigned to the host
 pub record HasFragment (own : HardwareAddress) (H : Host) (frame : List ℕ)
     (r : Ipv4Repr) (fields : Ipv4Fragment) : Type 0 where
   pub taken : IsAccepted own protocol.Ipv4 frame
@@ -37,6 +39,7 @@ pub record HasFragment (own : HardwareAddress) (H : Host) (frame : List ℕ)
   pub fields_are : (ipv4_in (packet_in own frame)).1 ≡ fields
   pub part : is_fragment fields ≡ true
   pub sender : is_unicast_v4 H.ip_addrs r.src_addr ≡ true
+  pub of_link : IsOfLink r.src_addr
   pub receiver : is_unicast_v4 H.ip_addrs r.dst_addr ≡ true
   pub given : is_assigned H.ip_addrs (Ipv4 r.dst_addr) ≡ true
 
@@ -89,6 +92,36 @@ AnswersRebuiltPings t old told new =
       hop_limit = 64;
       payload = Icmpv4 (EchoReply ident seq_no) octets;
     })) ∷ []
+
+-- the reply to it, as a packet and as a datagram that is cut (RFC 791 3.2): to a hardware address, with an identification
+abbrev pub echo_reply : Ipv4Repr → ℕ → ℕ → List ℕ → PacketV4
+echo_reply r ident seq_no octets = record {
+  src_addr = r.dst_addr;
+  dst_addr = r.src_addr;
+  hop_limit = 64;
+  payload = Icmpv4 (EchoReply ident seq_no) octets;
+}
+
+-- the first fragment of a reply was the only frame sent, and the others wait, in place of what waited before
+pub record BeginsReply (old : Host) (h : HardwareAddress) (reply : PacketV4) (told : List Event) (new : Host) : Type 0 where
+  pub first : Piece
+  pub rest : List Piece
+  pub pieces_are : pieces_of (datagram_of old h old.ipv4_id reply) ≡ first ∷ rest
+  pub sent : sent_frames told ≡ piece_frame old first ∷ []
+  pub others_wait : new.left ≡ rest
+
+-- a reply that is longer than the device's packets, of at most 4,096 octets, is sent in fragments
+abbrev pub BeginsLongReplies : ℤ → Host → List Event → Host → Type 0
+BeginsLongReplies t old told new =
+    (own : HardwareAddress) (frame : List ℕ) (r : Ipv4Repr) (ident seq_no : ℕ) (octets : List ℕ)
+    (h : HardwareAddress) →
+    (w : Takes own t frame old told new) → IsToItself own frame → CompletesPing own old frame w.notes r ident seq_no octets →
+    HasWay own (at old t) (Ipv4 r.src_addr) h →
+    ip_mtu_of old.capabilities < 28 + length octets → 28 + length octets ≤ 4096 →
+    BeginsReply old h (echo_reply r ident seq_no octets) told new
+
+abbrev pub LongPingsAreAnswered : Type 0
+LongPingsAreAnswered = (t : ℤ) (old new : Host) (told : List Event) → BeginsLongReplies t old told new
 
 abbrev pub RebuiltPingsAreAnswered : Type 0
 RebuiltPingsAreAnswered = (t : ℤ) (old new : Host) (told : List Event) → AnswersRebuiltPings t old told new

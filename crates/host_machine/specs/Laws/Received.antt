@@ -31,11 +31,12 @@ use Rattle.host_machine.specs.State.Host.{Host, is_assigned}
 use Rattle.host_machine.specs.State.Addresses.{is_unicast_v4}
 use Rattle.host_machine.specs.Receiving.Icmpv6.{IsMessage}
 use Rattle.host_machine.specs.Receiving.Tcp.{IsSegment, destination_of, source_of}
-use Rattle.host_machine.specs.Laws.Service.{HasPacketV4, HasPacketV6, HasPayloadV6, IsAccepted, IsToItself, Takes, packet_in}
+use Rattle.host_machine.specs.Laws.Service.{HasPacketV4, HasPacketV6, HasPayloadV6, IsAccepted, IsOfLink, IsToItself, Takes, packet_in}
 
 -- Raw packets
 
--- the frame carries a whole IPv4 packet with this header and this payload, from a unicast address, to any address
+-- the frame carries a whole IPv4 packet with this header and this payload, from a unicast address that may be a source, to
+-- any address
 pub record CarriesPacket (own : HardwareAddress) (H : Host) (frame : List ℕ)
     (r : Ipv4Repr) (payload : List ℕ) : Type 0 where
   pub taken : IsAccepted own protocol.Ipv4 frame
@@ -44,6 +45,7 @@ pub record CarriesPacket (own : HardwareAddress) (H : Host) (frame : List ℕ)
   pub whole : is_fragment (ipv4_in (packet_in own frame)).1 ≡ false
   pub behind : (ipv4_in (packet_in own frame)).2 ≡ payload
   pub sender : is_unicast_v4 H.ip_addrs r.src_addr ≡ true
+  pub of_link : IsOfLink r.src_addr
 
 -- a packet as a raw socket gets it: its header is written anew, without options
 abbrev pub raw_packet : Host → IpRepr → List ℕ → List ℕ

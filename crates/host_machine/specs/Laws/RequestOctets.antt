@@ -19,7 +19,7 @@ use Rattle.control_wire.specs.Icmpv4.{IsEchoRequest}
 use Rattle.host_machine.specs.State.Host.{Host, in_same_network, is_assigned}
 use Rattle.host_machine.specs.State.Addresses.{has_solicited_node, is_unicast_v4}
 use Rattle.host_machine.specs.Laws.ReplyOctets.{behind_header}
-use Rattle.host_machine.specs.Laws.Service.{Pings, Solicits}
+use Rattle.host_machine.specs.Laws.Service.{IsOfLink, Pings, Solicits}
 
 -- a frame with a type (RFC 894, RFC 2464), to a host with this hardware address, or to many: the first octet is odd
 -- (IEEE 802.3 3.2.3)
@@ -54,7 +54,8 @@ PingFramesAreRead =
     (own : EthernetAddress) (H : Host) (frame packet message : List ℕ) →
     packet ≡ drop 14 frame → message ≡ behind_header packet →
     IsFrameTo own 0x0800 frame → CarriesIcmp packet → IsEchoRequest message →
-    is_unicast_v4 H.ip_addrs (source_of packet) ≡ true → is_unicast_v4 H.ip_addrs (destination_of packet) ≡ true →
+    is_unicast_v4 H.ip_addrs (source_of packet) ≡ true → IsOfLink (source_of packet) →
+    is_unicast_v4 H.ip_addrs (destination_of packet) ≡ true →
     is_assigned H.ip_addrs (Ipv4 (destination_of packet)) ≡ true →
     Pings (hardware.Ethernet own) H frame (packet_v4.header_in packet)
     (u16_at message 4) (u16_at message 6) (drop 8 message)

@@ -1,6 +1,6 @@
 -- What a host must do: requests are answered in the call that receives them, packets for a socket are in its queue, and
 -- what may be sent is sent.
-use Rattle.std.specs.Prelude.{◌≡◌, ◌≢◌, ℕ, ◌+◌, ◌<◌, ◌≤◌, ℤ, pos, ◌≤ℤ◌, ◌<ℤ◌, ◌⊎◌, ◌||◌, ◌&&◌, not, is_some}
+use Rattle.std.specs.Prelude.{◌≡◌, ◌≢◌, ℕ, ◌+◌, ◌*◌, ◌/◌, ◌^◌, ◌<◌, ◌≤◌, ℤ, pos, ◌≤ℤ◌, ◌<ℤ◌, ◌⊎◌, ◌||◌, ◌&&◌, not, is_some}
 use Rattle.std.specs.Prelude.{Bool, true, false, List, [], ◌∷◌, ◌++◌, length, drop, take, slice_get, Option, Some, None}
 use Rattle.std.specs.Int.RustNames.{bit_and}
 use Rattle.std.specs.List.{list_all}
@@ -188,7 +188,14 @@ abbrev pub HasWay : HardwareAddress → Host → IpAddress → HardwareAddress �
 HasWay (hardware.Ethernet own) H a h = IsReached H a h
 HasWay hardware.Ip H a h = h ≡ hardware.Ip
 
--- the frame carries a whole IPv4 packet with this header and this payload, from a unicast address, to
+-- an address that may be a source on a link: neither of 127.0.0.0/8, which stays within a host, nor of 240.0.0.0/4, which is
+-- reserved. A packet from one of these is to be dropped, and brings no error (RFC 1122 3.2.1.3, 3.2.2): so no law of
+-- service is about it
+pub record IsOfLink (a : Ipv4Address) : Type 0 where
+  pub no_loopback : a.bits / 2 ^ 24 ≢ 127
+  pub not_reserved : a.bits < 240 * 2 ^ 24
+
+-- the frame carries a whole IPv4 packet with this header and this payload, from a unicast address that may be a source, to
 -- one assigned to the host
 pub record HasPacketV4 (own : HardwareAddress) (H : Host) (frame : List ℕ)
     (r : Ipv4Repr) (payload : List ℕ) : Type 0 where
@@ -198,6 +205,7 @@ pub record HasPacketV4 (own : HardwareAddress) (H : Host) (frame : List ℕ)
   pub whole : is_fragment (ipv4_in (packet_in own frame)).1 ≡ false
   pub behind : (ipv4_in (packet_in own frame)).2 ≡ payload
   pub sender : is_unicast_v4 H.ip_addrs r.src_addr ≡ true
+  pub of_link : IsOfLink r.src_addr
   pub receiver : is_unicast_v4 H.ip_addrs r.dst_addr ≡ true
   pub given : is_assigned H.ip_addrs (Ipv4 r.dst_addr) ≡ true
 
@@ -635,7 +643,7 @@ pub record AdvertisesItself (own : EthernetAddress) (H : Host) (frame : List ℕ
   pub for_host : is_assigned H.ip_addrs (Ipv6 r.dst_addr) ≡ true
 
 -- it is a known neighbour after the call that receives it, and nothing is sent: so who was asked for is known once it
--- answers (RFC 4861 7.2.5)
+-- answers (RFC 4861 7.2.5). That one is known, too, whom nobody asked for, is kept, against RFC 4861 7.2.5
 abbrev pub LearnsAdvertisers : ℤ → Host → List Event → Host → Type 0
 LearnsAdvertisers t old told new =
     (own : EthernetAddress) (frame : List ℕ) (r : Ipv6Repr) (flags : NdiscNeighborFlags) (target : Ipv6Address)

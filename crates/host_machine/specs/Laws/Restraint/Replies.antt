@@ -1,9 +1,10 @@
--- Which replies a received frame may bring: a host tells its hardware address for an own address, and an error or a
--- reset has a cause in the packet that brought it (RFC 826, RFC 4861 7.2.4, RFC 1122 3.2.2, RFC 4443 2.4, RFC 9293
--- 3.5.2). Where the machine sends more than an RFC allows, as errors of ICMPv6 for packets to groups, nothing is said.
+-- Which replies a received frame may bring: a host tells its hardware address for an own address, and an echo reply, an
+-- error or a reset has a cause in the packet that brought it (RFC 826, RFC 4861 7.2.4, RFC 1122 3.2.2, RFC 4443 2.4, RFC
+-- 9293 3.5.2). Nothing else is a reply. Where the machine sends more than an RFC allows, as errors of ICMPv6 for packets to groups, nothing is said.
 use Rattle.std.specs.Prelude.{◌≡◌, ◌≢◌, ◌⊎◌, ℕ, ◌/◌, ◌%◌, ◌^◌, ◌≤◌, ℤ, true, false}
 use Rattle.std.specs.Prelude.{List, [], length, take, drop, slice_get, slice_index, Option, Some, None}
 use Rattle.std.specs.List.{AllByRecursion}
+use Rattle.wire_base.specs.Octets.{u16_at}
 use Rattle.net_base.specs.Device.{Event}
 use Rattle.ip_address.specs.Protocol.{number_of}
 use Rattle.ip_address.specs.declared.cidr.IpCidr.{IpCidr}
@@ -28,7 +29,7 @@ use Rattle.ipv6_wire.specs.declared.hop_by_hop.Ipv6OptionFailureType.TheVariants
 use Rattle.ipv6_wire.specs.Ipv6Packet.{ipv6_in}
 use Rattle.control_wire.specs.declared.icmpv4.Icmpv4DstUnreachable.{Icmpv4DstUnreachable}
 use Rattle.control_wire.specs.declared.icmpv4.Icmpv4Repr.{Icmpv4Repr}
-use Rattle.control_wire.specs.declared.icmpv4.Icmpv4Repr.TheVariants.{DstUnreachable}
+use Rattle.control_wire.specs.declared.icmpv4.Icmpv4Repr.TheVariants.{EchoReply, DstUnreachable}
 use Rattle.control_wire.specs.Icmpv4 as icmpv4
 use Rattle.icmpv6_wire.specs.Icmpv6 as icmpv6
 use Rattle.icmpv6_wire.specs.declared.icmpv6.Icmpv6Repr.{Icmpv6Repr}
@@ -41,7 +42,7 @@ use Rattle.transport_sockets.specs.Tcp.{TcpSocket}
 use Rattle.host_machine.specs.State.Note.{Note}
 use Rattle.host_machine.specs.State.Host.{Host, Storage}
 use Rattle.host_machine.specs.Receiving.Reply.{Reply, Arp, Ip}
-use Rattle.host_machine.specs.Sending.Packet.{Packet, PacketV4, PacketV6}
+use Rattle.host_machine.specs.Sending.Packet.{IpPayload, Packet, PacketV4, PacketV6}
 use Rattle.host_machine.specs.Sending.Packet as packet
 use Rattle.host_machine.specs.Laws.Restraint.Foreign.{IsNoBroadcastOf}
 use Rattle.host_machine.specs.Laws.Restraint.Neighbors.{IsOwn}
@@ -155,6 +156,33 @@ ErrorsHaveCause =
     (t : ℤ) (frame : List ℕ) (old new : Host) (told : List Event) (notes : List Note) →
     (w : Receives t frame old told notes new) → SendsErrorsWithCause frame old w.call.response.reply
 
+-- an echo reply is sent to the sender of an echo request that the frame brought, and has its identifier, its sequence
+-- number and its data (RFC 792, RFC 1122 3.2.2.6)
+pub record AnswersEchoV4 (H : Host) (frame : List ℕ) (q : PacketV4) (message : Icmpv4Repr)
+    (octets : List ℕ) : Type 0 where
+  pub packet : List ℕ
+  pub header : Ipv4Repr
+  pub request : List ℕ
+  pub carried : CarriesV4 H.hardware_addr frame packet
+  pub brings : BringsV4 packet header request
+  pub of_icmp : header.next_header ≡ protocol.Icmp
+  pub type : slice_index request 0 ≡ 8
+  pub to_sender : q.dst_addr ≡ header.src_addr
+  pub echoes : message ≡ EchoReply (u16_at request 4) (u16_at request 6)
+  pub data_is : octets ≡ drop 8 request
+
+-- each echo reply to a frame is one
+abbrev pub SendsEchoesWithCause : List ℕ → Host → Option Reply → Type 0
+SendsEchoesWithCause frame old reply =
+    (q : PacketV4) (message : Icmpv4Repr) (octets : List ℕ) →
+    reply ≡ Some (Ip (packet.Ipv4 q)) → q.payload ≡ packet.Icmpv4 message octets →
+    icmpv4.type_of message ≡ 0 → AnswersEchoV4 old frame q message octets
+
+abbrev pub EchoesHaveCause : Type 0
+EchoesHaveCause =
+    (t : ℤ) (frame : List ℕ) (old new : Host) (told : List Event) (notes : List Note) →
+    (w : Receives t frame old told notes new) → SendsEchoesWithCause frame old w.call.response.reply
+
 -- the protocol of the payload of an IPv6 packet, and the payload: after the header, or after hop-by-hop options
 pub data BringsV6 (packet : List ℕ) (p : IpProtocol) (payload : List ℕ) : Type 0 where
   AfterHeader : p ≡ (ipv6_in packet).0.next_header → payload ≡ (ipv6_in packet).1 → BringsV6 packet p payload
@@ -191,6 +219,53 @@ abbrev pub ErrorsV6HaveCause : Type 0
 ErrorsV6HaveCause =
     (t : ℤ) (frame : List ℕ) (old new : Host) (told : List Event) (notes : List Note) →
     (w : Receives t frame old told notes new) → SendsErrorsV6WithCause frame old w.call.response.reply
+
+-- the same over IPv6 (RFC 4443 4.2)
+pub record AnswersEchoV6 (H : Host) (frame : List ℕ) (q : PacketV6) (message : Icmpv6Repr)
+    (octets : List ℕ) : Type 0 where
+  pub packet : List ℕ
+  pub request : List ℕ
+  pub carried : CarriesV6 H.hardware_addr frame packet
+  pub brings : BringsV6 packet protocol.Icmpv6 request
+  pub type : slice_index request 0 ≡ 128
+  pub to_sender : q.dst_addr ≡ (ipv6_in packet).0.src_addr
+  pub echoes : message ≡ v6.EchoReply (u16_at request 4) (u16_at request 6)
+  pub data_is : octets ≡ drop 8 request
+
+abbrev pub SendsEchoesV6WithCause : List ℕ → Host → Option Reply → Type 0
+SendsEchoesV6WithCause frame old reply =
+    (q : PacketV6) (message : Icmpv6Repr) (octets : List ℕ) →
+    reply ≡ Some (Ip (packet.Ipv6 q)) → q.payload ≡ packet.Icmpv6 message octets →
+    icmpv6.type_of message ≡ 129 → AnswersEchoV6 old frame q message octets
+
+abbrev pub EchoesV6HaveCause : Type 0
+EchoesV6HaveCause =
+    (t : ℤ) (frame : List ℕ) (old new : Host) (told : List Event) (notes : List Note) →
+    (w : Receives t frame old told notes new) → SendsEchoesV6WithCause frame old w.call.response.reply
+
+-- Kinds
+
+-- what a reply may carry: an echo reply or an error of ICMP; the same of ICMPv6, or an advertisement of an address; or a
+-- segment. So no frame is answered by a report of a group, by a datagram, by a request or by a raw packet
+abbrev pub IsOfReplyKind : IpPayload → Type 0
+IsOfReplyKind (packet.Icmpv4 message octets) =
+    (icmpv4.type_of message ≡ 0) ⊎ (icmpv4.type_of message ≡ 3)
+IsOfReplyKind (packet.Icmpv6 message octets) =
+    (icmpv6.type_of message ≤ 4) ⊎ (icmpv6.type_of message ≡ 129) ⊎ (icmpv6.type_of message ≡ 136)
+IsOfReplyKind (packet.Tcp header octets) = Unit {0}
+IsOfReplyKind (packet.Udp header octets) = ⊥
+IsOfReplyKind (packet.Raw number octets) = ⊥
+IsOfReplyKind (packet.Igmp message) = ⊥
+IsOfReplyKind (packet.Mld count records) = ⊥
+
+-- each packet in reply to a frame carries one of these
+abbrev pub SendsReplyKinds : Option Reply → Type 0
+SendsReplyKinds reply = (q : Packet) → reply ≡ Some (Ip q) → IsOfReplyKind (packet.payload_of q)
+
+abbrev pub RepliesAreOfKinds : Type 0
+RepliesAreOfKinds =
+    (t : ℤ) (frame : List ℕ) (old new : Host) (told : List Event) (notes : List Note) →
+    (w : Receives t frame old told notes new) → SendsReplyKinds w.call.response.reply
 
 -- Resets
 

@@ -1,0 +1,5 @@
+use Rattle.host_machine.proofs.Receiving.RebuiltPings.{long_pings_served}
+use Rattle.host_machine.proofs.laws.long_pings_are_answered.Goals as goal
+
+pub returns : goal.returns
+returns c = long_pings_served
