@@ -131,7 +131,7 @@ pub still : (H new : Host) → new.capabilities ≡ H.capabilities → new.hardw
     new.left ≡ H.left → IsRegular H → Follows H new
 still H new c h n l r = follows H new c l (record { own = rw (c, h) r.real.own; neighbors = rw (c, n) r.real.neighbors }) r
 
-cuts_follow : (H : Host) (h : HardwareAddress) (id : ℕ) (p : PacketV4) (first : Piece) (rest : List Piece) →
+pub cuts_follow : (H : Host) (h : HardwareAddress) (id : ℕ) (p : PacketV4) (first : Piece) (rest : List Piece) →
     pieces_of (datagram_of H h id p) ≡ first ∷ rest → HasForm (datagram_of H h id p) → Reached H h →
     RegularOver H (piece_frame H first ∷ []) (OfCuts (Cut (datagram_of H h id p)) ∷ OfCuts (PieceSent first) ∷ []) (with_left H rest)
 cuts_follow H h id p first rest e form reached = λ r. record {

@@ -59,7 +59,7 @@ use Rattle.host_laws.specs.EndToEnd.{GetWhatWasSent, LeaveQueues, MayRebuild, Ru
 use Rattle.host_laws.proofs.ReadBack.{IsRead, read_payload, read_whole}
 use Rattle.host_laws.proofs.RegularHosts.{SendsOver, all_send}
 
-all_in : {X : Type 0} (P : X → Type 0) (xs : List X) (x : X) → AllByRecursion P xs → IsIn x xs → P x
+pub all_in : {X : Type 0} (P : X → Type 0) (xs : List X) (x : X) → AllByRecursion P xs → IsIn x xs → P x
 all_in P [] x all i = absurd i
 all_in P (y ∷ xs) x all (inl e) = rw e all.0
 all_in P (y ∷ xs) x all (inr i) = all_in P xs x all.1 i
@@ -69,12 +69,12 @@ all_parted P [] ys all = (tt, all)
 all_parted P (x ∷ xs) ys all = let r = all_parted P xs ys all.1 in ((all.0, r.0), r.1)
 
 -- where what is in all is in some place
-record FrameAt (ps : List Transition) (frame : List ℕ) : Type 0 where
-  place : Transition
-  is_there : IsIn place ps
-  sent_there : IsIn frame (sent_frames place.told)
+pub record FrameAt (ps : List Transition) (frame : List ℕ) : Type 0 where
+  pub place : Transition
+  pub is_there : IsIn place ps
+  pub sent_there : IsIn frame (sent_frames place.told)
 
-frame_at : (ps : List Transition) (frame : List ℕ) → IsIn frame (sent_frames (events_in ps)) → FrameAt ps frame
+pub frame_at : (ps : List Transition) (frame : List ℕ) → IsIn frame (sent_frames (events_in ps)) → FrameAt ps frame
 frame_at [] frame i = absurd i
 frame_at (p ∷ ps) frame i = by (λ j. frame_at ps frame j)
     (in_either (sent_frames p.told) (sent_frames (events_in ps)) frame (subst (IsIn frame) (sent_frames-append p.told (events_in ps)) i)) where

@@ -53,11 +53,11 @@ pub record Brought (H : Host) (frame : List ℕ) (noted : List SlotNote) (new : 
   pub hands : Hands header octets H new
 
 -- what a fragment completes is noted last
-record Completes (key : FragKey) (octets : List ℕ) (notes : List SlotNote) : Type 0 where
-  earlier : List SlotNote
-  last : notes ≡ earlier ++ Rebuild key octets ∷ []
+pub record Completes (key : FragKey) (octets : List ℕ) (notes : List SlotNote) : Type 0 where
+  pub earlier : List SlotNote
+  pub last : notes ≡ earlier ++ Rebuild key octets ∷ []
 
-completes : {ends : ℤ} {key : FragKey} {f : Fragment} {octets : List ℕ} {slots new : Slots} {notes : List SlotNote} →
+pub completes : {ends : ℤ} {key : FragKey} {f : Fragment} {octets : List ℕ} {slots new : Slots} {notes : List SlotNote} →
     Reassembles ends key f (Some octets) slots notes new → Completes key octets notes
 completes (NoSlot none full o n x) = absurd cc
 completes (Unfit slot first e fit o n x) = absurd cc

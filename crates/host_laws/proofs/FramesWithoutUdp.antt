@@ -253,26 +253,35 @@ piece_none m H p own is K x octets mine (spec.AfterOptions packet c i u z o skip
     other_packet_v6 m H.hardware_addr p.destination K.hardware_addr (piece_text H.capabilities p) packet own is.destination mine
     (version_four _ (piece_header p) (piece_fragment p) p.fragment.octets) c
 
+-- a frame that carries no packet, or one of ICMPv6
+pub record CarriesAtMostIcmpv6 (m : Medium) (frame : List ℕ) : Type 0 where
+  pub over_ipv4 : (h : HardwareAddress) (packet : List ℕ) → IsOf m h → Carries h frame packet → ⊥
+  pub over_ipv6 : (h : HardwareAddress) (packet : List ℕ) → IsOf m h → CarriesIpv6 h frame packet →
+      number_of (ipv6_in packet).0.next_header ≡ 58
+
+at_most_none : {m : Medium} {frame : List ℕ} → CarriesAtMostIcmpv6 m frame → CarriesNoUdp m frame
+at_most_none a K x octets mine (spec.OverIpv4 packet c i may part udp is_x is_octets) = a.over_ipv4 K.hardware_addr packet mine c
+at_most_none a K x octets mine (spec.OverIpv6 packet c i u udp is_x is_octets) = let n = a.over_ipv6 K.hardware_addr packet mine c in
+    let m : number_of (ipv6_in packet).0.next_header ≡ 17 = ap number_of udp in omega (arith, n, m)
+at_most_none a K x octets mine (spec.AfterOptions packet c i u z o skip udp is_x is_octets) =
+    let n = a.over_ipv6 K.hardware_addr packet mine c in omega (arith, n, z)
+
+-- on Ethernet a packet stands behind a header
+stands : (h : HardwareAddress) → IsOf medium.Ethernet h → h ≡ hardware.Ip → ⊥
+stands hardware.Ip of e = of
+stands (hardware.Ethernet a) of e = no_address a e
+
 -- a frame of another type carries none
-by_type : (m : Medium) (frame : List ℕ) (type : EthernetProtocol) →
-    m ≡ medium.Ethernet → (header_in frame).ethertype ≡ type → (type ≡ protocol.Ipv4 → ⊥) → (type ≡ protocol.Ipv6 → ⊥) → CarriesNoUdp m frame
-by_type m frame type on is four six K x octets mine b = by b where
-  ethernet : (h : HardwareAddress) → IsOf m h → h ≡ hardware.Ip → ⊥
-  ethernet hardware.Ip of e = rw on at of
-  ethernet (hardware.Ethernet a) of e = no_address a e
+by_type : (frame : List ℕ) (type : EthernetProtocol) → (header_in frame).ethertype ≡ type →
+    (type ≡ protocol.Ipv4 → ⊥) → (type ≡ protocol.Ipv6 → ⊥) → CarriesAtMostIcmpv6 medium.Ethernet frame
+by_type frame type is four six = record { over_ipv4 = v4; over_ipv6 = λ h packet of c. absurd (v6 h packet of c) } where
+  v4 : (h : HardwareAddress) (packet : List ℕ) → IsOf medium.Ethernet h → Carries h frame packet → ⊥
+  v4 h packet of (frames.OverEthernet a e w for type' at) = four (sym is ∙ type')
+  v4 h packet of (frames.AsItStands e v at) = stands h of e
 
-  v4 : (packet : List ℕ) → Carries K.hardware_addr frame packet → ⊥
-  v4 packet (frames.OverEthernet a e w for type' at) = four (sym is ∙ type')
-  v4 packet (frames.AsItStands e v at) = ethernet K.hardware_addr mine e
-
-  v6 : (packet : List ℕ) → CarriesIpv6 K.hardware_addr frame packet → ⊥
-  v6 packet (spec.OverEthernet a e w for type' at) = six (sym is ∙ type')
-  v6 packet (spec.AsItStands e v at) = ethernet K.hardware_addr mine e
-
-  by : BringsPacket K frame x octets → ⊥
-  by (spec.OverIpv4 packet c i may part udp is_x is_octets) = v4 packet c
-  by (spec.OverIpv6 packet c i u udp is_x is_octets) = v6 packet c
-  by (spec.AfterOptions packet c i u z o skip udp is_x is_octets) = v6 packet c
+  v6 : (h : HardwareAddress) (packet : List ℕ) → IsOf medium.Ethernet h → CarriesIpv6 h frame packet → ⊥
+  v6 h packet of (spec.OverEthernet a e w for type' at) = six (sym is ∙ type')
+  v6 h packet of (spec.AsItStands e v at) = stands h of e
 
 arp_not_four : protocol.Arp ≡ protocol.Ipv4 → ⊥
 arp_not_four e = cc
@@ -280,12 +289,16 @@ arp_not_four e = cc
 arp_not_six : protocol.Arp ≡ protocol.Ipv6 → ⊥
 arp_not_six e = cc
 
-pub arp_none : (m : Medium) (r : ArpRepr) → IsOf m (hardware.Ethernet r.source_hardware_addr) →
-    IsOf m (hardware.Ethernet r.target_hardware_addr) → CarriesNoUdp m (arp_frame r)
-arp_none medium.Ethernet r s t = by_type medium.Ethernet (arp_frame r) protocol.Arp refl
+pub arp_at_most : (m : Medium) (r : ArpRepr) → IsOf m (hardware.Ethernet r.source_hardware_addr) →
+    IsOf m (hardware.Ethernet r.target_hardware_addr) → CarriesAtMostIcmpv6 m (arp_frame r)
+arp_at_most medium.Ethernet r s t = by_type (arp_frame r) protocol.Arp
     (type_is r.source_hardware_addr r.target_hardware_addr protocol.Arp (arp.text r)
     (record { destination = t; source = s; number = omega arith; protocol = refl })) arp_not_four arp_not_six
-arp_none medium.Ip r s t = absurd s
+arp_at_most medium.Ip r s t = absurd s
+
+pub arp_none : (m : Medium) (r : ArpRepr) → IsOf m (hardware.Ethernet r.source_hardware_addr) →
+    IsOf m (hardware.Ethernet r.target_hardware_addr) → CarriesNoUdp m (arp_frame r)
+arp_none m r s t = at_most_none (arp_at_most m r s t)
 
 -- nor does a request for a hardware address
 and_left : (a b : Bool) → (a && b) ≡ true → a ≡ true
@@ -299,14 +312,14 @@ and_right false b e = absurd cc
 type_of : (frame : List ℕ) (n : ℕ) → (u16_at frame 12 == n) ≡ true → u16_at frame 12 ≡ n
 type_of frame n e = grind (arith, nat_tests)
 
-arp_request_none : (frame : List ℕ) → is_arp_request frame ≡ true → CarriesNoUdp medium.Ethernet frame
-arp_request_none frame e =
+arp_request : (frame : List ℕ) → is_arp_request frame ≡ true → CarriesAtMostIcmpv6 medium.Ethernet frame
+arp_request frame e =
     let n : u16_at frame 12 ≡ 0x0806 = type_of frame 0x0806 (and_left (u16_at frame 12 == 0x0806) (u16_at frame 20 == 1) e) in
     let type : (header_in frame).ethertype ≡ protocol.Arp = rw n refl in
-    by_type medium.Ethernet frame protocol.Arp refl type arp_not_four arp_not_six
+    by_type frame protocol.Arp type arp_not_four arp_not_six
 
-solicitation_none : (frame : List ℕ) → is_solicitation frame ≡ true → CarriesNoUdp medium.Ethernet frame
-solicitation_none frame e K x octets mine b = by b where
+solicitation : (frame : List ℕ) → is_solicitation frame ≡ true → CarriesAtMostIcmpv6 medium.Ethernet frame
+solicitation frame e = record { over_ipv4 = v4; over_ipv6 = icmp } where
   both : (u16_at frame 12 == 0x86dd && slice_index frame 20 == 58) ≡ true
   both = and_left (u16_at frame 12 == 0x86dd && slice_index frame 20 == 58) (slice_index frame 54 == 135) e
 
@@ -320,27 +333,21 @@ solicitation_none frame e K x octets mine b = by b where
   six : protocol.Ipv6 ≡ protocol.Ipv4 → ⊥
   six e = cc
 
-  stands : (h : HardwareAddress) → IsOf medium.Ethernet h → h ≡ hardware.Ip → ⊥
-  stands hardware.Ip of e = of
-  stands (hardware.Ethernet a) of e = no_address a e
+  v4 : (h : HardwareAddress) (packet : List ℕ) → IsOf medium.Ethernet h → Carries h frame packet → ⊥
+  v4 h packet of (frames.OverEthernet a e w for type' at) = six (sym type ∙ type')
+  v4 h packet of (frames.AsItStands e v at) = stands h of e
 
-  v4 : (packet : List ℕ) → Carries K.hardware_addr frame packet → ⊥
-  v4 packet (frames.OverEthernet a e w for type' at) = six (sym type ∙ type')
-  v4 packet (frames.AsItStands e v at) = stands K.hardware_addr mine e
+  icmp : (h : HardwareAddress) (packet : List ℕ) → IsOf medium.Ethernet h → CarriesIpv6 h frame packet →
+      number_of (ipv6_in packet).0.next_header ≡ 58
+  icmp h packet of (spec.OverEthernet a e w for type' at) = rw (at, next) refl
+  icmp h packet of (spec.AsItStands e v at) = absurd (stands h of e)
 
-  icmp : (packet : List ℕ) → CarriesIpv6 K.hardware_addr frame packet → number_of (ipv6_in packet).0.next_header ≡ 58
-  icmp packet (spec.OverEthernet a e w for type' at) = rw (at, next) refl
-  icmp packet (spec.AsItStands e v at) = absurd (stands K.hardware_addr mine e)
-
-  by : BringsPacket K frame x octets → ⊥
-  by (spec.OverIpv4 packet c i may part udp is_x is_octets) = v4 packet c
-  by (spec.OverIpv6 packet c i u udp is_x is_octets) = let n = icmp packet c in
-      let m : number_of (ipv6_in packet).0.next_header ≡ 17 = ap number_of udp in omega (arith, n, m)
-  by (spec.AfterOptions packet c i u z o skip udp is_x is_octets) = let n = icmp packet c in omega (arith, n, z)
+pub request_at_most : (m : Medium) (frame : List ℕ) → is_request m frame ≡ true → CarriesAtMostIcmpv6 m frame
+request_at_most medium.Ethernet frame e = by (is_arp_request frame) refl e where
+  by : (b : Bool) → is_arp_request frame ≡ b → (b || is_solicitation frame) ≡ true → CarriesAtMostIcmpv6 medium.Ethernet frame
+  by true is e = arp_request frame is
+  by false is e = solicitation frame e
+request_at_most medium.Ip frame e = absurd cc
 
 pub request_none : (m : Medium) (frame : List ℕ) → is_request m frame ≡ true → CarriesNoUdp m frame
-request_none medium.Ethernet frame e = by (is_arp_request frame) refl e where
-  by : (b : Bool) → is_arp_request frame ≡ b → (b || is_solicitation frame) ≡ true → CarriesNoUdp medium.Ethernet frame
-  by true is e = arp_request_none frame is
-  by false is e = solicitation_none frame e
-request_none medium.Ip frame e = absurd cc
+request_none m frame e = at_most_none (request_at_most m frame e)

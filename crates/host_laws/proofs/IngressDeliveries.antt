@@ -89,7 +89,7 @@ dispatched {p} {outcome} {H} {new} {frames} {notes} (dispatch.ToSpecified more s
     let u = over H.ipv4_id H.hardware_addr p outcome (with_next_id H) frames more new d in
     record { seen_is = u.seen_is; sockets_are = u.sockets_are; unnoted = ap slot_notes n ∙ u.unnoted }
 
-responded : (reply : Option Reply) (H : Host) (frames : List (List ℕ)) (notes : List Note) (new : Host) →
+pub responded : (reply : Option Reply) (H : Host) (frames : List (List ℕ)) (notes : List Note) (new : Host) →
     Responds reply H frames notes new → NotAccepted H notes new
 responded None H frames notes new r = still r.2 r.1
 responded (Some (Arp packet)) H frames notes new r = still r.2 r.1

@@ -23,3 +23,15 @@ mod GroupsToName
 pub mod LessWork
 mod QueuedExample
 pub mod PingsBack
+mod RawHandover
+mod RawReception
+mod RawFrames
+mod RawReplies
+mod NoSegments
+mod Unspoken
+pub mod RawSending
+pub mod RawTurns
+pub mod RawTraffic
+pub mod RawOrigin
+pub mod RawTcp
+mod RawExample

@@ -39,7 +39,7 @@ use Rattle.host_machine.specs.Sending.Packet as packet
 use Rattle.host_machine.specs.Sending.Frame.{link_header, packet_text, payload_text}
 use Rattle.host_machine.specs.Polling.Run.{Transition}
 use Rattle.host_machine.specs.Laws.Calls.{IsCallOf, IsEgress, IsIngress, KeepsCallLaws}
-use Rattle.host_machine.specs.Laws.Service.{HasPacketV4, IsToItself, Pings as AsksByEcho, HasEchoReply, Takes}
+use Rattle.host_machine.specs.Laws.Service.{HasPacketV4, IsOfLink, IsToItself, Pings as AsksByEcho, HasEchoReply, Takes}
 use Rattle.host_machine.proofs.Receiving.FrameReplies.{pings_served}
 use Rattle.host_machine.proofs.Receiving.EchoReplies.{replies_queued}
 use Rattle.host_machine.proofs.Sending.FirstPackets.{first_echoes_go}
@@ -86,9 +86,10 @@ reads : (H K : Host) (own far : EthernetAddress) (p : PacketV4) (message : Icmpv
     H.hardware_addr ≡ hardware.Ethernet own → length own.0 ≡ 6 → length far.0 ≡ 6 →
     is_tx H.capabilities.checksum.ipv4 ≡ true → is_tx H.capabilities.checksum.icmpv4 ≡ true →
     p.src_addr.bits < 2 ^ 32 → p.dst_addr.bits < 2 ^ 32 → 28 + length octets < 2 ^ 16 →
-    is_unicast_v4 K.ip_addrs p.src_addr ≡ true → is_unicast_v4 K.ip_addrs p.dst_addr ≡ true → is_assigned K.ip_addrs (Ipv4 p.dst_addr) ≡ true →
+    is_unicast_v4 K.ip_addrs p.src_addr ≡ true → IsOfLink p.src_addr → is_unicast_v4 K.ip_addrs p.dst_addr ≡ true →
+    is_assigned K.ip_addrs (Ipv4 p.dst_addr) ≡ true →
     ReadsEcho far K (message_frame H far p) (header_v4 p) message octets (echo_text H message octets)
-reads H K own far p message octets is m eight len on six_own six_far headers messages source destination short from_one to_one given =
+reads H K own far p message octets is m eight len on six_own six_far headers messages source destination short from_one of_link to_one given =
     let text : List ℕ = echo_text H message octets in
     let r : Ipv4Repr = header_v4 p in
     let summed = is_tx H.capabilities.checksum.ipv4 in
@@ -127,6 +128,7 @@ reads H K own far p message octets is m eight len on six_own six_far headers mes
         whole = ap (λ (x : Ipv4Repr × Ipv4Fragment × List ℕ). is_fragment x.1) values;
         behind = ap (λ (x : Ipv4Repr × Ipv4Fragment × List ℕ). x.2) values;
         sender = from_one;
+        of_link = of_link;
         receiver = to_one;
         given = given;
       };
@@ -155,7 +157,7 @@ answered ha hb a b hop_limit ident seq_no octets t u A B B' told_b ka kb ident_f
     let asked = reads A B ha hb request (EchoRequest ident seq_no) octets refl (ident_fits, seq_no_fits) refl
     (request_len (is_tx A.capabilities.checksum.icmpv4) (is_tx A.capabilities.checksum.ipv4) ident seq_no octets)
     ka.on_ethernet ka.octets kb.octets ka.headers_summed ka.messages_summed ka.bits kb.bits short
-    kb.peer_is_one kb.one kb.given in
+    kb.peer_is_one ka.of_link kb.one kb.given in
     let pings : AsksByEcho (hardware.Ethernet hb) B (message_frame A hb request) (header_v4 request) ident seq_no octets = record {
       payload = echo_text A (EchoRequest ident seq_no) octets;
       in_packet = asked.in_packet;
@@ -179,7 +181,7 @@ come_back ha hb a b ident seq_no octets t u v i k A A' B B' C C' told_a told_b t
     let told = reads B C hb ha reply (EchoReply ident seq_no) octets refl (p.ident_fits, p.seq_no_fits) refl
     (reply_len (is_tx B.capabilities.checksum.icmpv4) (is_tx B.capabilities.checksum.ipv4) ident seq_no octets)
     kb.on_ethernet kb.octets ka.octets kb.headers_summed kb.messages_summed kb.bits ka.bits p.short
-    kc.peer_is_one kc.one kc.given in
+    kc.peer_is_one kb.of_link kc.one kc.given in
     let text : List ℕ = echo_text B (EchoReply ident seq_no) octets in
     let back : HasEchoReply (hardware.Ethernet ha) C (message_frame B ha reply) (header_v4 reply) ident seq_no text = record {
       in_packet = told.in_packet;

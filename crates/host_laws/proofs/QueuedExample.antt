@@ -36,7 +36,7 @@ is_known =
     let entry : Neighbor = record { hardware_addr = example.sender_hardware; expires_at = pos 60000000 } in
     rw (get-insert address_total map.empty example.sender entry example.sender) refl
 
-no_slots : (t : ℤ) → live_at t map.empty ≡ map.empty
+pub no_slots : (t : ℤ) → live_at t map.empty ≡ map.empty
 no_slots t = same_map key_total key_exact (live_at t map.empty) map.empty (λ q. get-live_at t map.empty q ∙ rw get-empty refl)
 
 nothing_taken : (id : ℕ) (packets : List (IpEndpoint × List ℕ)) →

@@ -80,13 +80,13 @@ in_family (address.Ipv6 a) (address.Ipv4 b) hop_limit payload p e = absurd cc
 in_family (address.Ipv6 a) (address.Ipv6 b) hop_limit payload p e = V6 a b refl refl cc
 
 -- a packet of IPv4 is read as it was written
-v4_again : (summed : Bool) (r : Ipv4Repr) (payload : List ℕ) → ipv4.IsHeader r whole → length payload ≡ r.payload_len →
+pub v4_again : (summed : Bool) (r : Ipv4Repr) (payload : List ℕ) → ipv4.IsHeader r whole → length payload ≡ r.payload_len →
     ipv4_in (ipv4.header_text summed r whole ++ payload) ≡ (r, whole, payload)
 v4_again summed r payload h len =
     subst (λ os. ipv4_in os ≡ (r, whole, payload)) (append-nil (ipv4.header_text summed r whole ++ payload))
     (ipv4_again.read_again false summed r whole payload [] h len (λ x. absurd cc)).1
 
-v6_again : (r : Ipv6Repr) (payload : List ℕ) → ipv6.IsHeader r → length payload ≡ r.payload_len →
+pub v6_again : (r : Ipv6Repr) (payload : List ℕ) → ipv6.IsHeader r → length payload ≡ r.payload_len →
     ipv6_in (ipv6.header_text r ++ payload) ≡ (r, payload)
 v6_again r payload h len =
     subst (λ os. ipv6_in os ≡ (r, payload)) (append-nil (ipv6.header_text r ++ payload)) (ipv6_again.read_again r payload [] h len).1

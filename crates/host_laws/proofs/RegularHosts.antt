@@ -59,7 +59,7 @@ ingress t answer old new told notes i = λ r.
     let last = responds x.reply x.taken i.frames x.notes_responding new x.responds taken.regular in
     record { same = last.same ∙ taken.same; regular = last.regular }
 
-step_follows : {command : Command} {answer : Answer} {old new : Host} {told : List Event} {acts : List Act} {notes : List Note} →
+pub step_follows : {command : Command} {answer : Answer} {old new : Host} {told : List Event} {acts : List Act} {notes : List Note} →
     Step command answer old told acts notes new → Over old told notes new
 step_follows s =
     stepped Over (λ old new k nobody. keeps old new k) on (λ H. itself H) (λ p outcome H new frames notes may d. dispatch_follows d) pieces ingress

@@ -104,27 +104,27 @@ egress_moves t answer old new told notes e =
     }
 
 -- a maintained host has the sockets that it had, and is at its moment
-maintained_sockets : (H : Host) (t : ℤ) → (after_maintenance (at H t)).sockets ≡ H.sockets
+pub maintained_sockets : (H : Host) (t : ℤ) → (after_maintenance (at H t)).sockets ≡ H.sockets
 maintained_sockets H t = by (sync_required H.slaac t) where
   by : (b : Bool) → (if b then with_slaac_applied (without_expired H t) else without_expired H t).sockets ≡ H.sockets
   by true = refl
   by false = refl
 
-maintained_at : (H : Host) (t : ℤ) → IsAt (after_maintenance (at H t)) t
+pub maintained_at : (H : Host) (t : ℤ) → IsAt (after_maintenance (at H t)) t
 maintained_at H t = by (sync_required H.slaac t) where
   by : (b : Bool) → IsAt (if b then with_slaac_applied (without_expired H t) else without_expired H t) t
   by true = refl
   by false = refl
 
 -- calls that send are handed nothing over, and note nothing of slots
-record Hands (told : List Event) (notes : List Note) : Type 0 where
-  none : handed_frames told ≡ []
-  unnoted : slot_notes notes ≡ []
+pub record Hands (told : List Event) (notes : List Note) : Type 0 where
+  pub none : handed_frames told ≡ []
+  pub unnoted : slot_notes notes ≡ []
 
-abbrev HandsNone : Part
+abbrev pub HandsNone : Part
 HandsNone old told notes new = Hands told notes
 
-hands_on : (a b c : Host) (ts us : List Event) (xs ys : List Note) → HandsNone a ts xs b → HandsNone b us ys c → HandsNone a (ts ++ us) (xs ++ ys) c
+pub hands_on : (a b c : Host) (ts us : List Event) (xs ys : List Note) → HandsNone a ts xs b → HandsNone b us ys c → HandsNone a (ts ++ us) (xs ++ ys) c
 hands_on a b c ts us xs ys one two =
     record { none = rw (handed_frames-append, one.none) two.none; unnoted = rw (slot_notes-append, one.unnoted) two.unnoted }
 
@@ -154,7 +154,7 @@ heard_own B [] all = tt
 heard_own B (d ∷ ds) all = (record { socket = all.0.socket; there = all.0.there; hears = all.0.hears }, heard_own B ds all.1)
 
 -- a maintained host is regular, too
-maintained_follows : (H : Host) (t : ℤ) → IsRegular H → Follows H (after_maintenance (at H t))
+pub maintained_follows : (H : Host) (t : ℤ) → IsRegular H → Follows H (after_maintenance (at H t))
 maintained_follows H t r = let s = maintains H t r.real in
     follows H (after_maintenance (at H t)) s.same (maintained_left (sync_required H.slaac t)) s.real r where
       maintained_left : (b : Bool) → (if b then with_slaac_applied (without_expired H t) else without_expired H t).left ≡ H.left
@@ -211,12 +211,12 @@ poll_moves t budget answer old new told notes p =
       only = λ r none. rw (p.events, p.all_notes, sent_frames-append) (poll_accounts r none).carry;
     }
 
-join_same : {group : _} {answer : _} {old new : Host} → JoinsGroup group answer old new → new.sockets ≡ old.sockets
+pub join_same : {group : _} {answer : _} {old new : Host} → JoinsGroup group answer old new → new.sockets ≡ old.sockets
 join_same (NoGroup m r e) = ap (λ (K : Host). K.sockets) e
 join_same (NoPlace m f r e) = ap (λ (K : Host). K.sockets) e
 join_same (JoinTaken m f r e) = ap (λ (K : Host). K.sockets) e
 
-leave_same : {group : _} {answer : _} {old new : Host} → LeavesGroup group answer old new → new.sockets ≡ old.sockets
+pub leave_same : {group : _} {answer : _} {old new : Host} → LeavesGroup group answer old new → new.sockets ≡ old.sockets
 leave_same (NoGroupEither m r e) = ap (λ (K : Host). K.sockets) e
 leave_same (LeaveTaken m r e) = ap (λ (K : Host). K.sockets) e
 

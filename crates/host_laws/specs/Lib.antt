@@ -8,3 +8,7 @@ pub mod Progress
 pub mod TwoPolls
 pub mod Pings
 pub mod PingsInRuns
+pub mod RawArrivals
+pub mod RawPackets
+pub mod RawTcp
+pub mod RawExample

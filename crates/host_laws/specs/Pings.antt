@@ -22,7 +22,7 @@ use Rattle.host_machine.specs.Sending.Packet.{PacketV4, Icmpv4}
 use Rattle.host_machine.specs.Sending.Packet as packet
 use Rattle.host_machine.specs.Sending.Frame.{ip_frame}
 use Rattle.host_machine.specs.Sending.Egress.{Egress}
-use Rattle.host_machine.specs.Laws.Service.{HasFirstEcho, IsReached, MayBeAsked, Takes, all_granted}
+use Rattle.host_machine.specs.Laws.Service.{HasFirstEcho, IsOfLink, IsReached, MayBeAsked, Takes, all_granted}
 
 -- a packet with a message of ICMP
 abbrev pub message_packet : Ipv4Address → Ipv4Address → ℕ → Icmpv4Repr → List ℕ → PacketV4
@@ -46,6 +46,7 @@ pub record Knows (H : Host) (own : EthernetAddress) (a : Ipv4Address) (peer : Et
   pub bits : a.bits < 2 ^ 32
   pub given : is_assigned H.ip_addrs (Ipv4 a) ≡ true
   pub one : is_unicast_v4 H.ip_addrs a ≡ true
+  pub of_link : IsOfLink a
   pub peer_is_one : is_unicast_v4 H.ip_addrs b ≡ true
   pub reached : IsReached H (Ipv4 b) (hardware.Ethernet peer)
   pub headers_summed : is_tx H.capabilities.checksum.ipv4 ≡ true

@@ -4,3 +4,4 @@
 pub mod datagrams;
 pub mod pings;
 pub mod progress;
+pub mod raw_packets;
