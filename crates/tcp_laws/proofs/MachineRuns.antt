@@ -257,13 +257,13 @@ module _ (e : Ends) (x y : Side) (h : Holds e x y) (small : e.room ≤ 2 ^ 30) (
   abbrev s : Segment
   s = arrived k.segment options
 
-  sent : SentStands e.j e.i y.connection.transmission.sender y.written y.connection.reception.receiver k
-  sent = All-contains (SentStands e.j e.i y.connection.transmission.sender y.written y.connection.reception.receiver) y.sent k
-      h.peer.sent may.was_sent
+  sent : k.segment.rst ≡ false → SentStands e.j e.i y.connection.transmission.sender y.written y.connection.reception.receiver k
+  sent no_reset = All-contains (SentStands e.j e.i y.connection.transmission.sender y.written y.connection.reception.receiver) y.sent k
+      h.peer.sent (may.was_sent no_reset)
 
   plain : (kn : Knows g c) → IsLow c → IsPlain k.segment → Knows g (after_segment_arrives now keeps s c)
   plain kn low is =
-      let st = sent.plain is in
+      let st = (sent is.no_reset).plain is in
       gets_plain g now keeps k options c kn low st (receiver_near e x y h peers_small k.start st.near (may.fresh is))
       (sender_near e x y h small k.acknowledged st.known (may.fresh_acknowledgement is))
 
@@ -295,7 +295,7 @@ module _ (e : Ends) (x y : Side) (h : Holds e x y) (small : e.room ≤ 2 ^ 30) (
   gets_good : Good g c → Good g (after_arrival default link now keeps s c)
   gets_good (inl kn) = in_state kn c.state refl
   gets_good (inr (inl n)) =
-      subst (λ t. Good g (after_arrival_in t default link now keeps s c)) (sym n.0.state) (gets_asking g default link now s c n sent.syn)
+      subst (λ t. Good g (after_arrival_in t default link now keeps s c)) (sym n.0.state) (gets_asking g default link now s c n (λ no_reset. (sent no_reset).syn))
   gets_good (inr (inr n)) = subst (λ t. Good g (after_arrival_in t default link now keeps s c)) (sym n.0.state) (inr (inr n))
 
 -- whatever a side does

@@ -28,7 +28,7 @@ use Rattle.tcp_machine.specs.Outgoing.{is_syn_sent}
 use Rattle.tcp_laws.proofs.ReceivingSteps.{false_true, first_of_two}
 use Rattle.tcp_laws.proofs.MachineStands.{Given, Streams, Knows, Asks, IsGone, Good}
 use Rattle.tcp_laws.proofs.MachineStreams.{edged, closed}
-use Rattle.tcp_laws.proofs.MachineArrivals.{either, is_established, knows_pending, knows_ended, knows_aborted}
+use Rattle.tcp_laws.proofs.MachineArrivals.{either, last_of, is_established, knows_pending, knows_ended, knows_aborted}
 
 -- from any phase
 pub is_ended : (g : Given) (why : Option Ending) (c : Connection) → c.local ≡ g.i → Streams g c.transmission.sender c.reception.receiver →
@@ -276,19 +276,23 @@ aborts g c (inr (inl h)) =
 aborts g c (inr (inr h)) =
     inr (inr (either (IsGone g) (is_closed c.state) c (aborted Aborted c) (λ _. h) (λ _. is_aborted g Aborted c h.0.local h.1)))
 
+not_set : (b : Bool) → not b ≡ true → b ≡ false
+not_set true e = sym e
+not_set false e = refl
+
 -- a segment arrives in SYN-SENT
 module _ (g : Given) (default link now : ℕ) (s : Segment) (c : Connection) (h : Asks g c)
-    (number : s.syn ≡ true → s.number ≡ number_at g.j 0) where
+    (number : s.rst ≡ false → s.syn ≡ true → s.number ≡ number_at g.j 0) where
   with_edge : Streams g (with_syn default link s (heard now c)).transmission.sender c.reception.receiver
   with_edge = edged g c.transmission.sender c.reception.receiver c.transmission.sender.ring (1 + s.window) refl h.1
 
   -- with the peer's SYN
-  met : s.syn ≡ true → Knows g (record (with_syn default link s (heard now c)) { state = SynReceived })
-  met syn =
+  met : s.rst ≡ false → s.syn ≡ true → Knows g (record (with_syn default link s (heard now c)) { state = SynReceived })
+  met no_reset syn =
       let k = h.0 in (
         record {
           local = k.local;
-          remote = number syn;
+          remote = number no_reset syn;
           nxt = k.nxt;
           una = λ e. false_true e;
           opening = λ _. k.una;
@@ -298,10 +302,10 @@ module _ (g : Given) (default link now : ℕ) (s : Segment) (c : Connection) (h 
       )
 
   -- and the acknowledgement of the own one
-  answered : s.syn ≡ true → Knows g (established (with_syn default link s (heard now c)))
-  answered syn =
+  answered : s.rst ≡ false → s.syn ≡ true → Knows g (established (with_syn default link s (heard now c)))
+  answered no_reset syn =
       let d : Connection = record (with_syn default link s (heard now c)) { state = SynReceived } in
-      (is_established g d (met syn) (λ e. false_true (sym e))).0
+      (is_established g d (met no_reset syn) (λ e. false_true (sym e))).0
 
   wrong : (o : Option ℕ) → Good g (after_wrong_ack o s c)
   wrong None = inr (inl h)
@@ -311,7 +315,7 @@ module _ (g : Given) (default link now : ℕ) (s : Segment) (c : Connection) (h 
   others =
       either (Good g) (is_some s.ack) (after_wrong_ack s.ack s c) (if s.syn && not s.rst then after_syn default link now false s c else c)
       (λ _. wrong s.ack) (λ _.
-      either (Good g) (s.syn && not s.rst) (after_syn default link now false s c) c (λ e. inl (met (first_of_two s.syn (not s.rst) e)))
+      either (Good g) (s.syn && not s.rst) (after_syn default link now false s c) c (λ e. inl (met (not_set s.rst (last_of s.syn (not s.rst) e)) (first_of_two s.syn (not s.rst) e)))
       (λ _. inr (inl h)))
 
   pub gets_asking : Good g (after_arrival_in_syn_sent default link now s c)
@@ -320,7 +324,7 @@ module _ (g : Given) (default link now : ℕ) (s : Segment) (c : Connection) (h 
       (if s.rst then ended (Some Refused) c else if s.syn then after_syn default link now true s c else c)
       (if is_some s.ack then after_wrong_ack s.ack s c else if s.syn && not s.rst then after_syn default link now false s c else c) (λ _.
       either (Good g) s.rst (ended (Some Refused) c) (if s.syn then after_syn default link now true s c else c)
-      (λ _. inr (inr (is_ended g (Some Refused) c h.0.local h.1))) (λ _.
+      (λ _. inr (inr (is_ended g (Some Refused) c h.0.local h.1))) (λ no_reset.
       either (Good g) s.syn (after_syn default link now true s c) c
-      (λ syn. inl (answered syn))
+      (λ syn. inl (answered no_reset syn))
       (λ _. inr (inl h)))) (λ _. others)

@@ -102,9 +102,10 @@ pub record IsPlain (s : Outgoing) : Type 0 where
   pub no_syn : s.syn ≡ false
   pub no_reset : s.rst ≡ false
 
--- A segment may arrive, if the peer sent it, and if it isn't older than 2^31 positions, nor its acknowledgement
+-- A segment may arrive, if the peer sent it, and if it isn't older than 2^31 positions, nor its acknowledgement. A reset may
+-- come from anyone: a host sends one, too, where the connection isn't known any more (RFC 9293 3.5.2)
 pub record MayArrive (c : Connection) (sent : List Sent) (k : Sent) : Type 0 where
-  pub was_sent : Contains sent k
+  pub was_sent : k.segment.rst ≡ false → Contains sent k
   pub fresh : IsPlain k.segment → next c.reception.receiver ≤ k.start + 2 ^ 31
   pub fresh_acknowledgement : IsPlain k.segment → c.transmission.sender.una ≤ k.acknowledged + 2 ^ 31
 

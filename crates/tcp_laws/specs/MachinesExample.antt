@@ -2,10 +2,11 @@
 -- premise keeps out.
 use Rattle.std.specs.Prelude.{◌≡◌, ℕ, true, false, List, [], ◌∷◌, None}
 use Rattle.tcp_machine.specs.declared.settings.Settings.{Settings}
+use Rattle.tcp_machine.specs.declared.state.State.TheVariants.{Closed}
 use Rattle.tcp_machine.specs.Segments.{Options}
 use Rattle.tcp_machine.specs.Calls.{readable}
 use Rattle.tcp_machine.specs.Outgoing.{SendSyn, SendNext, next_piece}
-use Rattle.tcp_laws.specs.Machines.{Sent, sent_as, Side, unopened, Opens, Accepts, Writes, Reads, Gets, Sends, after_act, Pair}
+use Rattle.tcp_laws.specs.Machines.{Sent, sent_as, Side, unopened, MayArrive, Opens, Accepts, Writes, Reads, Gets, Sends, after_act, Pair}
 use Rattle.tcp_laws.specs.Machines.{Move, OfA, OfB, AreMoves, after_moves}
 
 abbrev pub settings : Settings
@@ -67,6 +68,13 @@ start = record { a = side; b = side }
 abbrev pub forged : Sent
 forged = record text { segment = record text.segment { number = 2; octets = 1 ∷ [] } }
 
+-- and a reset of the same number, which nobody sent either
+abbrev pub reset : Sent
+reset = record text { segment = record text.segment { number = 2; rst = true; octets = [] } }
+
+abbrev pub after_reset : Side
+after_reset = after_act j (Gets 536 100 5 true reset no_options) (after_moves i j start moves).b
+
 pub record TwoMachinesRun : Type 0 where
   pub number : text.segment.number ≡ 4294967295
   pub run : AreMoves i j start moves
@@ -75,3 +83,7 @@ pub record TwoMachinesRun : Type 0 where
   -- What must not be: with a segment that A didn't send, what B reads isn't what A wrote
   pub forged_octet :
       readable (after_act j (Gets 536 100 5 true forged no_options) (after_moves i j start moves).b).connection ≡ 9 ∷ 1 ∷ []
+  -- the reset may come, as from a host that knows no such connection. It ends the connection, and takes no octet
+  pub reset_comes : MayArrive (after_moves i j start moves).b.connection (after_moves i j start moves).a.sent reset
+  pub reset_ends : after_reset.connection.state ≡ Closed
+  pub reset_keeps : readable after_reset.connection ≡ 9 ∷ []

@@ -1,3 +1,4 @@
+pub mod AgainLemmas
 pub mod ArrivalLemmas
 pub mod DestinationLemmas
 pub mod ReceivingLemmas

@@ -1,3 +1,4 @@
+pub mod Again
 pub mod Arrivals
 pub mod Destinations
 pub mod Packets

@@ -1,0 +1,2 @@
+pub mod QueueRuns
+pub mod ArrivalRuns

@@ -1,0 +1,77 @@
+-- A segment's packet is read as that segment, with its ends exchanged.
+use Rattle.std.specs.Prelude.{◌≡◌, ℕ, ◌<◌, ◌≤◌, ◌^◌, Bool, true, false, ◌||◌, List, length, Option, Some}
+use Rattle.ip_address.specs.declared.ip.IpAddress.{IpAddress}
+use Rattle.ip_address.specs.declared.ip.IpAddress.TheVariants.{Ipv4, Ipv6}
+use Rattle.ip_address.specs.declared.cidr.IpCidr.{IpCidr}
+use Rattle.ip_address.specs.declared.protocol.IpVersion.{IpVersion}
+use Rattle.ip_wire.specs.Tcp.{IsHeader}
+use Rattle.network_sockets.specs.Raw.{Sent, packet_in, stored_packet}
+use Rattle.tcp_wire.specs.Options.{AreOptions}
+use Rattle.tcp_wire.specs.Tcp.{words_of}
+use Rattle.tcp_connection.specs.declared.outgoing.Header.{Header}
+use Rattle.tcp_host.specs.declared.iss.Endpoints.{Endpoints}
+use Rattle.tcp_packets.specs.Arrivals.{Arrived, HasSegment, arrived_in, is_for_host}
+use Rattle.tcp_packets.specs.Packets.{Segment, repr_of, packet_text}
+use Rattle.tcp_packets.specs.Sending.{version_of}
+
+-- the ends as the peer has them
+abbrev pub reversed : Endpoints → Endpoints
+reversed e = record {
+  local_addr = e.remote_addr;
+  local_port = e.remote_port;
+  remote_addr = e.local_addr;
+  remote_port = e.local_port;
+}
+
+-- A segment as its receiver takes it: between the ends reversed, with its numbers, its window and its octets. Its
+-- options are its own; a SYN permits selective acknowledgements. Blocks aren't read, nor whether octets are pushed.
+abbrev pub arrived_as : Segment → Arrived
+arrived_as s = record {
+  endpoints = reversed s.endpoints;
+  segment = record {
+    number = s.header.number;
+    ack = s.header.ack;
+    window = s.header.window;
+    syn = s.header.syn;
+    fin = s.header.fin;
+    rst = s.header.rst;
+    mss = s.mss;
+    scale = s.scale;
+    sack_permitted = s.header.syn;
+  };
+  octets = s.octets;
+}
+
+-- numbers that an address has
+abbrev pub IsAddress : IpAddress → Type 0
+IsAddress (Ipv4 a) = a.bits < 2 ^ 32
+IsAddress (Ipv6 a) = a.bits < 2 ^ 128
+
+-- a segment says one thing at most: it begins a connection, ends a direction, or resets
+pub record SaysOne (h : Header) : Type 0 where
+  pub no_end : h.syn || h.rst ≡ true → h.fin ≡ false
+  pub no_reset : h.syn ≡ true → h.rst ≡ false
+
+-- a segment whose values fit the fields of a packet
+pub record Fits (s : Segment) : Type 0 where
+  pub source : IsAddress s.endpoints.local_addr
+  pub destination : IsAddress s.endpoints.remote_addr
+  pub header : IsHeader (words_of (repr_of s))
+  pub says_one : SaysOne s.header
+  pub options : AreOptions (repr_of s).options
+  pub octets : length s.octets ≤ 65455
+
+-- Its packet, at the sender's socket, is read as this one; a socket that stores this one has it again; and in this one
+-- the segment arrives at the host to which it goes, checksum and all.
+pub record IsReadAgain (s : Segment) (version : IpVersion) (p : Sent) : Type 0 where
+  pub queued : packet_in version (packet_text true s) ≡ Some p
+  pub stored : (summed : Bool) → packet_in version (stored_packet summed p.header p.payload) ≡ Some p
+  pub taken : (checked : Bool) (own : List IpCidr) →
+      is_for_host own s.endpoints.local_addr s.endpoints.remote_addr ≡ true → HasSegment checked own p
+  pub arrives : arrived_in p ≡ arrived_as s
+
+abbrev pub SegmentsAreReadAgain : Type 0
+SegmentsAreReadAgain =
+    (s : Segment) (version : IpVersion) → Fits s →
+    version_of s.endpoints.local_addr s.endpoints.remote_addr ≡ Some version →
+    (p : Sent) × IsReadAgain s version p

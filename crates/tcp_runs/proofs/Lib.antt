@@ -1,0 +1,9 @@
+pub mod LifeLemmas
+pub mod HostSteps
+pub mod CallLemmas
+pub mod Growing
+pub mod Receiving
+pub mod HostTurns
+pub mod Queues
+pub mod PollTurns
+pub mod PairLemmas

@@ -1,0 +1,5 @@
+pub mod Lives
+pub mod Calls
+pub mod Turns
+pub mod Laws
+pub mod Pairs
