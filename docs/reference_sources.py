@@ -15,7 +15,7 @@ HEAD = re.compile(PUBLIC + r"(?P<words>(?:(?:const|unsafe|extern|ghost)\s+)*)"
 FIELD = re.compile(PUBLIC + r"(?P<ghost>ghost\s+)?(?:(?P<name>\w+):)?")
 CLAUSE = re.compile(r"(requires|ensures)\*?(\s+\w+)?\s*(?=\{)")
 SHOWN_ATTRIBUTES = ("#[derive", "#[error", "#[repr", "#[unsafe")
-HIDDEN_ATTRIBUTES = ("#[tactic", "#![tactic", "#[inline", "#[allow", "#[default")
+HIDDEN_ATTRIBUTES = ("#[cold", "#[tactic", "#![tactic", "#[inline", "#[allow", "#[default")
 CLAUSE_LINE = re.compile(r"^\s*(?:requires|ensures)\b", re.M)
 OPENING, CLOSING = "([{", ")]}"
 
