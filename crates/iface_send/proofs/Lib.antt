@@ -4,6 +4,7 @@ mod Cutting
 mod Destinations
 mod DispatchFrame
 mod FragmentTurns
+mod Identified
 pub mod Offered
 pub mod Processing
 mod Routing

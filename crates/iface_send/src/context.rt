@@ -75,6 +75,14 @@ impl Context {
         self.capabilities
     }
 
+    /// The capabilities of the device when the interface was created, without a copy.
+    #[inline(always)]
+    pub fn lent_capabilities(&self) -> &DeviceCapabilities
+        ensures { result.now ≡ (host_of self.now no_sockets).capabilities }
+    {
+        &self.capabilities
+    }
+
     /// The hardware address of the interface.
     #[inline(always)]
     pub fn hardware_addr(&self) -> HardwareAddress

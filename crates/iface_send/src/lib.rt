@@ -6,9 +6,13 @@ pub mod autoconfiguration;
 pub mod context;
 pub mod dispatch;
 pub mod fragments;
+pub mod hops;
+pub mod identification;
 mod membership;
 pub mod multicast;
 pub mod neighbors;
+pub mod pieces;
+pub mod requests;
 pub mod settings;
 pub mod transmit;
 

@@ -4,10 +4,22 @@ ghost use Rattle.ip_address.specs.Hardware as hardware;
 ghost use Rattle.ip_address.specs.Ip.{is_unicast};
 ghost use Rattle.iface_tables.specs.Neighbor.{Fills, answer_of, expiry_from, is_found, after_renewal};
 ghost use Rattle.host_machine.specs.State.Host.{SocketSet, with_neighbors, no_sockets};
+ghost use Rattle.host_machine.specs.Sending.Dispatch.{with_silence};
 ghost use Rattle.iface_send.specs.Stands.{host_of};
 
 use crate::context::Context;
+use iface_tables::neighbor::Answer;
 use ip_wire::{HardwareAddress, IpAddress};
+
+/// What is known of a neighbour at the interface's moment. Its address must be unicast.
+#[inline(always)]
+pub fn lookup(context: &Context, protocol_addr: &IpAddress) -> Answer
+    requires { is_unicast protocol_addr.now ≡ true }
+    ensures { result ≡ answer_of (host_of context.now no_sockets).neighbors protocol_addr.now
+        (host_of context.now no_sockets).moment }
+{
+    context.neighbor_cache.lookup(protocol_addr, context.moment)
+}
 
 /// Whether a neighbour is known at the interface's moment. Its address must be unicast.
 pub fn is_known(context: &Context, protocol_addr: &IpAddress) -> bool
@@ -56,4 +68,13 @@ pub fn renew_neighbor(
     context
         .neighbor_cache
         .reset_expiry_if_existing(protocol_addr, hardware_addr, context.moment);
+}
+
+/// Begins a silence of a second from the interface's moment, in which no neighbour is asked for.
+#[inline(always)]
+pub fn limit_rate(context: &mut Context)
+    ensures { (sockets : SocketSet) → host_of context.new sockets ≡ with_neighbors (host_of context.old sockets)
+        (with_silence (host_of context.old no_sockets).neighbors (host_of context.old no_sockets)) }
+{
+    context.neighbor_cache.limit_rate(context.moment);
 }

@@ -8,7 +8,7 @@ ghost use Rattle.host_machine.specs.Polling.Due.{IsLeast, SocketsDue};
 ghost use Rattle.iface_send.specs.Stands.{host_in};
 
 use iface_send::Context;
-use iface_send::dispatch::has_neighbor;
+use iface_send::hops::has_neighbor;
 use ip_wire::IpAddress;
 use net_base::time::Instant;
 use slaac::earlier_of;

@@ -21,7 +21,7 @@ use crate::tcp::give_tcp_turn;
 use crate::udp::give_udp_turn;
 use host_machine::Turn;
 use iface_send::Context;
-use iface_send::dispatch::has_neighbor;
+use iface_send::hops::has_neighbor;
 use ip_wire::IpAddress;
 use ip_wire::emit::FrameBuffer;
 use net_base::phy::Device;

@@ -25,8 +25,8 @@ use iface_multicast::mld::mld_egress;
 use iface_receive::ethernet::process_frame;
 use iface_send::autoconfiguration::sync_slaac;
 use iface_send::context::IFACE_MAX_ADDR_COUNT;
-use iface_send::dispatch::has_neighbor;
 use iface_send::fragments::ipv4_egress;
+use iface_send::hops::has_neighbor;
 use iface_send::multicast::{join_group, leave_group};
 use iface_send::settings::{
     routes_mut, set_any_ip, set_hardware_addr, set_ip_addrs, set_moment, set_neighbor_storage,

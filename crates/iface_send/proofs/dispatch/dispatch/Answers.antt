@@ -12,6 +12,7 @@ use Rattle.iface_send.specs.Destination.{ethertype_to}
 use Rattle.iface_send.specs.Stands.{host_in, host_of}
 use Rattle.iface_send.proofs.Building.{unsent, nothing, noting, one}
 use Rattle.iface_send.proofs.Destinations.{same_ethertype, some_octets}
+use Rattle.iface_send.proofs.Identified.{with_id}
 use Rattle.iface_send.proofs.dispatch.dispatch.Goals as goal
 
 pub returns-then-is_unspecified : goal.returns-then-is_unspecified
@@ -21,16 +22,20 @@ returns-then-is_unspecified g c = nothing c.requires.empty (λ slots sockets.
 pub returns-then-total_len-ip_mtu : goal.returns-then-total_len-ip_mtu
 returns-then-total_len-ip_mtu g c =
     noting (OfIdentification (Identify c.args.context.now.ipv4_id)) c.dispatch_long_by_copy.ensures (λ slots sockets frames notes sends.
-    ToSpecified notes (rw (← c.dst_addr-dst_addr.ensures, ← c.is_unspecified.ensures) c.if-is_unspecified.false) sends refl)
+    ToSpecified notes (rw (← c.dst_addr-dst_addr.ensures, ← c.is_unspecified.ensures) c.if-is_unspecified.false)
+    (with_id c.take_id-identification.result c.args.context.now c.take_id-identification.new.context (g.Q.AnyPacket.stands_for c.args.packet.now)
+    _ frames notes _ slots sockets c.take_id-identification.ensures.value c.take_id-identification.ensures.taken sends) refl)
 
 pub returns-in_err-begin_frame : goal.returns-in_err-begin_frame
 returns-in_err-begin_frame g c =
     let same : c.from_residual.result ≡ Err c.in_err-begin_frame.field-0.0 = search rules in
     rw same (
     noting (OfIdentification (Identify c.args.context.now.ipv4_id))
-    (c.in_err-begin_frame.ensures.refused c.args.context.now.ipv4_id (g.Q.AnyPacket.stands_for c.args.packet.now) (sym c.dst_addr-dst_addr.ensures))
+    (c.in_err-begin_frame.ensures.refused c.take_id-identification.result (g.Q.AnyPacket.stands_for c.args.packet.now) (sym c.dst_addr-dst_addr.ensures))
     (λ slots sockets frames notes sends.
-    ToSpecified notes (rw (← c.dst_addr-dst_addr.ensures, ← c.is_unspecified.ensures) c.if-is_unspecified.false) sends refl))
+    ToSpecified notes (rw (← c.dst_addr-dst_addr.ensures, ← c.is_unspecified.ensures) c.if-is_unspecified.false)
+    (with_id c.take_id-identification.result c.args.context.now c.take_id-identification.new.context (g.Q.AnyPacket.stands_for c.args.packet.now)
+    _ frames notes _ slots sockets c.take_id-identification.ensures.value c.take_id-identification.ensures.taken sends) refl))
 
 pub returns : goal.returns
 returns g c =
@@ -38,10 +43,11 @@ returns g c =
     let k = c.begin_frame.new.context in
     let same = c.in_ok-begin_frame.ensures.unchanged in
     let begun = c.in_ok-begin_frame.ensures.begun in
-    let fits : total_len p ≤ ip_mtu_of c.args.context.now.capabilities =
+    let id = c.take_id-identification.result in
+    let fits : total_len p ≤ ip_mtu_of c.take_id-identification.new.context.capabilities =
     rw (← c.total_len.ensures, ← c.ip_mtu.ensures) c.if-total_len-ip_mtu.false in
     let built : c.emit.new.out ≡ ip_frame (host_of k no_sockets) begun.destination p =
-    c.emit.ensures.items
+    (rw c.lent_capabilities.ensures at c.emit.ensures.items)
     ∙ ap (λ (xs : List ℕ). xs ++ packet_text k.capabilities p) (begun.header
     ∙ ap (λ (x : Context). link_header x.hardware_addr begun.destination (ethertype_to c.dst_addr-dst_addr.result)) (sym same)
     ∙ ap (λ (a : IpAddress). link_header k.hardware_addr begun.destination (ethertype_to a)) c.dst_addr-dst_addr.ensures
@@ -49,8 +55,10 @@ returns g c =
     one (ip_frame (host_of k no_sockets) begun.destination p) (OfIdentification (Identify c.args.context.now.ipv4_id) ∷ []) built
     (omega (arith, c.emit.ensures.len, some_octets p)) (λ slots sockets.
     ToSpecified [] (rw (← c.dst_addr-dst_addr.ensures, ← c.is_unspecified.ensures) c.if-is_unspecified.false)
-    (begun.reached.sends c.args.context.now.ipv4_id p (Ok tt) slots sockets (ip_frame (host_of k no_sockets) begun.destination p ∷ []) []
+    (with_id id c.args.context.now c.take_id-identification.new.context p (Ok tt) (ip_frame (host_of k no_sockets) begun.destination p ∷ []) []
+    (host_in k slots sockets) slots sockets c.take_id-identification.ensures.value c.take_id-identification.ensures.taken
+    (begun.reached.sends id p (Ok tt) slots sockets (ip_frame (host_of k no_sockets) begun.destination p ∷ []) []
     (host_in k slots sockets) (sym c.dst_addr-dst_addr.ensures)
-    (subst (λ (x : Context). Emits c.args.context.now.ipv4_id p begun.destination (Ok tt) (host_in x slots sockets)
+    (subst (λ (x : Context). Emits id p begun.destination (Ok tt) (host_in x slots sockets)
     (ip_frame (host_of k no_sockets) begun.destination p ∷ []) [] (host_in k slots sockets)) same
-    (Whole (subst (λ (x : Context). total_len p ≤ ip_mtu_of x.capabilities) (sym same) fits) c.emit.ensures.formed refl refl refl refl))) refl)
+    (Whole (subst (λ (x : Context). total_len p ≤ ip_mtu_of x.capabilities) (sym same) fits) c.emit.ensures.formed refl refl refl refl)))) refl)

@@ -7,17 +7,18 @@ use Rattle.ip_address.specs.declared.hardware.HardwareAddress.TheVariants as har
 use Rattle.ip_address.specs.Ipv6.{solicited_node}
 use Rattle.address_selection.specs.Ipv6.{source_v6}
 use Rattle.host_machine.specs.State.Note.{OfDiscovery, OfIdentification, Ask, Identify}
-use Rattle.host_machine.specs.State.Host.{no_sockets}
+use Rattle.host_machine.specs.State.Host.{Host, no_sockets, with_neighbors, with_slots}
 use Rattle.host_machine.specs.Receiving.Ndisc.{solicitation_for}
 use Rattle.host_machine.specs.Sending.Frame.{ip_frame}
-use Rattle.host_machine.specs.Sending.Dispatch.{Solicited, group_address_v6}
+use Rattle.host_machine.specs.Sending.Dispatch.{Solicited, group_address_v6, with_next_id, with_silence}
 use Rattle.iface_send.specs.Stands.{host_of}
 use Rattle.iface_send.proofs.Building.{one}
-use Rattle.iface_send.proofs.dispatch.send_neighbor_solicit.Goals as goal
+use Rattle.iface_send.proofs.requests.send_neighbor_solicit.Goals as goal
 
 pub returns : goal.returns
 returns c =
     let H = host_of c.args.context.now no_sockets in
+    let mid = host_of c.take_id.new.context no_sockets in
     let asked = solicitation_for c.args.own (source_v6 c.args.context.now.ip_addrs.items c.args.target.now) c.args.target.now in
     let packet : value_of.packet c.solicitation_for-packet.result ≡ asked = c.solicitation_for-packet.ensures
     ∙ ap (λ (source : Ipv6Address). solicitation_for c.args.own source c.args.target.now) c.get_source_address_ipv6-source.ensures in
@@ -29,19 +30,7 @@ returns c =
     ∙ ap (λ (to : EthernetAddress). ip_frame H (hardware.Ethernet to) (value_of.packet c.solicitation_for-packet.result)) group
     ∙ ap (λ (p : Packet). ip_frame H (hardware.Ethernet (group_address_v6 (solicited_node c.args.target.now))) p) packet)
     (omega (arith, c.emit_frame.ensures.some))
-    (λ slots sockets. Solicited c.args.target.now refl refl refl refl (rw c.limit_rate.ensures refl))
-
-pub invariant_of-context : goal.invariant_of-context
-invariant_of-context c =
-    let k = c.args.context.now in
-    record {
-      timely = k.timely;
-      short = k.short;
-      long = k.long;
-      within_a_day = k.within_a_day;
-      cut_to_fit = k.cut_to_fit;
-      of_medium = k.of_medium;
-      own = k.own;
-      neighbors = rw c.limit_rate.ensures k.neighbors;
-      pending = k.pending;
-    }
+    (λ slots sockets. Solicited c.args.target.now refl refl refl refl (ap (λ (K : Host). with_slots K slots) (c.limit_rate.ensures sockets
+    ∙ ap (λ (K : Host). with_neighbors K (with_silence mid.neighbors mid)) (c.take_id.ensures.taken sockets)
+    ∙ ap (λ (M : Host). with_neighbors (with_next_id (host_of c.args.context.now sockets)) (with_silence M.neighbors M))
+    (c.take_id.ensures.taken no_sockets))))

@@ -4,7 +4,7 @@ use Rattle.fragmentation.specs.Pending.{Pending}
 use Rattle.host_machine.specs.State.Host.{with_left}
 use Rattle.iface_send.specs.Stands.{host_of}
 use Rattle.iface_send.proofs.Cutting.{next_goes, in_parts}
-use Rattle.iface_send.proofs.fragments.emit_next_piece.Goals as goal
+use Rattle.iface_send.proofs.pieces.emit_next_piece.Goals as goal
 
 pub returns : goal.returns
 returns c = next_goes c.in-Some.piece

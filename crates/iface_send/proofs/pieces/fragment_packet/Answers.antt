@@ -3,7 +3,7 @@ use Rattle.std.proofs.lemmas.List.{length-append}
 use Rattle.fragmentation.specs.Cuts.{Datagram, HasForm}
 use Rattle.host_machine.proofs.Sending.PendingParts.{pieces_are}
 use Rattle.host_machine.proofs.Runs.TwoHosts.{size_positive}
-use Rattle.iface_send.proofs.fragments.fragment_packet.Goals as goal
+use Rattle.iface_send.proofs.pieces.fragment_packet.Goals as goal
 
 pub invariant_of-context-clause-pending : goal.invariant_of-context-clause-pending
 invariant_of-context-clause-pending c =

@@ -1,4 +1,4 @@
-use Rattle.iface_send.proofs.dispatch.discover_neighbor.Goals as goal
+use Rattle.iface_send.proofs.requests.discover_neighbor.Goals as goal
 
 pub returns-in-Ipv4 : goal.returns-in-Ipv4
 returns-in-Ipv4 c = rw c.in-Ipv4.is c.send_arp_request.ensures
