@@ -29,7 +29,7 @@ one_by : {X : Type 0} (P : X → Type 0) (y : X) (ys : List X) (x : X) → AllBy
 one_by P y ys x a rest (inl e) = subst P e a.0
 one_by P y ys x a rest (inr c) = rest c
 
-one_of : {X : Type 0} (P : X → Type 0) (xs : List X) (x : X) → AllByRecursion P xs → Contains xs x → P x
+pub one_of : {X : Type 0} (P : X → Type 0) (xs : List X) (x : X) → AllByRecursion P xs → Contains xs x → P x
 one_of P [] x a c = absurd (omega (arith, c.1))
 one_of P (y ∷ ys) x a c = one_by P y ys x a (one_of P ys x a.1) (head_or_tail y x ys c)
 

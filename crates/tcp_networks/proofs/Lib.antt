@@ -1,2 +1,5 @@
 pub mod QueueRuns
 pub mod ArrivalRuns
+pub mod ReceptionRuns
+pub mod Prefixes
+pub mod Comings

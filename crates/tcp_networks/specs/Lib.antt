@@ -1,3 +1,6 @@
 pub mod Stations
 pub mod Queues
 pub mod Arrivals
+pub mod Receptions
+pub mod Beginnings
+pub mod Networks

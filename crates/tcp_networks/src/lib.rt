@@ -2,7 +2,9 @@
 #![tactic(auto)]
 
 ghost use Rattle.tcp_networks.specs.Arrivals.{PacketsWereSentInLives};
+ghost use Rattle.tcp_networks.specs.Networks.{NetworksBring, SegmentsComeFromLives};
 ghost use Rattle.tcp_networks.specs.Queues.{QueuesHoldWhatWasSent};
+ghost use Rattle.tcp_networks.specs.Receptions.{QueuesHoldWhatIsBrought};
 
 /// In the run of a host whose owner does nothing but turns of a host of connections: each packet of TCP that waits to
 /// be sent at a raw socket, and so each that leaves its queue, is of a segment that a connection there sent in its
@@ -15,4 +17,23 @@ pub fn queues_hold_what_was_sent()
 /// piece is of a segment that a connection of one of those hosts sent in its life, or a reset that belongs to none.
 pub fn packets_were_sent_in_lives()
     ensures { PacketsWereSentInLives }
+{}
+
+/// In the run of such a host, that gets no packet of TCP in fragments: each packet of TCP that waits to be received at a
+/// raw socket is read as a segment that a connection of one of those hosts sent in its life, between the ends reversed,
+/// or as a reset.
+pub fn queues_hold_what_is_brought()
+    ensures { QueuesHoldWhatIsBrought }
+{}
+
+/// On a network of hosts: each packet of TCP that waits to be received before a move is read as a segment that a connection
+/// of one of the hosts sent in its life, in a move before it, between the ends reversed, or as a reset.
+pub fn networks_bring()
+    ensures { NetworksBring }
+{}
+
+/// On a network of hosts: whatever segment comes to a connection in a move was sent by a connection of one of the hosts, in
+/// a move before it, between the ends reversed; or it is a reset.
+pub fn segments_come_from_lives()
+    ensures { SegmentsComeFromLives }
 {}

@@ -1,5 +1,5 @@
 -- The newest of the packets that wait.
-use Rattle.std.proofs.Common.{◌≡◌, ◌∙◌, ◌-◌, ◌<◌, ◌≤◌, suc, ℕ, List, [], ◌∷◌, length, drop, refl, sym, ap, arith}
+use Rattle.std.proofs.Common.{◌≡◌, ◌∙◌, ◌-◌, ◌<◌, ◌≤◌, suc, ℕ, List, [], ◌∷◌, length, drop, sym, ap, arith}
 use Rattle.std.specs.List.{remove}
 use Rattle.ip_address.specs.declared.ip.IpAddress.{IpAddress}
 use Rattle.tcp_packets.specs.Destinations.{last_of}

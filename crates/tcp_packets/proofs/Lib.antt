@@ -2,3 +2,4 @@ pub mod AgainLemmas
 pub mod ArrivalLemmas
 pub mod DestinationLemmas
 pub mod ReceivingLemmas
+pub mod ResetLemmas

@@ -1,10 +1,10 @@
 -- A packet with a segment for the host is received.
-use Rattle.std.proofs.Common.{◌≡◌, ℕ, Bool, List, Option, Some, None, subst}
+use Rattle.std.proofs.Common.{ℕ, Bool, List, Option, Some, None, subst}
 use Rattle.ip_address.specs.declared.cidr.IpCidr.{IpCidr}
 use Rattle.network_sockets.specs.Raw.{Sent}
 use Rattle.tcp_streams.specs.Host.{Host}
 use Rattle.tcp_packets.specs.declared.receiving.Answer.{Answer}
-use Rattle.tcp_packets.specs.Arrivals.{Arrived, Arrives, arrived_in}
+use Rattle.tcp_packets.specs.Arrivals.{Arrived, Arrives}
 use Rattle.tcp_packets.specs.Receiving.{ReceivesArrival, ReceivesSent}
 
 pub received_sent : (now : ℕ) (checked : Bool) (own : List IpCidr) (p : Option Sent) (a : Arrived) (old : Host) (answer : Option Answer) (new : Host) →

@@ -1,5 +1,5 @@
 -- Segments as packets (RFC 9293 3.1).
-use Rattle.std.specs.Prelude.{◌≡◌, ℕ, ◌+◌, ◌<◌, Bool, true, false, List, [], ◌∷◌, ◌++◌, map, length, Option, Some, None, if◌then◌else◌, ◌==◌}
+use Rattle.std.specs.Prelude.{ℕ, ◌+◌, Bool, true, false, List, [], ◌∷◌, ◌++◌, map, length, Option, None, if◌then◌else◌, ◌==◌}
 use Rattle.std.specs.Option.{option_map}
 use Rattle.ip_address.specs.declared.ip.IpAddress.{IpAddress}
 use Rattle.ip_address.specs.declared.ip.IpAddress.TheVariants.{Ipv4, Ipv6}
@@ -12,9 +12,7 @@ use Rattle.ip_wire.specs.declared.ipv4_packet.Ipv4Repr.{Ipv4Repr}
 use Rattle.ip_wire.specs.Ipv4Packet as ipv4
 use Rattle.ip_wire.specs.declared.tcp.TcpControl.{TcpControl}
 use Rattle.ip_wire.specs.declared.tcp.TcpControl.TheVariants as control
-use Rattle.ip_wire.specs.declared.tcp.TcpSeqNumber.{TcpSeqNumber}
 use Rattle.tcp_wire.specs.declared.tcp.TcpRepr.{TcpRepr}
-use Rattle.tcp_wire.specs.declared.options.TcpOptions.{TcpOptions}
 use Rattle.tcp_wire.specs.Options.{no_options}
 use Rattle.tcp_wire.specs.declared.options.SackRange.{SackRange}
 use Rattle.tcp_machine.specs.declared.sack.SackBlock.{SackBlock}

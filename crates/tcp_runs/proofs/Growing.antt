@@ -111,10 +111,10 @@ event_on (Begins place e number room size act) ls l c =
 -- and so is what stands in a packet
 pub sent_by_then : (summed : Bool) (e : Event) (ls : List Life) (octets : List ℕ) → WasSent summed ls octets →
     WasSent summed (after_event e ls) octets
-sent_by_then summed e ls octets (InLife l k s there sent is text) =
+sent_by_then summed e ls octets (InLife l k s there sent is fits text) =
     let g = event_on e ls l there in
-    InLife g.life k s g.there (g.sent k sent) (record { ends = is.ends ∙ sym g.ends; header = is.header; octets = is.octets }) text
-sent_by_then summed e ls octets (InNone d r text) = InNone d r text
+    InLife g.life k s g.there (g.sent k sent) (record { ends = is.ends ∙ sym g.ends; header = is.header; octets = is.octets }) fits text
+sent_by_then summed e ls octets (InNone d r fits text) = InNone d r fits text
 
 pub sent_after : (summed : Bool) (es : List Event) (ls : List Life) (octets : List ℕ) → WasSent summed ls octets →
     WasSent summed (after_events es ls) octets

@@ -7,3 +7,4 @@ pub mod HostTurns
 pub mod Queues
 pub mod PollTurns
 pub mod PairLemmas
+pub mod ReadingLemmas

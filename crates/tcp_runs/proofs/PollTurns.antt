@@ -26,7 +26,7 @@ use Rattle.tcp_streams.specs.Host.{Host, no_settings, connection_at}
 use Rattle.tcp_streams.specs.Turns.{TakesTurn, sent_at, sent_if, postponed, aborted_if}
 use Rattle.tcp_packets.specs.declared.receiving.Answer.{Answer}
 use Rattle.tcp_packets.specs.Arrivals.{HasSegment, arrived_in}
-use Rattle.tcp_packets.specs.Packets.{Segment, packet_text, reset_between}
+use Rattle.tcp_packets.specs.Packets.{Segment, reset_between}
 use Rattle.tcp_packets.specs.Receiving.{ReceivesFirst, ReceivesSent, ReceivesPacket}
 use Rattle.tcp_packets.specs.Sending.{version_between}
 use Rattle.tcp_sockets.specs.declared.tcp_sockets.SocketPair.{SocketPair}
@@ -38,14 +38,14 @@ use Rattle.tcp_sockets.specs.Polls.{Turns, First, Next, GivesTurns, AllGiven, Ma
 use Rattle.tcp_laws.specs.Machines.{Sent, Side, unopened, sent_as, Act}
 use Rattle.tcp_laws.specs.Machines as machines
 use Rattle.tcp_runs.specs.Lives.{Life, side_of, Does, newest, with_act, continued, after_events, IsLifeOf, Tells}
-use Rattle.tcp_runs.specs.Turns.{Came, WasSent, InLife, InNone, LivesOn}
+use Rattle.tcp_runs.specs.Turns.{Came, InLife, InNone, LivesOn}
 use Rattle.tcp_runs.specs.Laws.{Whatever, PollsLiveOn}
 use Rattle.tcp_runs.proofs.LifeLemmas.{after_of, Rests, Steps, rests_then, tells_step, one_more, newest_there}
 use Rattle.tcp_runs.proofs.HostSteps.{same}
 use Rattle.tcp_runs.proofs.Growing.{at_head, in_tail, lives_then}
 use Rattle.tcp_runs.proofs.Receiving.{Follows, rests, stays, receives, has_segment}
 use Rattle.tcp_runs.proofs.HostTurns.{follows_then, aborts, sends, sends_later, sent_steps, may_send, postpones, takes, turn_within}
-use Rattle.tcp_runs.proofs.Queues.{AllMove, still, one_moves, done_moves, near_moves, far_moves}
+use Rattle.tcp_runs.proofs.Queues.{AllMove, SentIf, still, one_moves, done_moves, near_moves, far_moves}
 
 module _ {L : Type 0} (own : List IpCidr) (ls : List Life) (old : State L) (t : Tells ls old.host) where
   abbrev checked : Bool
@@ -78,7 +78,7 @@ module _ {L : Type 0} (own : List IpCidr) (ls : List Life) (old : State L) (t : 
       let f = rests checked own old.sockets ls old.host t old.host (same old.host) in
       lives_by (with_far v (waiting_after_far summed x waiting pair old.sockets) old.carrier) old.host (after_far summed x waiting pair old.sockets) f
       (far_checksum v (waiting_after_far summed x waiting pair old.sockets) old.carrier)
-      (far_moves summed (after_events f.events ls) old.sockets x waiting pair (InNone a.endpoints a.reset refl))
+      (far_moves summed (after_events f.events ls) old.sockets x waiting pair (λ fits. InNone a.endpoints a.reset fits refl))
 
   -- the first packet of a socket is received
   in_front : (xs : List (Unit {0} × List ℕ)) (q : Unit {0} × List ℕ) → first_of xs ≡ Some q → Contains xs q
@@ -216,8 +216,8 @@ module _ {L : Type 0} (own : List IpCidr) (ls : List Life) (old : State L) (t : 
       (Contains-push x.sent (sent_as m x.connection))
 
   was_sent_by : (e : Endpoints) → (k : Life) × IsLifeOf place e ls k →
-      WasSent summed_here (continued place act ls) (packet_text summed_here (segment_at e place m h))
-  was_sent_by e k =
+      SentIf summed_here (continued place act ls) (segment_at e place m h)
+  was_sent_by e k fits =
       let l = k.0 in
       let c = (side_of l).connection in
       let is : c ≡ connection_at place h = t.connection place l within k.1.is in
@@ -230,10 +230,10 @@ module _ {L : Type 0} (own : List IpCidr) (ls : List Life) (old : State L) (t : 
         ends = sym k.1.ends;
         header = sym (ap (λ (x : Connection). header_of (machine.segment_for m x)) is);
         octets = sym (ap (λ (x : Connection). (machine.segment_for m x).octets) is);
-      }) refl
+      }) fits refl
 
   was_sent : (e : Endpoints) → ends_at h.ends place ≡ Some e →
-      WasSent summed_here (continued place act ls) (packet_text summed_here (segment_at e place m h))
+      SentIf summed_here (continued place act ls) (segment_at e place m h)
   was_sent e at = was_sent_by e (t.ends place e at)
 
   -- or nothing is sent

@@ -98,17 +98,21 @@ module _ (summed : Bool) (ks : List Life) where
   }
   queued_if false octets s w = unmoved s
 
-  packet_if : (b : Bool) (x : Segment) (s : RawSocket) →
-      (b && is_room s.tx (length (packet_text summed x)) ≡ true → WasSent summed ks (packet_text summed x)) →
+  -- if a packet can carry it, it was sent
+  abbrev pub SentIf : Segment → Type 0
+  SentIf x = is_packet x ≡ true → WasSent summed ks (packet_text summed x)
+
+  packet_if : (b : Bool) (x : Segment) (s : RawSocket) → is_packet x ≡ b →
+      (b && is_room s.tx (length (packet_text summed x)) ≡ true → SentIf x) →
       Moves summed ks s (if b then socket_after_send (packet_text summed x) s else s)
-  packet_if true x s w = queued_if (is_room s.tx (length (packet_text summed x))) (packet_text summed x) s w
-  packet_if false x s w = unmoved s
+  packet_if true x s e w = queued_if (is_room s.tx (length (packet_text summed x))) (packet_text summed x) s (λ room. w room e)
+  packet_if false x s e w = unmoved s
 
-  pub segment_moves : (x : Segment) (s : RawSocket) → (fits summed x s ≡ true → WasSent summed ks (packet_text summed x)) →
+  pub segment_moves : (x : Segment) (s : RawSocket) → (fits summed x s ≡ true → SentIf x) →
       Moves summed ks s (socket_after summed x s)
-  segment_moves x s w = packet_if (is_packet x) x s w
+  segment_moves x s w = packet_if (is_packet x) x s refl w
 
-  far_if : (b : Bool) (x : Segment) (s : RawSocket) → WasSent summed ks (packet_text summed x) →
+  far_if : (b : Bool) (x : Segment) (s : RawSocket) → SentIf x →
       Moves summed ks s (if b then socket_after summed x s else s)
   far_if true x s w = segment_moves x s (λ e. w)
   far_if false x s w = unmoved s
@@ -129,22 +133,22 @@ module _ (summed : Bool) (ks : List Life) where
     still set i = none_moves (raw_at i set)
 
     near_by : (set : Sockets L) (x : Segment) (i : ℕ) (o : Option RawSocket) → raw_at i set ≡ o →
-        (fits_at summed x o ≡ true → WasSent summed ks (packet_text summed x)) → AllMove summed ks set (with_segment summed x i o set)
+        (fits_at summed x o ≡ true → SentIf x) → AllMove summed ks set (with_segment summed x i o set)
     near_by set x i None is w = still set
     near_by set x i (Some s) is w = one_moves set i s (socket_after summed x s) is (segment_moves x s w)
 
     pub near_moves : (set : Sockets L) (x : Segment) (pair : Option SocketPair) →
-        (fits_near summed x pair set ≡ true → WasSent summed ks (packet_text summed x)) → AllMove summed ks set (after_near summed x pair set)
+        (fits_near summed x pair set ≡ true → SentIf x) → AllMove summed ks set (after_near summed x pair set)
     near_moves set x None w = still set
     near_moves set x (Some pair) w = near_by set x pair.near (raw_at pair.near set) refl w
 
     far_by : (set : Sockets L) (x : Segment) (waiting : List IpAddress) (i : ℕ) (o : Option RawSocket) → raw_at i set ≡ o →
-        WasSent summed ks (packet_text summed x) → AllMove summed ks set (with_far_segment summed x waiting i o set)
+        SentIf x → AllMove summed ks set (with_far_segment summed x waiting i o set)
     far_by set x waiting i None is w = still set
     far_by set x waiting i (Some s) is w =
         one_moves set i s (socket_after_far summed x waiting s) is (far_if (takes_far x s waiting) x s w)
 
     pub far_moves : (set : Sockets L) (x : Segment) (waiting : List IpAddress) (pair : Option SocketPair) →
-        WasSent summed ks (packet_text summed x) → AllMove summed ks set (after_far summed x waiting pair set)
+        SentIf x → AllMove summed ks set (after_far summed x waiting pair set)
     far_moves set x waiting None w = still set
     far_moves set x waiting (Some pair) w = far_by set x waiting pair.far (raw_at pair.far set) refl w

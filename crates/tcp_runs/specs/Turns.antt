@@ -12,6 +12,7 @@ use Rattle.tcp_host.specs.declared.iss.Endpoints.{Endpoints}
 use Rattle.tcp_streams.specs.declared.resets.Reset.{Reset}
 use Rattle.tcp_packets.specs.Arrivals.{HasSegment, arrived_in}
 use Rattle.tcp_packets.specs.Packets.{Segment, reset_between, packet_text}
+use Rattle.tcp_packets.specs.Sending.{is_packet}
 use Rattle.tcp_sockets.specs.Polls.{State, raw_at}
 use Rattle.tcp_laws.specs.Machines.{Sent, arrived, Act, Opens, Accepts, Writes, Reads, Closes, Aborts, Chooses, Gets, Expires, Sends}
 use Rattle.tcp_runs.specs.Lives.{Life, side_of, Event, Does, Begins, newest, after_event, after_events, Tells}
@@ -75,11 +76,12 @@ pub record IsSegmentOf (e : Endpoints) (k : Sent) (s : Segment) : Type 0 where
   pub octets : s.octets ≡ k.segment.octets
 
 -- octets are the packet of a segment that a connection sent in its life, or of a reset that belongs to none (RFC 9293
--- 3.10.7.1)
+-- 3.10.7.1); a packet can carry it
 pub data WasSent (summed : Bool) (ls : List Life) (octets : List ℕ) : Type 0 where
   InLife : (l : Life) (k : Sent) (s : Segment) → Contains ls l → Contains (side_of l).sent k → IsSegmentOf l.ends k s →
-      octets ≡ packet_text summed s → WasSent summed ls octets
-  InNone : (e : Endpoints) (r : Reset) → octets ≡ packet_text summed (reset_between e r) → WasSent summed ls octets
+      is_packet s ≡ true → octets ≡ packet_text summed s → WasSent summed ls octets
+  InNone : (e : Endpoints) (r : Reset) → is_packet (reset_between e r) ≡ true →
+      octets ≡ packet_text summed (reset_between e r) → WasSent summed ls octets
 
 -- what becomes of a raw socket: packets leave the front of its receive queue, and such packets are appended to what it
 -- sends

@@ -3,6 +3,7 @@
 
 ghost use Rattle.tcp_runs.specs.Laws.{CallsLiveOn, PollsLiveOn};
 ghost use Rattle.tcp_runs.specs.Pairs.{LivesKeep};
+ghost use Rattle.tcp_runs.specs.Readings.{WhatWasSentIsRead};
 
 /// Whatever a program calls: each connection does that, and no other one does anything.
 pub fn calls_live_on()
@@ -21,4 +22,10 @@ pub fn polls_live_on<L>()
 /// is a beginning of what the other one's program wrote, and all of it, once it is told the end.
 pub fn lives_keep()
     ensures { LivesKeep }
+{}
+
+/// Octets that are the packet of a segment that a connection sent in its life, or of a reset: at a raw socket they are
+/// read as that segment, between the ends reversed, or as a reset; so they are once a raw socket has stored them.
+pub fn what_was_sent_is_read()
+    ensures { WhatWasSentIsRead }
 {}

@@ -1,5 +1,5 @@
 -- A segment is read as it was written.
-use Rattle.std.proofs.Common.{◌≡◌, ℕ, ◌+◌, ◌-◌, ◌*◌, ◌/◌, ◌<◌, ◌^◌, true, List, [], ◌++◌, length, take, drop, get_or}
+use Rattle.std.proofs.Common.{◌≡◌, ℕ, ◌+◌, ◌-◌, ◌*◌, ◌/◌, ◌<◌, ◌^◌, Bool, true, false, List, [], ◌++◌, length, take, drop, get_or}
 use Rattle.std.proofs.Common.{refl, sym, ap, subst, ◌∙◌, length-append, arith}
 use Rattle.std.proofs.lemmas.List.{drop_at, take_at}
 use Rattle.ip_address.specs.declared.ip.IpAddress.{IpAddress}
@@ -8,14 +8,15 @@ use Rattle.wire_base.specs.Octets.{u16_at}
 use Rattle.wire_base.specs.Pseudo.{pseudo}
 use Rattle.wire_base.proofs.Pseudos.{header_words}
 use Rattle.wire_base.proofs.Sums.{summed_up, word_sum-append}
-use Rattle.ip_wire.specs.Tcp.{header_in, header_len, IsControl}
+use Rattle.ip_wire.specs.Tcp.{header_in, header_len, IsControl, IsHeader, IsTcp}
 use Rattle.ip_wire.specs.Tcp as words
 use Rattle.ip_wire.proofs.Ipv4Again.{total}
 use Rattle.ip_wire.proofs.TcpAgain as words_again
 use Rattle.ip_wire.specs.declared.tcp.TcpRepr.{TcpRepr as Words}
 use Rattle.tcp_wire.specs.declared.tcp.TcpRepr.{TcpRepr}
+use Rattle.tcp_wire.specs.declared.options.TcpOptions.{TcpOptions}
 use Rattle.tcp_wire.specs.Options.{options_text, options_in}
-use Rattle.tcp_wire.specs.Tcp.{with_options, words_of, words_text, header_with, text_len, text, options_part, ReadAgain}
+use Rattle.tcp_wire.specs.Tcp.{with_options, words_of, words_text, header_with, text_len, text, tcp_in, options_part, ReadAgain}
 use Rattle.tcp_wire.proofs.Lengths.{options_words}
 use Rattle.tcp_wire.proofs.OptionsAgain.{options_again}
 use Rattle.tcp_wire.proofs.Sums.{length-words_text}
@@ -104,25 +105,58 @@ sum_of_all : (src dst : IpAddress) (r : TcpRepr) (payload : List ℕ) (n : ℕ) 
 sum_of_all src dst r payload n e =
     ap (λ (k : ℕ). folded_sum (word_sum (pseudo src dst 6 k ++ text true src dst r payload))) e ∙ sums src dst r payload
 
-pub read_again : ReadAgain
-read_again checked src dst r payload h options fits =
+-- it is a segment, whatever its options are
+is_segment : (checked : Bool) (src dst : IpAddress) (r : TcpRepr) (payload : List ℕ) → IsHeader (words_of r) → text_len r + length payload < 2 ^ 16
+    → IsTcp checked src dst (text true src dst r payload)
+is_segment checked src dst r payload h fits =
     let octets = text true src dst r payload in
     let p = parts_of (65535 - folded_sum (word_sum (pseudo src dst 6 (text_len r + length payload) ++ (header_with 0 r ++ payload)))) r payload in
     let w = words_again.read_again checked src dst (words_of r) [] h (omega arith) in
     let port = ports src dst r payload in
     let len = p.len in
-    let header = p.header in (
-      record {
-        whole = omega (arith, len);
-        header = omega (arith, header);
-        header_fits = omega (arith, len, header);
-        source = λ e. w.0.source (sym port.0 ∙ e);
-        destination = λ e. w.0.destination (sym port.1 ∙ e);
-        flags = subst IsControl (sym (flags src dst r payload)) w.0.flags;
-        sum = λ yes. sum_of_all src dst r payload (length octets) len;
-      },
+    let header = p.header in record {
+      whole = omega (arith, len);
+      header = omega (arith, header);
+      header_fits = omega (arith, len, header);
+      source = λ e. w.0.source (sym port.0 ∙ e);
+      destination = λ e. w.0.destination (sym port.1 ∙ e);
+      flags = subst IsControl (sym (flags src dst r payload)) w.0.flags;
+      sum = λ yes. sum_of_all src dst r payload (length octets) len;
+    }
+
+words_read : (src dst : IpAddress) (r : TcpRepr) (payload : List ℕ) → IsHeader (words_of r) → header_in (text true src dst r payload) ≡ words_of r
+words_read src dst r payload h =
+    values src dst r payload ∙ ap (λ (q : Words × List ℕ). q.0) (words_again.read_again false src dst (words_of r) [] h (omega arith)).1
+
+pub read_again : ReadAgain
+read_again checked src dst r payload h options fits =
+    let octets = text true src dst r payload in
+    let p = parts_of (65535 - folded_sum (word_sum (pseudo src dst 6 (text_len r + length payload) ++ (header_with 0 r ++ payload)))) r payload in (
+      is_segment checked src dst r payload h fits,
       made r (header_in octets) (options_part octets) (drop (header_len octets) octets) payload
-          (values src dst r payload ∙ ap (λ (q : Words × List ℕ). q.0) w.1)
+          (words_read src dst r payload h)
           (ap options_in p.options ∙ options_again r.options options)
           p.rest,
     )
+
+-- a text whose options may be any is read as its values, but for these
+pub record IsReadButOptions (checked : Bool) (src dst : IpAddress) (r : TcpRepr) (payload : List ℕ) : Type 0 where
+  pub segment : IsTcp checked src dst (text true src dst r payload)
+  pub options : TcpOptions
+  pub values : tcp_in (text true src dst r payload) ≡ (record r { options = options }, payload)
+
+made_but_options : (r : TcpRepr) (w : Words) (options : TcpOptions) (rest payload : List ℕ) → w ≡ words_of r → rest ≡ payload
+    → ◌≡◌ {A = TcpRepr × List ℕ} (with_options w options, rest) (record r { options = options }, payload)
+made_but_options r w options rest payload ew er = rw (ew, er) refl
+
+pub read_but_options : (checked : Bool) (src dst : IpAddress) (r : TcpRepr) (payload : List ℕ) → IsHeader (words_of r)
+    → text_len r + length payload < 2 ^ 16 → IsReadButOptions checked src dst r payload
+read_but_options checked src dst r payload h fits =
+    let octets = text true src dst r payload in
+    let p = parts_of (65535 - folded_sum (word_sum (pseudo src dst 6 (text_len r + length payload) ++ (header_with 0 r ++ payload)))) r payload in
+    record {
+      segment = is_segment checked src dst r payload h fits;
+      options = options_in (options_part octets);
+      values = made_but_options r (header_in octets) (options_in (options_part octets)) (drop (header_len octets) octets) payload
+          (words_read src dst r payload h) p.rest;
+    }
