@@ -8,9 +8,9 @@ use Rattle.ip_address.specs.declared.ip.IpAddress.{IpAddress}
 use Rattle.ip_address.specs.declared.ip.IpAddress.TheVariants.{Ipv4}
 use Rattle.ip_address.specs.declared.ipv4.Ipv4Address.{Ipv4Address}
 use Rattle.iface_tables.specs.declared.neighbor.Neighbor.{Neighbor}
-use Rattle.host_machine.specs.State.Config.{if_ethernet}
-use Rattle.host_machine.specs.State.Host.{Host}
-use Rattle.host_machine.specs.State.Note.{Note}
+use Rattle.host_machine.specs.Interface.Config.{if_ethernet}
+use Rattle.host_machine.specs.Context.Host.{Host}
+use Rattle.host_machine.specs.Context.Note.{Note}
 use Rattle.host_machine.specs.Laws.Restraint.Readings.{Receives}
 use Rattle.guard.specs.Guard.{is_own}
 use Rattle.guard.specs.Watch.{admits}

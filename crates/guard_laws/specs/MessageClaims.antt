@@ -5,8 +5,8 @@ use Rattle.ip_address.specs.declared.ethernet_address.EthernetAddress.{EthernetA
 use Rattle.ip_address.specs.declared.hardware.HardwareAddress.TheVariants.{Ethernet}
 use Rattle.ip_address.specs.declared.ip.IpAddress.TheVariants.{Ipv6}
 use Rattle.ip_address.specs.declared.ipv6.Ipv6Address.{Ipv6Address}
-use Rattle.host_machine.specs.State.Host.{Host}
-use Rattle.host_machine.specs.State.Note.{Note}
+use Rattle.host_machine.specs.Context.Host.{Host}
+use Rattle.host_machine.specs.Context.Note.{Note}
 use Rattle.guard.specs.Guard.{is_own}
 use Rattle.guard.specs.Kind.{octet_at}
 use Rattle.guard.specs.declared.watch.Watch.{Watch}

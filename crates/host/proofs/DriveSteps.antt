@@ -9,16 +9,16 @@ use Rattle.host_machine.specs.declared.command.Command.TheVariants as command
 use Rattle.host_machine.specs.declared.command.Answer.{Answer}
 use Rattle.host_machine.specs.declared.command.Answer.TheVariants as answer
 use Rattle.host_machine.specs.declared.results.PollIngressSingleResult.{PollIngressSingleResult}
-use Rattle.host_machine.specs.State.Host.{Host, SocketSet}
+use Rattle.host_machine.specs.Context.Host.{Host, SocketSet}
 use Rattle.host_machine.specs.declared.results.PollResult.{PollResult}
-use Rattle.host_machine.specs.Polling.Ingress.{Ingress}
-use Rattle.host_machine.specs.Sending.Egress.{Egress}
-use Rattle.host_machine.specs.Polling.Polling.{Polls}
-use Rattle.host_machine.specs.Polling.Step.{Step, PolledIngressSingle, PolledEgress, Polled, OwnerActed}
-use Rattle.host_machine.specs.Polling.Run.{Ends, Then, NoAct, ThenAct}
+use Rattle.host_machine.specs.Interface.Ingress.{Ingress}
+use Rattle.host_machine.specs.Interface.Egress.{Egress}
+use Rattle.host_machine.specs.Interface.Polling.{Polls}
+use Rattle.host_machine.specs.Interface.Step.{Step, PolledIngressSingle, PolledEgress, Polled, OwnerActed}
+use Rattle.host_machine.specs.Interface.Run.{Ends, Then, NoAct, ThenAct}
 use Rattle.host_machine.specs.Laws.Real.{IsRegular}
 use Rattle.host_machine.specs.Laws.Ran.{Ran}
-use Rattle.host_machine.proofs.Polling.RunConcatenation.{run_laws, ran_on}
+use Rattle.host_machine.proofs.Interface.RunConcatenation.{run_laws, ran_on}
 use Rattle.interface.specs.declared.interface.Interface.{Interface}
 use Rattle.interface.specs.Stands.{StandsFor, Refinement}
 use Rattle.interface.specs.Refines.{RefinementTelling}

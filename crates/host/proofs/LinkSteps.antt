@@ -13,13 +13,13 @@ use Rattle.socket_set.specs.SocketSet.{Sockets}
 use Rattle.host_machine.specs.declared.command.Command.{Command}
 use Rattle.host_machine.specs.declared.command.Command.TheVariants.{PollIngressSingle}
 use Rattle.host_machine.specs.declared.command.Answer.{Answer}
-use Rattle.host_machine.specs.State.Host.{Host}
-use Rattle.host_machine.specs.Polling.Step.{Step}
-use Rattle.host_machine.specs.Polling.Run.{Transition, Run, Ends, Then, events_in}
+use Rattle.host_machine.specs.Context.Host.{Host}
+use Rattle.host_machine.specs.Interface.Step.{Step}
+use Rattle.host_machine.specs.Interface.Run.{Transition, Run, Ends, Then, events_in}
 use Rattle.host_machine.proofs.Runs.Walk.{sent_frames-append}
-use Rattle.host_machine.proofs.Receiving.SlotEffects.{handed_frames-append}
-use Rattle.host_machine.proofs.Receiving.Pieces.{IsIn, contains_in, in_left, in_right, in_either}
-use Rattle.host_machine.proofs.Polling.RunConcatenation.{run_laws}
+use Rattle.host_machine.proofs.Receive.SlotEffects.{handed_frames-append}
+use Rattle.host_machine.proofs.Receive.Pieces.{IsIn, contains_in, in_left, in_right, in_either}
+use Rattle.host_machine.proofs.Interface.RunConcatenation.{run_laws}
 use Rattle.host_machine.proofs.Runs.TwoHosts.{run_rebuilds}
 use Rattle.host_laws.proofs.LessWork.{runs_rest}
 use Rattle.host_laws.proofs.PingsBack.{runs_return}

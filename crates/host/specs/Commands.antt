@@ -3,10 +3,10 @@ use Rattle.std.specs.Prelude.{ℕ, List}
 use Rattle.net_base.specs.Device.{Event}
 use Rattle.host_machine.specs.declared.command.Command.{Command}
 use Rattle.host_machine.specs.declared.command.Answer.{Answer}
-use Rattle.host_machine.specs.State.Host.{Host, SocketSet}
-use Rattle.host_machine.specs.State.Note.{Note}
-use Rattle.host_machine.specs.Polling.Step.{Act, Step}
-use Rattle.host_machine.specs.Polling.Run.{Did}
+use Rattle.host_machine.specs.Context.Host.{Host, SocketSet}
+use Rattle.host_machine.specs.Context.Note.{Note}
+use Rattle.host_machine.specs.Interface.Step.{Act, Step}
+use Rattle.host_machine.specs.Interface.Run.{Did}
 
 -- what a command did: these are the device's events, the owner's actions and the notes, and this is the host afterwards
 pub record RefinementOfCommand {D O : Type 0} (tells : D → List Event → D → Type 0)

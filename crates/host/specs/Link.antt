@@ -6,10 +6,10 @@ use Rattle.std.specs.FinMap as map
 use Rattle.net_base.specs.Time.{IsMoment}
 use Rattle.net_base.specs.MemoryDevice.{Memory, Tells}
 use Rattle.host_machine.specs.declared.command.Command.TheVariants.{PollIngressSingle}
-use Rattle.host_machine.specs.State.Host.{Host, SocketSet}
-use Rattle.host_machine.specs.Polling.Step.{Step, IsTimely}
-use Rattle.host_machine.specs.State.Note.{identifications}
-use Rattle.host_machine.specs.Polling.Run.{Transition, Run, Did, notes_in}
+use Rattle.host_machine.specs.Context.Host.{Host, SocketSet}
+use Rattle.host_machine.specs.Interface.Step.{Step, IsTimely}
+use Rattle.host_machine.specs.Context.Note.{identifications}
+use Rattle.host_machine.specs.Interface.Run.{Transition, Run, Did, notes_in}
 use Rattle.host_machine.specs.Laws.Real.{IsRegular}
 use Rattle.host_machine.specs.Laws.TwoHosts.{HaveOwnKeys, RebuildsThese, WereSent, cuts_in, key_of_cut}
 use Rattle.host_machine.specs.Laws.Ran.{Laws}

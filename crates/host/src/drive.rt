@@ -1,7 +1,7 @@
 //! Runs lists of calls, and proves that they are runs of the host machine.
 ghost use Rattle.std.specs.Prelude.{◌≡◌, List, length, All};
-ghost use Rattle.host_machine.specs.State.Host.{Host, SocketSet};
-ghost use Rattle.host_machine.specs.Polling.Step.{IsTimely, UpdatesIpAddrs};
+ghost use Rattle.host_machine.specs.Context.Host.{Host, SocketSet};
+ghost use Rattle.host_machine.specs.Interface.Step.{IsTimely, UpdatesIpAddrs};
 ghost use Rattle.iface_tables.specs.Route.{first, ipv4_gateway, ipv6_gateway, is_ipv4_gateway};
 ghost use Rattle.iface_tables.specs.Route.{is_ipv6_gateway, old_or_full, with_default, without_first};
 ghost use Rattle.interface.specs.Stands.{StandsFor, Becomes, HostRefines, host_with};
@@ -22,7 +22,7 @@ use socket_set::SocketSet;
 /// The user of a host's sockets: it acts on them where a list of commands gives it a turn.
 pub trait Owner {
     ghost use Rattle.std.specs.Prelude.{ℕ};
-    ghost use Rattle.host_machine.specs.State.Host.{SocketSet};
+    ghost use Rattle.host_machine.specs.Context.Host.{SocketSet};
 
     /// What it may do in a turn: from one state of its own to another, by the number of the turn, with the sockets
     /// before and after.

@@ -1,7 +1,7 @@
 //! Two hosts on a link that loses, repeats and reorders frames, but never changes one.
 ghost use Rattle.std.specs.Prelude.{◌≡◌, [], ◌∷◌, Some, None, length, All, OnOk, OnErr, MatchOption};
 ghost use Rattle.net_base.specs.Time.{IsMoment};
-ghost use Rattle.host_machine.specs.Polling.Step.{IsTimely};
+ghost use Rattle.host_machine.specs.Interface.Step.{IsTimely};
 ghost use Rattle.net_base.specs.MemoryDevice.{Tells};
 ghost use Rattle.interface.specs.Stands.{StandsFor};
 ghost use Rattle.host.specs.Commands.{HostRefinesCommand};

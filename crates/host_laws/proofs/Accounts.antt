@@ -19,37 +19,41 @@ use Rattle.fragmentation.specs.Fragments.{Fragment}
 use Rattle.fragmentation.specs.Cuts.{Datagram, Piece, HasForm, cut, count, pieces_of, piece_of}
 use Rattle.host_machine.specs.declared.results.PollIngressSingleResult.{PollIngressSingleResult}
 use Rattle.host_machine.specs.declared.results.DispatchError.{DispatchError}
-use Rattle.host_machine.specs.State.Note.{Note, OfCuts, Cut, PieceSent, cut_notes}
-use Rattle.host_machine.specs.State.Host.{Host, without_expired, with_left}
-use Rattle.host_machine.specs.Sending.Packet.{Packet, PacketV4, payload_of}
-use Rattle.host_machine.specs.Sending.Frame.{piece_frame, sends}
-use Rattle.host_machine.specs.Sending.Dispatch.{Outcome, Dispatches, datagram_of}
+use Rattle.host_machine.specs.Context.Note.{Note, OfCuts, Cut, PieceSent, cut_notes}
+use Rattle.host_machine.specs.Context.Host.{Host, without_expired, with_left}
+use Rattle.host_machine.specs.Packet.Packet.{Packet, PacketV4, payload_of}
+use Rattle.host_machine.specs.Packet.Frame.{piece_frame, sends}
+use Rattle.host_machine.specs.Send.Outcome.{Outcome}
+use Rattle.host_machine.specs.Send.Dispatch.{Dispatches}
+use Rattle.host_machine.specs.Context.Pieces.{datagram_of}
 use Rattle.host_machine.specs.Laws.Real.{IsReal, IsPart, IsRegular}
-use Rattle.host_machine.specs.Receiving.Reply.{Reply, Arp, Ip}
-use Rattle.host_machine.specs.Receiving.Response.{Responds}
-use Rattle.host_machine.specs.Polling.Ingress.{Takes, Ingress}
+use Rattle.host_machine.specs.Receive.Reply.{Reply, Arp, Ip}
+use Rattle.host_machine.specs.Receive.Response.{Responds}
+use Rattle.host_machine.specs.Interface.Ingress.{Takes, Ingress}
 use Rattle.host_machine.specs.Laws.Steps.{SendsOneThing, ThePacket, ItsFirstPiece, ARequest}
 use Rattle.host_machine.specs.Laws.Steps as laws
-use Rattle.host_machine.specs.Sending.Multicast as multicast
-use Rattle.host_machine.specs.Sending.Reports.{IgmpEgress, MldEgress}
-use Rattle.host_machine.specs.Sending.Reports as reports
-use Rattle.host_machine.specs.Sending.Slaac.{NdiscRsEgress}
-use Rattle.host_machine.specs.Sending.Slaac as slaac
-use Rattle.host_machine.specs.Sending.Egress.{Ipv4Egress}
-use Rattle.host_machine.specs.Sending.Egress as egress
+use Rattle.host_machine.specs.Multicast.Joins as multicast
+use Rattle.host_machine.specs.Multicast.Igmp.{IgmpEgress}
+use Rattle.host_machine.specs.Multicast.Mld.{MldEgress}
+use Rattle.host_machine.specs.Multicast.Igmp as igmp
+use Rattle.host_machine.specs.Multicast.Mld as mld
+use Rattle.host_machine.specs.Discovery.RouterSolicitation.{NdiscRsEgress}
+use Rattle.host_machine.specs.Discovery.RouterSolicitation as slaac
+use Rattle.host_machine.specs.Send.Fragments.{Ipv4Egress}
+use Rattle.host_machine.specs.Send.Fragments as egress
 use Rattle.host_machine.specs.Laws.TwoHosts.{cuts}
-use Rattle.host_machine.proofs.State.NotesBySubject.{cut_notes-append, cut_notes-slots}
-use Rattle.host_machine.proofs.State.UnchangedFields.{Keeps}
-use Rattle.host_machine.proofs.Receiving.Malformed.{sent_frames-sends}
-use Rattle.host_machine.proofs.Receiving.Pieces.{is_in, contains_in, in_left, in_right, count_below, length-pieces_from}
+use Rattle.host_machine.proofs.Context.NotesBySubject.{cut_notes-append, cut_notes-slots}
+use Rattle.host_machine.proofs.Context.UnchangedFields.{Keeps}
+use Rattle.host_machine.proofs.Receive.Malformed.{sent_frames-sends}
+use Rattle.host_machine.proofs.Receive.Pieces.{is_in, contains_in, in_left, in_right, count_below, length-pieces_from}
 use Rattle.host_machine.proofs.Runs.TwoHosts.{in_map, size_positive, cuts-append}
-use Rattle.host_machine.proofs.Sending.PendingParts.{pieces_are}
+use Rattle.host_machine.proofs.Context.PendingParts.{pieces_are}
 use Rattle.host_machine.proofs.Runs.Walk.{Reached, dispatched, taken, sent_frames-append}
 use Rattle.host_machine.proofs.Runs.SentPieces.{GoodReply, takes_good, takes_real, reached_of}
-use Rattle.host_machine.proofs.Sending.NotedRequests.{sends_one}
+use Rattle.host_machine.proofs.Discovery.NotedRequests.{sends_one}
 use Rattle.host_machine.proofs.Runs.RunRequests.{takes_attends}
-use Rattle.host_machine.proofs.Sending.Turns.{dispatched_sockets, report_is, solicitation_is}
-use Rattle.host_machine.proofs.Sending.OwnMessages.{is_own}
+use Rattle.host_machine.proofs.Interface.Turns.{dispatched_sockets, report_is, solicitation_is}
+use Rattle.host_machine.proofs.Interface.OwnMessages.{is_own}
 use Rattle.host_laws.specs.Departures.{Departure}
 use Rattle.host_laws.specs.Senders.{NoSocketWritesUdp, CarriesNoUdp, CarryOnly, WentIn, may_be_udp, ways}
 use Rattle.host_laws.proofs.IngressDeliveries.{all-append}
@@ -317,17 +321,17 @@ module _ {packet_for : List IpCidr → IpAddress → Option Packet}
 
 pub igmp_accounts : {H new : Host} {told : List Event} {notes : List Note} →
     IgmpEgress H told notes new → AccountsFor H [] (sent_frames told) notes new
-igmp_accounts (reports.NotDue h t n e) = accounts_same (ap sent_frames t) n e
-igmp_accounts (reports.NoFurtherGroup h g t n e) = accounts_before (accounts_same (ap sent_frames t) n refl) e (stay refl refl refl refl refl)
-igmp_accounts (reports.NoAddress next h g a t n e) = accounts_same (ap sent_frames t) n e
-igmp_accounts (reports.NotGranted p h r t n e) = accounts_same (ap sent_frames t) n e
-igmp_accounts {H} {new} {told} {notes} (reports.Sent p outcome frames mid h r d t e) = over_told told (ap sent_frames t ∙ sent_frames-sends frames)
+igmp_accounts (igmp.NotDue h t n e) = accounts_same (ap sent_frames t) n e
+igmp_accounts (igmp.NoFurtherGroup h g t n e) = accounts_before (accounts_same (ap sent_frames t) n refl) e (stay refl refl refl refl refl)
+igmp_accounts (igmp.NoAddress next h g a t n e) = accounts_same (ap sent_frames t) n e
+igmp_accounts (igmp.NotGranted p h r t n e) = accounts_same (ap sent_frames t) n e
+igmp_accounts {H} {new} {told} {notes} (igmp.Sent p outcome frames mid h r d t e) = over_told told (ap sent_frames t ∙ sent_frames-sends frames)
     (accounts_before (own_accounts (report_is H p r) d) e (stay refl refl refl refl refl))
 
 pub mld_accounts : {H new : Host} {told : List Event} {notes : List Note} → MldEgress H told notes new → AccountsFor H [] (sent_frames told) notes new
-mld_accounts (reports.NotYet h t n e) = accounts_same (ap sent_frames t) n e
-mld_accounts (reports.GivenUp h t n e) = accounts_before (accounts_same (ap sent_frames t) n refl) e (stay refl refl refl refl refl)
-mld_accounts {H} {new} {told} {notes} (reports.ReportGoes outcome frames mid h d t e) =
+mld_accounts (mld.NotYet h t n e) = accounts_same (ap sent_frames t) n e
+mld_accounts (mld.GivenUp h t n e) = accounts_before (accounts_same (ap sent_frames t) n refl) e (stay refl refl refl refl refl)
+mld_accounts {H} {new} {told} {notes} (mld.ReportGoes outcome frames mid h d t e) =
     over_told told (ap sent_frames t ∙ sent_frames-sends frames) (accounts_before (own_accounts refl d) e (stay refl refl refl refl refl))
 
 -- a call that takes a frame

@@ -9,13 +9,14 @@ use Rattle.sockets.specs.declared.socket.SocketOf.TheVariants.{Raw, Icmp, Udp, T
 use Rattle.transport_sockets.specs.Udp.{UdpSocket, without_first_to_send}
 use Rattle.host_machine.specs.declared.results.PollResult.{PollResult}
 use Rattle.host_machine.specs.declared.results.Turn.{Turn}
-use Rattle.host_machine.specs.State.Note.{Note, cut_notes}
-use Rattle.host_machine.specs.State.Host.{Host, Socket, Storage, SocketSet}
-use Rattle.host_machine.specs.Sending.Egress.{SocketTurn, Serves, Walks, SocketEgress, Round, Egress}
-use Rattle.host_machine.specs.Sending.Egress as egress
+use Rattle.host_machine.specs.Context.Note.{Note, cut_notes}
+use Rattle.host_machine.specs.Context.Host.{Host, Socket, Storage, SocketSet}
+use Rattle.host_machine.specs.Sockets.Turns.{SocketTurn, Serves, Walks, SocketEgress, with_socket}
+use Rattle.host_machine.specs.Interface.Egress.{Round, Egress}
+use Rattle.host_machine.specs.Sockets.Turns as egress
 use Rattle.host_machine.specs.Laws.Order.{IsBeginning}
 use Rattle.host_machine.specs.Laws.TwoHosts.{cuts}
-use Rattle.host_machine.proofs.Polling.PollCalls.{both}
+use Rattle.host_machine.proofs.Interface.PollCalls.{both}
 use Rattle.host_machine.specs.Laws.Real.{IsRegular}
 use Rattle.host_laws.specs.Deliveries.{udp_at}
 use Rattle.host_laws.specs.Departures.{Departure, entries, from_index, without}
@@ -24,13 +25,13 @@ use Rattle.socket_base.specs.Queue.{first_of}
 use Rattle.socket_set.specs.SocketMeta.{Wait}
 use Rattle.network_sockets.specs.Icmp as icmp_socket
 use Rattle.transport_sockets.specs.Tcp as tcp_socket
-use Rattle.host_machine.specs.State.Addresses.{source_for}
-use Rattle.host_machine.specs.State.Host.{at}
-use Rattle.host_machine.specs.Sending.Packet.{Packet, payload_of}
-use Rattle.host_machine.specs.Sending.Egress.{packet_from, with_socket}
-use Rattle.host_machine.proofs.Receiving.Malformed.{sent_frames-sends}
-use Rattle.host_machine.proofs.Receiving.RawProtocols.{get_speaks}
-use Rattle.host_machine.proofs.Sending.Turns.{first_is, icmp_is, tcp_is, join_is, leave_is, served_speaks, turn_sockets}
+use Rattle.host_machine.specs.Context.Addresses.{source_for}
+use Rattle.host_machine.specs.Context.Host.{at}
+use Rattle.host_machine.specs.Packet.Packet.{Packet, payload_of}
+use Rattle.host_machine.specs.Sockets.Offers.{packet_from}
+use Rattle.host_machine.proofs.Receive.Malformed.{sent_frames-sends}
+use Rattle.host_machine.proofs.Sockets.RawProtocols.{get_speaks}
+use Rattle.host_machine.proofs.Interface.Turns.{first_is, icmp_is, tcp_is, join_is, leave_is, served_speaks, turn_sockets}
 use Rattle.host_laws.specs.Senders.{CarryOnly, NoSocketWritesUdp, may_be_udp}
 use Rattle.host_laws.proofs.FramesWithoutUdp.{has_udp, own_has_none}
 use Rattle.host_laws.proofs.Accounts.{AccountsFor, Follows, accounts_after, accounts_same, all_account, dispatch_follows, igmp_accounts}

@@ -26,29 +26,29 @@ use Rattle.fragmentation.specs.Cuts.{Datagram}
 use Rattle.fragmentation.specs.Reassembly.{SlotNote, Take, Arrival, Rebuild}
 use Rattle.host_machine.specs.declared.command.Command.{Command}
 use Rattle.host_machine.specs.declared.command.Command.TheVariants as command
-use Rattle.host_machine.specs.State.Note.{cut_notes, slot_notes}
-use Rattle.host_machine.specs.State.Host.{Host, without_expired}
-use Rattle.host_machine.specs.Sending.Slaac.{with_slaac_applied}
-use Rattle.host_machine.specs.State.Addresses.{may_be_source}
-use Rattle.host_machine.specs.Sending.Egress.{packet_between}
-use Rattle.host_machine.specs.Sending.Packet.{IpPayload, Packet, PacketV4, Udp, IsFormed, header_v4, payload_of}
-use Rattle.host_machine.specs.Sending.Packet as packet
-use Rattle.host_machine.specs.Sending.Frame.{ip_frame}
+use Rattle.host_machine.specs.Context.Note.{cut_notes, slot_notes}
+use Rattle.host_machine.specs.Context.Host.{Host, without_expired}
+use Rattle.host_machine.specs.Context.Autoconfiguration.{with_slaac_applied}
+use Rattle.host_machine.specs.Context.Addresses.{may_be_source}
+use Rattle.host_machine.specs.Sockets.Offers.{packet_between}
+use Rattle.host_machine.specs.Packet.Packet.{IpPayload, Packet, PacketV4, Udp, IsFormed, header_v4, payload_of}
+use Rattle.host_machine.specs.Packet.Packet as packet
+use Rattle.host_machine.specs.Packet.Frame.{ip_frame}
 use Rattle.host_machine.specs.Laws.Frames.{Carries}
-use Rattle.host_machine.specs.Sending.Dispatch.{datagram_of}
-use Rattle.host_machine.specs.Receiving.Ipv4.{key_in, fragment_in, datagram_header}
+use Rattle.host_machine.specs.Context.Pieces.{datagram_of}
+use Rattle.host_machine.specs.Receive.Ipv4.{key_in, fragment_in, datagram_header}
 use Rattle.host_machine.specs.Laws.Arrivals.{rebuilt, slot_notes_in}
 use Rattle.host_machine.specs.Laws.Real.{IsReal, IsRegular}
-use Rattle.host_machine.specs.Polling.Run.{Transition, Run, Ends, Then, events_in, notes_in}
+use Rattle.host_machine.specs.Interface.Run.{Transition, Run, Ends, Then, events_in, notes_in}
 use Rattle.host_machine.specs.Laws.TwoHosts.{WereSent, cuts, cuts_in, key_of_cut}
-use Rattle.host_machine.proofs.State.NotesBySubject.{cut_notes-append, slot_notes-append}
-use Rattle.host_machine.proofs.Receiving.Pieces.{IsIn, is_in, contains_in, in_left, in_right, in_either}
+use Rattle.host_machine.proofs.Context.NotesBySubject.{cut_notes-append, slot_notes-append}
+use Rattle.host_machine.proofs.Receive.Pieces.{IsIn, is_in, contains_in, in_left, in_right, in_either}
 use Rattle.host_machine.proofs.Runs.ReassemblyOrigin.{test_same}
 use Rattle.host_machine.proofs.Runs.SentPieces.{run_real}
 use Rattle.host_machine.proofs.Runs.SentPieces as shown
-use Rattle.host_machine.proofs.Sending.Turns.{between_is}
+use Rattle.host_machine.proofs.Interface.Turns.{between_is}
 use Rattle.host_machine.proofs.Runs.TwoHosts.{cuts-append, frame_is_cut, run_rebuilds}
-use Rattle.host_machine.proofs.Receiving.SlotEffects.{handed_frames-append}
+use Rattle.host_machine.proofs.Receive.SlotEffects.{handed_frames-append}
 use Rattle.host_machine.proofs.Runs.Walk.{sent_frames-append}
 use Rattle.host_laws.specs.Deliveries.{Delivery, Deliver, NoFrame, OneGets, NoSocketGets, BringsPacket, BringsUdp, AtOnce, InFragments}
 use Rattle.host_laws.specs.Departures.{Departure, Way, Dropped, InOneFrame, InPieces, HasDeparted, Departs, cuts_by, cuts_of, departs_from}

@@ -8,17 +8,17 @@ use Rattle.socket_base.specs.declared.endpoint.IpEndpoint.{IpEndpoint}
 use Rattle.socket_base.specs.declared.endpoint.IpListenEndpoint.{IpListenEndpoint}
 use Rattle.transport_sockets.specs.Udp.{UdpSocket, without_first_to_send}
 use Rattle.fragmentation.specs.Cuts.{Datagram, pieces_of}
-use Rattle.host_machine.specs.State.Note.{Note, cut_notes}
-use Rattle.host_machine.specs.State.Host.{Host, SocketSet}
-use Rattle.host_machine.specs.Sending.Frame.{ip_frame, piece_frame}
-use Rattle.host_machine.specs.Sending.Dispatch.{datagram_of}
-use Rattle.host_machine.specs.Sending.Packet.{total_len}
-use Rattle.host_machine.specs.Sending.Packet as packet
+use Rattle.host_machine.specs.Context.Note.{Note, cut_notes}
+use Rattle.host_machine.specs.Context.Host.{Host, SocketSet}
+use Rattle.host_machine.specs.Packet.Frame.{ip_frame, piece_frame}
+use Rattle.host_machine.specs.Context.Pieces.{datagram_of}
+use Rattle.host_machine.specs.Packet.Packet.{total_len}
+use Rattle.host_machine.specs.Packet.Packet as packet
 use Rattle.net_base.specs.Checksum.{ip_mtu_of}
 use Rattle.host_machine.specs.Laws.Order.{IsAmong, IsBeginning}
-use Rattle.host_machine.specs.Sending.Parts.{Part}
+use Rattle.host_machine.specs.Interface.Parts.{Part}
 use Rattle.host_machine.specs.Laws.TwoHosts.{cuts}
-use Rattle.host_machine.proofs.State.NotesBySubject.{cut_notes-append}
+use Rattle.host_machine.proofs.Context.NotesBySubject.{cut_notes-append}
 use Rattle.host_machine.proofs.Runs.Walk.{sent_frames-append}
 use Rattle.host_laws.specs.Deliveries.{udp_at}
 use Rattle.host_laws.specs.Departures.{Departure, HasDeparted, Departs, InOneFrame, InPieces, cuts_of}

@@ -22,25 +22,30 @@ use Rattle.group_wire.specs.declared.mld.MldRecordType.TheVariants.{ChangeToIncl
 use Rattle.group_table.specs.declared.groups.Group.{Group}
 use Rattle.group_table.specs.declared.groups.GroupState.{GroupState}
 use Rattle.fragmentation.specs.Cuts.{Datagram, Piece, HasForm, count, cut, pieces_of, piece_of}
-use Rattle.host_machine.proofs.Receiving.Pieces.{length-pieces_from}
-use Rattle.host_machine.specs.State.Note.{Note}
-use Rattle.host_machine.specs.State.Host.{Host}
-use Rattle.host_machine.specs.State.Addresses.{ipv4_addr, link_local_addr}
-use Rattle.host_machine.specs.Sending.Packet.{Packet, PacketV4, payload_len, total_len}
-use Rattle.host_machine.specs.Sending.Packet as packet
-use Rattle.host_machine.specs.Sending.Dispatch.{Outcome, IsUnsent, Emits, Discovers, DispatchesByHop}
-use Rattle.host_machine.specs.Sending.Dispatch.{DispatchesEthernet, SendsOver, Dispatches}
-use Rattle.host_machine.specs.Sending.Dispatch.{datagram_of, piece_size, with_next_id}
-use Rattle.host_machine.specs.Sending.Dispatch as dispatch
-use Rattle.host_machine.specs.Sending.Multicast.{ReportsEach, ReportsAll, join_packet, leave_packet}
-use Rattle.host_machine.specs.Sending.Multicast as multicast
-use Rattle.host_machine.specs.Sending.Reports.{IgmpEgress, MldEgress, next_group, next_report, next_mld_report}
-use Rattle.host_machine.specs.Sending.Reports as reports
-use Rattle.host_machine.specs.Sending.Slaac.{NdiscRsEgress, due_solicitation, router_solicitation, solicitation_by}
-use Rattle.host_machine.specs.Sending.Slaac.{solicitation_from}
-use Rattle.host_machine.specs.Sending.Slaac as slaac
+use Rattle.host_machine.proofs.Receive.Pieces.{length-pieces_from}
+use Rattle.host_machine.specs.Context.Note.{Note}
+use Rattle.host_machine.specs.Context.Host.{Host, with_next_id}
+use Rattle.host_machine.specs.Context.Addresses.{ipv4_addr, link_local_addr}
+use Rattle.host_machine.specs.Packet.Packet.{Packet, PacketV4, payload_len, total_len}
+use Rattle.host_machine.specs.Packet.Packet as packet
+use Rattle.host_machine.specs.Send.Outcome.{Outcome, IsUnsent}
+use Rattle.host_machine.specs.Send.Dispatch.{Emits, DispatchesByHop, DispatchesEthernet, SendsOver, Dispatches}
+use Rattle.host_machine.specs.Send.Requests.{Discovers}
+use Rattle.host_machine.specs.Context.Pieces.{datagram_of, piece_size}
+use Rattle.host_machine.specs.Send.Dispatch as dispatch
+use Rattle.host_machine.specs.Send.Requests as requests
+use Rattle.host_machine.specs.Multicast.Joins.{ReportsEach, ReportsAll, join_packet, leave_packet}
+use Rattle.host_machine.specs.Multicast.Igmp as igmp_rules
+use Rattle.host_machine.specs.Multicast.Mld as mld_rules
+use Rattle.host_machine.specs.Multicast.Joins as joins
+use Rattle.host_machine.specs.Multicast.Igmp.{IgmpEgress, next_group, next_report}
+use Rattle.host_machine.specs.Multicast.Mld.{MldEgress, next_mld_report}
+use Rattle.host_machine.specs.Multicast.Igmp as igmp_rules
+use Rattle.host_machine.specs.Multicast.Mld as mld_rules
+use Rattle.host_machine.specs.Discovery.RouterSolicitation.{NdiscRsEgress, due_solicitation, router_solicitation, solicitation_by, solicitation_from}
+use Rattle.host_machine.specs.Discovery.RouterSolicitation as slaac
 use Rattle.slaac.specs.Slaac.{rs_required}
-use Rattle.host_machine.proofs.Sending.GrantedEgress.{tells_way}
+use Rattle.host_machine.proofs.Interface.GrantedEgress.{tells_way}
 
 -- the device of a host takes packets of 576 octets
 abbrev pub IsWide : Host → Type 0
@@ -81,9 +86,9 @@ emitted_left (dispatch.TooLong long longer o u) wide = unsent_left u
 discovered_left : {own : EthernetAddress} {hop : IpAddress} {p : Packet} {outcome : Outcome} {H new : Host}
     {frames : List (List ℕ)} {notes : List Note} →
     Discovers own hop outcome H frames notes new → LeavesFew p outcome H new
-discovered_left (dispatch.Asked target source h s o f n e) = SameLeft (ap (λ (K : Host). K.left) e)
-discovered_left (dispatch.NoSource target h s o u) = unsent_left u
-discovered_left (dispatch.Solicited target h o f n e) = SameLeft (ap (λ (K : Host). K.left) e)
+discovered_left (requests.Asked target source h s o f n e) = SameLeft (ap (λ (K : Host). K.left) e)
+discovered_left (requests.NoSource target h s o u) = unsent_left u
+discovered_left (requests.Solicited target h o f n e) = SameLeft (ap (λ (K : Host). K.left) e)
 
 by_hop_left : {id : ℕ} {own : EthernetAddress} {p : Packet} {hop : IpAddress} {outcome : Outcome} {H new : Host}
     {frames : List (List ℕ)} {notes : List Note} →
@@ -131,7 +136,7 @@ short_left {p} {outcome} {H} {new} d wide short = by (dispatched_left d wide) wh
   by (FewLeft o q is long few) = absurd (never_long p q (ip_mtu_of H.capabilities) short is long wide)
 
 igmp_short : (own : List IpCidr) (dst : Ipv4Address) (message : IgmpRepr) (p : Packet) →
-    multicast.igmp_packet own dst message ≡ Some p → is_short p ≡ true
+    igmp_rules.igmp_packet own dst message ≡ Some p → is_short p ≡ true
 igmp_short own dst message p = by (ipv4_addr own) where
   by : (o : Option Ipv4Address) → option_map (λ src. packet.Ipv4
       (record { src_addr = src; dst_addr = dst; hop_limit = 1; payload = packet.Igmp message })) o ≡ Some p → is_short p ≡ true
@@ -142,15 +147,15 @@ igmp_short own dst message p = by (ipv4_addr own) where
 
 pub join_short : (own : List IpCidr) (a : IpAddress) (p : Packet) → join_packet own a ≡ Some p → is_short p ≡ true
 join_short own (Ipv4 a) p e = igmp_short own _ _ p e
-join_short own (Ipv6 a) p e = let same : multicast.mld_report own ChangeToExclude (a ∷ []) ≡ p = cc in ap is_short (sym same)
+join_short own (Ipv6 a) p e = let same : mld_rules.mld_report own ChangeToExclude (a ∷ []) ≡ p = cc in ap is_short (sym same)
 
 pub leave_short : (own : List IpCidr) (a : IpAddress) (p : Packet) → leave_packet own a ≡ Some p → is_short p ≡ true
 leave_short own (Ipv4 a) p e = igmp_short own _ _ p e
-leave_short own (Ipv6 a) p e = let same : multicast.mld_report own ChangeToInclude (a ∷ []) ≡ p = cc in ap is_short (sym same)
+leave_short own (Ipv6 a) p e = let same : mld_rules.mld_report own ChangeToInclude (a ∷ []) ≡ p = cc in ap is_short (sym same)
 
 report_short : (H : Host) (p : Packet) → next_report H ≡ Some p → is_short p ≡ true
 report_short H p = by (next_group H H.igmp_report) where
-  by : (o : Option (IgmpVersion × Ipv4Address)) → option_and_then (λ n. multicast.igmp_report H.ip_addrs n.0 n.1) o ≡ Some p → is_short p ≡ true
+  by : (o : Option (IgmpVersion × Ipv4Address)) → option_and_then (λ n. igmp_rules.igmp_report H.ip_addrs n.0 n.1) o ≡ Some p → is_short p ≡ true
   by None e = absurd cc
   by (Some n) e = igmp_short H.ip_addrs _ _ p e
 
@@ -178,27 +183,27 @@ module _ (state : GroupState) (packet_for : List IpCidr → IpAddress → Option
     (short : (own : List IpCidr) (a : IpAddress) (p : Packet) → packet_for own a ≡ Some p → is_short p ≡ true) where
   tells_left : {old new : Host} {granted : Bool} {told : List Event} {notes : List Note} →
       ReportsEach state packet_for after_report old granted told notes new → IsWide old → new.left ≡ old.left
-  tells_left multicast.Begins wide = refl
-  tells_left (multicast.Silently a w i none) wide = tells_left w wide
-  tells_left (multicast.Refused a p w i some) wide = tells_left w wide
-  tells_left {old} (multicast.Reported {mid = mid} a p o f more new w i some d) wide =
+  tells_left joins.Begins wide = refl
+  tells_left (joins.Silently a w i none) wide = tells_left w wide
+  tells_left (joins.Refused a p w i some) wide = tells_left w wide
+  tells_left {old} (joins.Reported {mid = mid} a p o f more new w i some d) wide =
       let wide_mid : IsWide mid =
       subst (λ c. 576 ≤ ip_mtu_of c) (sym (ap (λ (K : Host). K.capabilities) (tells_way state packet_for after_report w))) wide in
       short_left d wide_mid (short mid.ip_addrs a p some) ∙ tells_left w wide
 
   pub groups_left : {old new : Host} {told : List Event} {notes : List Note} →
       ReportsAll state packet_for after_report old told notes new → IsWide old → new.left ≡ old.left
-  groups_left (multicast.All w none) wide = tells_left w wide
-  groups_left (multicast.UpToRefusal w) wide = tells_left w wide
+  groups_left (joins.All w none) wide = tells_left w wide
+  groups_left (joins.UpToRefusal w) wide = tells_left w wide
 
 pub igmp_left : {H new : Host} {told : List Event} {notes : List Note} → IgmpEgress H told notes new → IsWide H → new.left ≡ H.left
-igmp_left (reports.NotDue d e m y) wide = ap (λ (K : Host). K.left) y
-igmp_left (reports.NoFurtherGroup d g e m y) wide = ap (λ (K : Host). K.left) y
-igmp_left (reports.NoAddress next d g a e m y) wide = ap (λ (K : Host). K.left) y
-igmp_left (reports.NotGranted p d r e m y) wide = ap (λ (K : Host). K.left) y
-igmp_left {H} (reports.Sent p o f mid d r s e y) wide = ap (λ (K : Host). K.left) y ∙ short_left s wide (report_short H p r)
+igmp_left (igmp_rules.NotDue d e m y) wide = ap (λ (K : Host). K.left) y
+igmp_left (igmp_rules.NoFurtherGroup d g e m y) wide = ap (λ (K : Host). K.left) y
+igmp_left (igmp_rules.NoAddress next d g a e m y) wide = ap (λ (K : Host). K.left) y
+igmp_left (igmp_rules.NotGranted p d r e m y) wide = ap (λ (K : Host). K.left) y
+igmp_left {H} (igmp_rules.Sent p o f mid d r s e y) wide = ap (λ (K : Host). K.left) y ∙ short_left s wide (report_short H p r)
 
 pub mld_left : {H new : Host} {told : List Event} {notes : List Note} → MldEgress H told notes new → IsWide H → new.left ≡ H.left
-mld_left (reports.NotYet d e m y) wide = ap (λ (K : Host). K.left) y
-mld_left (reports.GivenUp d e m y) wide = ap (λ (K : Host). K.left) y
-mld_left (reports.ReportGoes o f mid d s e y) wide = ap (λ (K : Host). K.left) y ∙ short_left s wide refl
+mld_left (mld_rules.NotYet d e m y) wide = ap (λ (K : Host). K.left) y
+mld_left (mld_rules.GivenUp d e m y) wide = ap (λ (K : Host). K.left) y
+mld_left (mld_rules.ReportGoes o f mid d s e y) wide = ap (λ (K : Host). K.left) y ∙ short_left s wide refl

@@ -23,23 +23,23 @@ use Rattle.fragmentation.specs.declared.key.FragKey.{FragKey}
 use Rattle.fragmentation.specs.Fragments.{Fragment}
 use Rattle.fragmentation.specs.Slots.{Slots}
 use Rattle.fragmentation.specs.Reassembly.{SlotNote, Arrival, Rebuild, Reassembles, NoSlot, Unfit, Waits, Rebuilt}
-use Rattle.host_machine.specs.State.Note.{Note, slot_notes}
-use Rattle.host_machine.specs.State.Host.{Host}
-use Rattle.host_machine.specs.State.Addresses.{is_for_host, may_be_source}
-use Rattle.host_machine.specs.Receiving.Reply.{Reply}
-use Rattle.host_machine.specs.Receiving.Arp.{ProcessesArp}
-use Rattle.host_machine.specs.Receiving.Arp as arp
-use Rattle.host_machine.specs.Receiving.Reassembly.{TakesFragment}
-use Rattle.host_machine.specs.Receiving.Ipv4.{ProcessesDatagram, ProcessesPacket, ProcessesIpv4, key_in, fragment_in, datagram_header}
-use Rattle.host_machine.specs.Receiving.Ipv4 as ipv4
-use Rattle.host_machine.specs.Receiving.Ipv6 as ipv6
-use Rattle.host_machine.specs.Receiving.Ethernet.{ProcessesEthertype, ProcessesEthernet, ProcessesFrame, is_for, version_in}
-use Rattle.host_machine.specs.Receiving.Ethernet as ethernet
+use Rattle.host_machine.specs.Context.Note.{Note, slot_notes}
+use Rattle.host_machine.specs.Context.Host.{Host}
+use Rattle.host_machine.specs.Context.Addresses.{is_for_host, may_be_source}
+use Rattle.host_machine.specs.Receive.Reply.{Reply}
+use Rattle.host_machine.specs.Discovery.Arp.{ProcessesArp}
+use Rattle.host_machine.specs.Discovery.Arp as arp
+use Rattle.host_machine.specs.Receive.Reassembly.{TakesFragment}
+use Rattle.host_machine.specs.Receive.Ipv4.{ProcessesDatagram, ProcessesPacket, ProcessesIpv4, key_in, fragment_in, datagram_header}
+use Rattle.host_machine.specs.Receive.Ipv4 as ipv4
+use Rattle.host_machine.specs.Receive.Ipv6 as ipv6
+use Rattle.host_machine.specs.Receive.Ethernet.{ProcessesEthertype, ProcessesEthernet, ProcessesFrame, is_for, version_in}
+use Rattle.host_machine.specs.Receive.Ethernet as ethernet
 use Rattle.host_machine.specs.Laws.Frames.{Carries}
 use Rattle.host_machine.specs.Laws.Frames as frames
-use Rattle.host_machine.specs.Polling.Ingress.{Takes}
-use Rattle.host_machine.proofs.State.NotesBySubject.{slot_notes-slots}
-use Rattle.host_machine.proofs.Receiving.PacketEffects.{whole_plain}
+use Rattle.host_machine.specs.Interface.Ingress.{Takes}
+use Rattle.host_machine.proofs.Context.NotesBySubject.{slot_notes-slots}
+use Rattle.host_machine.proofs.Receive.PacketEffects.{whole_plain}
 use Rattle.host_laws.specs.Deliveries.{BringsUdp, CarriesIpv6}
 use Rattle.host_laws.specs.Deliveries as spec
 use Rattle.host_laws.proofs.DatagramHandover.{Same, Hands, HandsPacket, same, same_by, same_then, unread, hands_after, whole_v4, payload_v6}

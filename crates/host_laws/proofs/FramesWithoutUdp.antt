@@ -31,16 +31,16 @@ use Rattle.ipv6_wire.specs.Ipv6Packet.{ipv6_in, end}
 use Rattle.ipv6_wire.specs.Ipv6Packet as ipv6
 use Rattle.ipv6_wire.specs.HopByHop.{IsHopByHop, hop_by_hop_in}
 use Rattle.fragmentation.specs.Cuts.{Piece, piece_header, piece_fragment}
-use Rattle.host_machine.specs.State.Host.{Host}
-use Rattle.host_machine.specs.Sending.Packet.{Packet, IpPayload, Icmpv4, Icmpv6, Udp, Tcp, Raw, Igmp, Mld, payload_of}
-use Rattle.host_machine.specs.Sending.Packet as packet
-use Rattle.host_machine.specs.Sending.Frame.{arp_frame, ip_frame, piece_frame, piece_text, link_header}
+use Rattle.host_machine.specs.Context.Host.{Host}
+use Rattle.host_machine.specs.Packet.Packet.{Packet, IpPayload, Icmpv4, Icmpv6, Udp, Tcp, Raw, Igmp, Mld, payload_of}
+use Rattle.host_machine.specs.Packet.Packet as packet
+use Rattle.host_machine.specs.Packet.Frame.{arp_frame, ip_frame, piece_frame, piece_text, link_header}
 use Rattle.host_machine.specs.Laws.Frames.{Carries}
 use Rattle.host_machine.specs.Laws.Frames as frames
-use Rattle.host_machine.specs.Receiving.Ethernet.{version_in}
+use Rattle.host_machine.specs.Receive.Ethernet.{version_in}
 use Rattle.host_machine.specs.Laws.Requests.{is_request, is_arp_request, is_solicitation}
-use Rattle.host_machine.proofs.Sending.OwnMessages.{is_own}
-use Rattle.host_machine.proofs.Receiving.FrameReading.{number_again, same_packet, other_packet, version_six}
+use Rattle.host_machine.proofs.Interface.OwnMessages.{is_own}
+use Rattle.host_machine.proofs.Receive.FrameReading.{number_again, same_packet, other_packet, version_six}
 use Rattle.host_machine.specs.Laws.Real.{IsPart}
 use Rattle.host_laws.specs.Deliveries.{CarriesIpv6, BringsPacket}
 use Rattle.host_laws.specs.Deliveries as spec

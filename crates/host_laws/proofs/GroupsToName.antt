@@ -26,20 +26,20 @@ use Rattle.group_table.specs.Groups.{join_reported, joined_from}
 use Rattle.group_table.specs.Groups.{join_reported_from, leave_reported, leave_reported_from, left_from, new_group}
 use Rattle.group_table.specs.Groups.{of_ipv4, state_of, taken_out, with_new, with_state}
 use Rattle.group_table.proofs.GroupsLemmas.{addr_at_index, place_within}
-use Rattle.host_machine.specs.State.Note.{Note}
-use Rattle.host_machine.specs.State.Host.{Host}
-use Rattle.host_machine.specs.State.Addresses.{ipv4_addr}
-use Rattle.host_machine.specs.Sending.Packet.{Packet}
-use Rattle.host_machine.specs.Sending.Multicast.{ReportsEach, ReportsAll, groups_after_joins, groups_after_leaves}
-use Rattle.host_machine.specs.Sending.Multicast.{groups_for, igmp_report, is_idle}
-use Rattle.host_machine.specs.Sending.Multicast as multicast
-use Rattle.host_machine.specs.Sending.Reports.{IgmpEgress, has_passed, igmp_poll_at, igmp_report_after}
-use Rattle.host_machine.specs.Sending.Reports.{igmp_timeout_of, next_group, next_report}
-use Rattle.host_machine.specs.Sending.Reports as reports
+use Rattle.host_machine.specs.Context.Note.{Note}
+use Rattle.host_machine.specs.Context.Host.{Host}
+use Rattle.host_machine.specs.Context.Addresses.{ipv4_addr}
+use Rattle.host_machine.specs.Packet.Packet.{Packet}
+use Rattle.host_machine.specs.Multicast.Joins.{ReportsEach, ReportsAll}
+use Rattle.host_machine.specs.Context.Membership.{groups_after_joins, groups_after_leaves, groups_for, is_idle}
+use Rattle.host_machine.specs.Multicast.Igmp.{igmp_report, IgmpEgress, igmp_poll_at, igmp_report_after, igmp_timeout_of, next_group, next_report}
+use Rattle.host_machine.specs.Multicast.Joins as multicast
+use Rattle.host_machine.specs.Multicast.Timeout.{has_passed}
+use Rattle.host_machine.specs.Multicast.Igmp as reports
 use Rattle.host_machine.specs.Laws.Service.{all_granted}
-use Rattle.host_machine.proofs.Receiving.FrameReplies.{clash}
-use Rattle.host_machine.proofs.Sending.DueWork.{has_come_by}
-use Rattle.host_machine.proofs.Sending.GrantedEgress.{dispatched_gone}
+use Rattle.host_machine.proofs.Receive.FrameReplies.{clash}
+use Rattle.host_machine.proofs.Interface.DueWork.{has_come_by}
+use Rattle.host_machine.proofs.Interface.GrantedEgress.{dispatched_gone}
 use Rattle.host_laws.specs.Progress.{to_name}
 
 -- The number of IPv4 groups

@@ -6,17 +6,20 @@ use Rattle.ip_address.specs.declared.cidr.IpCidr.{IpCidr}
 use Rattle.ip_address.specs.declared.ip.IpAddress.{IpAddress}
 use Rattle.group_table.specs.declared.groups.Group.{Group}
 use Rattle.group_table.specs.declared.groups.GroupState.{GroupState}
-use Rattle.host_machine.specs.State.Note.{Note}
-use Rattle.host_machine.specs.State.Host.{Host}
-use Rattle.host_machine.specs.Sending.Packet.{Packet}
-use Rattle.host_machine.specs.Sending.Dispatch.{Outcome, Dispatches}
-use Rattle.host_machine.specs.Sending.Multicast as multicast
-use Rattle.host_machine.specs.Sending.Reports.{IgmpEgress, MldEgress}
-use Rattle.host_machine.specs.Sending.Reports as reports
-use Rattle.host_machine.specs.Sending.Slaac.{NdiscRsEgress}
-use Rattle.host_machine.specs.Sending.Slaac as slaac
-use Rattle.host_machine.specs.Sending.Egress.{Ipv4Egress}
-use Rattle.host_machine.specs.Sending.Egress as egress
+use Rattle.host_machine.specs.Context.Note.{Note}
+use Rattle.host_machine.specs.Context.Host.{Host}
+use Rattle.host_machine.specs.Packet.Packet.{Packet}
+use Rattle.host_machine.specs.Send.Outcome.{Outcome}
+use Rattle.host_machine.specs.Send.Dispatch.{Dispatches}
+use Rattle.host_machine.specs.Multicast.Joins as multicast
+use Rattle.host_machine.specs.Multicast.Igmp.{IgmpEgress}
+use Rattle.host_machine.specs.Multicast.Mld.{MldEgress}
+use Rattle.host_machine.specs.Multicast.Igmp as igmp
+use Rattle.host_machine.specs.Multicast.Mld as mld
+use Rattle.host_machine.specs.Discovery.RouterSolicitation.{NdiscRsEgress}
+use Rattle.host_machine.specs.Discovery.RouterSolicitation as slaac
+use Rattle.host_machine.specs.Send.Fragments.{Ipv4Egress}
+use Rattle.host_machine.specs.Send.Fragments as egress
 use Rattle.host_laws.proofs.DatagramHandover.{seen}
 use Rattle.host_laws.proofs.IngressDeliveries.{dispatched}
 
@@ -75,13 +78,13 @@ all_idle (multicast.All w n) = groups_idle w
 all_idle (multicast.UpToRefusal w) = groups_idle w
 
 pub igmp_idle : {H new : Host} {told : List Event} {notes : List Note} → IgmpEgress H told notes new → Idle H new
-igmp_idle (reports.NotDue h t n e) = idle e
-igmp_idle (reports.NoFurtherGroup h g t n e) = idle_by e (rests refl refl)
-igmp_idle (reports.NoAddress next h g a t n e) = idle e
-igmp_idle (reports.NotGranted p h r t n e) = idle e
-igmp_idle (reports.Sent p outcome frames mid h r d t e) = idle_by e (idle_then (dispatch_idle d) (rests refl refl))
+igmp_idle (igmp.NotDue h t n e) = idle e
+igmp_idle (igmp.NoFurtherGroup h g t n e) = idle_by e (rests refl refl)
+igmp_idle (igmp.NoAddress next h g a t n e) = idle e
+igmp_idle (igmp.NotGranted p h r t n e) = idle e
+igmp_idle (igmp.Sent p outcome frames mid h r d t e) = idle_by e (idle_then (dispatch_idle d) (rests refl refl))
 
 pub mld_idle : {H new : Host} {told : List Event} {notes : List Note} → MldEgress H told notes new → Idle H new
-mld_idle (reports.NotYet h t n e) = idle e
-mld_idle (reports.GivenUp h t n e) = idle_by e (rests refl refl)
-mld_idle (reports.ReportGoes outcome frames mid h d t e) = idle_by e (idle_then (dispatch_idle d) (rests refl refl))
+mld_idle (mld.NotYet h t n e) = idle e
+mld_idle (mld.GivenUp h t n e) = idle_by e (rests refl refl)
+mld_idle (mld.ReportGoes outcome frames mid h d t e) = idle_by e (idle_then (dispatch_idle d) (rests refl refl))

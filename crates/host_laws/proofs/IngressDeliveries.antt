@@ -12,23 +12,25 @@ use Rattle.socket_base.specs.declared.endpoint.IpListenEndpoint.{IpListenEndpoin
 use Rattle.transport_sockets.specs.Udp.{UdpSocket, accepts, socket_after_delivery, is_accepted_at}
 use Rattle.fragmentation.specs.Reassembly.{SlotNote}
 use Rattle.host_machine.specs.declared.results.PollIngressSingleResult.{PollIngressSingleResult}
-use Rattle.host_machine.specs.State.Note.{Note, slot_notes}
-use Rattle.host_machine.specs.State.Host.{Host, SocketSet, at, without_expired}
-use Rattle.host_machine.specs.State.Addresses.{is_broadcast, is_for_host}
-use Rattle.host_machine.specs.Receiving.Reply.{Reply, Arp, Ip}
-use Rattle.host_machine.specs.Sending.Frame.{sends}
-use Rattle.host_machine.specs.Sending.Dispatch.{Outcome, IsUnsent, Emits, Discovers, DispatchesByHop}
-use Rattle.host_machine.specs.Sending.Dispatch.{DispatchesEthernet, SendsOver, Dispatches, with_next_id}
-use Rattle.host_machine.specs.Sending.Dispatch as dispatch
+use Rattle.host_machine.specs.Context.Note.{Note, slot_notes}
+use Rattle.host_machine.specs.Context.Host.{Host, SocketSet, at, without_expired, with_next_id}
+use Rattle.host_machine.specs.Context.Addresses.{is_broadcast, is_for_host}
+use Rattle.host_machine.specs.Receive.Reply.{Reply, Arp, Ip}
+use Rattle.host_machine.specs.Packet.Frame.{sends}
+use Rattle.host_machine.specs.Send.Outcome.{Outcome, IsUnsent}
+use Rattle.host_machine.specs.Send.Dispatch.{Emits, DispatchesByHop, DispatchesEthernet, SendsOver, Dispatches}
+use Rattle.host_machine.specs.Send.Requests.{Discovers}
+use Rattle.host_machine.specs.Send.Dispatch as dispatch
+use Rattle.host_machine.specs.Send.Requests as requests
 use Rattle.ip_address.specs.declared.hardware.HardwareAddress.{HardwareAddress}
 use Rattle.ip_address.specs.declared.hardware.HardwareAddress.TheVariants as hardware
-use Rattle.host_machine.specs.Sending.Packet.{Packet}
-use Rattle.host_machine.specs.Receiving.Response.{Responds}
-use Rattle.host_machine.specs.Polling.Ingress.{Ingress}
-use Rattle.host_machine.specs.Sending.Parts.{Part}
-use Rattle.host_machine.proofs.State.NotesBySubject.{slot_notes-append}
-use Rattle.host_machine.proofs.Receiving.Malformed.{handed_frames-sends}
-use Rattle.host_machine.proofs.Receiving.SlotEffects.{handed_frames-append}
+use Rattle.host_machine.specs.Packet.Packet.{Packet}
+use Rattle.host_machine.specs.Receive.Response.{Responds}
+use Rattle.host_machine.specs.Interface.Ingress.{Ingress}
+use Rattle.host_machine.specs.Interface.Parts.{Part}
+use Rattle.host_machine.proofs.Context.NotesBySubject.{slot_notes-append}
+use Rattle.host_machine.proofs.Receive.Malformed.{handed_frames-sends}
+use Rattle.host_machine.proofs.Receive.SlotEffects.{handed_frames-append}
 use Rattle.host_laws.specs.Deliveries.{BringsPacket, BringsUdp, Delivery, Deliver, Gets, IsAccepted}
 use Rattle.host_laws.specs.Deliveries.{NoFrame, NoSocketGets, OneGets, to_index, udp_at, with_deliveries}
 use Rattle.host_laws.specs.Deliveries as spec
@@ -61,9 +63,9 @@ emitted (dispatch.TooLong long longer o u) = unsent u
 
 discovered : {own : _} {hop : _} {outcome : Outcome} {H new : Host} {frames : List (List ℕ)} {notes : List Note} →
     Discovers own hop outcome H frames notes new → NotAccepted H notes new
-discovered (dispatch.Asked target source i s o f n e) = changed e refl refl (ap slot_notes n)
-discovered (dispatch.NoSource target i s o u) = unsent u
-discovered (dispatch.Solicited target i o f n e) = changed e refl refl (ap slot_notes n)
+discovered (requests.Asked target source i s o f n e) = changed e refl refl (ap slot_notes n)
+discovered (requests.NoSource target i s o u) = unsent u
+discovered (requests.Solicited target i o f n e) = changed e refl refl (ap slot_notes n)
 
 by_hop : {id : ℕ} {own : _} {p : Packet} {hop : _} {outcome : Outcome} {H new : Host} {frames : List (List ℕ)} {notes : List Note} →
     DispatchesByHop id own p hop outcome H frames notes new → NotAccepted H notes new

@@ -22,30 +22,33 @@ use Rattle.host_machine.specs.declared.results.PollResult.TheVariants as result
 use Rattle.host_machine.specs.declared.command.Command.{Command}
 use Rattle.host_machine.specs.declared.command.Command.TheVariants.{Poll}
 use Rattle.host_machine.specs.declared.command.Answer.{Answer}
-use Rattle.host_machine.specs.State.Note.{Note}
-use Rattle.host_machine.specs.State.Host.{Host, at, without_expired}
-use Rattle.host_machine.specs.Receiving.Reply.{Reply, IsDropped}
-use Rattle.host_machine.specs.Sending.Frame.{sends}
-use Rattle.host_machine.specs.Sending.Multicast.{join_packet, leave_packet}
-use Rattle.host_machine.specs.Sending.Reports.{igmp_poll_at, igmp_timeout_of, mld_timeout_of}
-use Rattle.host_machine.specs.State.Addresses.{ipv4_addr}
-use Rattle.host_machine.specs.Sending.Slaac.{NdiscRsEgress, after_sync, rs_poll_at, with_slaac_applied}
-use Rattle.host_machine.specs.Sending.Slaac as slaac
-use Rattle.host_machine.specs.Sending.Egress.{Egress}
-use Rattle.host_machine.specs.Polling.Due.{Due, sync_poll_at}
-use Rattle.host_machine.specs.Polling.Due as due
-use Rattle.host_machine.specs.Polling.Ingress.{Ingress, Takes}
-use Rattle.host_machine.specs.Polling.Polling.{Repeats, Until, Polls, after_maintenance, is_changed, may_change}
-use Rattle.host_machine.specs.Polling.Polling as polling
-use Rattle.host_machine.specs.Polling.Run.{Transition, Run, Ends, Then}
-use Rattle.host_machine.specs.Polling.Step.{Act, Step}
-use Rattle.host_machine.specs.Polling.Step as step
+use Rattle.host_machine.specs.Context.Note.{Note}
+use Rattle.host_machine.specs.Context.Host.{Host, at, without_expired}
+use Rattle.host_machine.specs.Receive.Reply.{Reply, IsDropped}
+use Rattle.host_machine.specs.Packet.Frame.{sends}
+use Rattle.host_machine.specs.Multicast.Joins.{join_packet, leave_packet}
+use Rattle.host_machine.specs.Multicast.Igmp.{igmp_poll_at, igmp_timeout_of}
+use Rattle.host_machine.specs.Multicast.Mld.{mld_timeout_of}
+use Rattle.host_machine.specs.Context.Addresses.{ipv4_addr}
+use Rattle.host_machine.specs.Discovery.RouterSolicitation.{NdiscRsEgress, rs_poll_at}
+use Rattle.host_machine.specs.Context.Autoconfiguration.{after_sync, with_slaac_applied}
+use Rattle.host_machine.specs.Discovery.RouterSolicitation as slaac
+use Rattle.host_machine.specs.Interface.Egress.{Egress}
+use Rattle.host_machine.specs.Interface.Due.{Due}
+use Rattle.host_machine.specs.Discovery.Polling.{sync_poll_at}
+use Rattle.host_machine.specs.Interface.Due as due
+use Rattle.host_machine.specs.Interface.Ingress.{Ingress, Takes}
+use Rattle.host_machine.specs.Interface.Polling.{Repeats, Until, Polls, after_maintenance, is_changed, may_change}
+use Rattle.host_machine.specs.Interface.Polling as polling
+use Rattle.host_machine.specs.Interface.Run.{Transition, Run, Ends, Then}
+use Rattle.host_machine.specs.Interface.Step.{Act, Step}
+use Rattle.host_machine.specs.Interface.Step as step
 use Rattle.host_machine.specs.Laws.Service.{IsDone, IsLater, all_granted}
-use Rattle.host_machine.proofs.Receiving.Malformed.{nothing_responded}
-use Rattle.host_machine.proofs.Polling.SlaacPolls.{polls_sync_slaac}
-use Rattle.host_machine.proofs.Sending.GrantedEgress.{all_untouched, dispatched_gone, given_parts, groups_way}
-use Rattle.host_machine.proofs.Sending.GrantedEgress.{routers_way, to_sockets}
-use Rattle.host_machine.proofs.Sending.DueWork.{all_kept, due_done, groups_kept, igmp_kept, mld_kept, piece_gone}
+use Rattle.host_machine.proofs.Receive.Malformed.{nothing_responded}
+use Rattle.host_machine.proofs.Interface.SlaacPolls.{polls_sync_slaac}
+use Rattle.host_machine.proofs.Interface.GrantedEgress.{all_untouched, dispatched_gone, given_parts, groups_way}
+use Rattle.host_machine.proofs.Interface.GrantedEgress.{routers_way, to_sockets}
+use Rattle.host_machine.proofs.Interface.DueWork.{all_kept, due_done, groups_kept, igmp_kept, mld_kept, piece_gone}
 use Rattle.host_laws.specs.Progress.{ComeToRest, PollsComeToRest, RunsComeToRest, PollsMakeProgress, IsBusy, IsSound, to_name, work}
 use Rattle.host_laws.proofs.QueuesAfterTurns.{CallLoads, NoLoad, LessLoad, call_loads, call_works}
 use Rattle.host_laws.proofs.QueuesAfterTurns.{one_less_apart}

@@ -17,16 +17,17 @@ use Rattle.group_wire.specs.declared.igmp.IgmpVersion.{IgmpVersion}
 use Rattle.network_sockets.specs.Icmp as icmp_socket
 use Rattle.sockets.specs.Kinds.{IcmpOffer}
 use Rattle.slaac.specs.Slaac.{rs_required}
-use Rattle.host_machine.specs.State.Addresses.{ipv4_addr, link_local_addr}
-use Rattle.host_machine.specs.State.Host.{Host}
-use Rattle.host_machine.specs.Sending.Packet.{Packet, IpPayload, payload_of}
-use Rattle.host_machine.specs.Sending.Packet as packet
-use Rattle.host_machine.specs.Sending.Multicast as multicast
-use Rattle.host_machine.specs.Sending.Multicast.{igmp_packet, join_packet, leave_packet}
-use Rattle.host_machine.specs.Sending.Reports.{next_group, next_report}
-use Rattle.host_machine.specs.Sending.Slaac.{due_solicitation, router_solicitation, solicitation_by, solicitation_from}
-use Rattle.host_machine.specs.Sending.Egress.{echo_payload, packet_between, packet_of}
-use Rattle.host_machine.proofs.Sending.Turns.{between_is}
+use Rattle.host_machine.specs.Context.Addresses.{ipv4_addr, link_local_addr}
+use Rattle.host_machine.specs.Context.Host.{Host}
+use Rattle.host_machine.specs.Packet.Packet.{Packet, IpPayload, payload_of}
+use Rattle.host_machine.specs.Packet.Packet as packet
+use Rattle.host_machine.specs.Multicast.Igmp as multicast
+use Rattle.host_machine.specs.Multicast.Igmp.{igmp_packet, next_group, next_report}
+use Rattle.host_machine.specs.Multicast.Joins.{join_packet, leave_packet}
+use Rattle.host_machine.specs.Discovery.RouterSolicitation.{due_solicitation, router_solicitation, solicitation_by, solicitation_from}
+use Rattle.host_machine.specs.Sockets.Icmp.{echo_payload}
+use Rattle.host_machine.specs.Sockets.Offers.{packet_between, packet_of}
+use Rattle.host_machine.proofs.Interface.Turns.{between_is}
 use Rattle.host_laws.proofs.RawReplies.{is_segment}
 
 -- what ICMP sockets offer

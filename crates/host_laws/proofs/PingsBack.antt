@@ -31,18 +31,18 @@ use Rattle.control_wire.specs.Icmpv4 as icmpv4
 use Rattle.control_wire.proofs.Icmpv4Again as icmpv4_again
 use Rattle.socket_base.specs.Queue.{is_room}
 use Rattle.host_machine.specs.declared.command.Command.TheVariants.{PollEgress, PollIngressSingle}
-use Rattle.host_machine.specs.State.Host.{Host, at, is_assigned}
-use Rattle.host_machine.specs.State.Addresses.{is_unicast_v4}
-use Rattle.host_machine.specs.Receiving.Ethernet.{is_for}
-use Rattle.host_machine.specs.Sending.Packet.{IpPayload, PacketV4, Icmpv4, header_v4, payload_len}
-use Rattle.host_machine.specs.Sending.Packet as packet
-use Rattle.host_machine.specs.Sending.Frame.{link_header, packet_text, payload_text}
-use Rattle.host_machine.specs.Polling.Run.{Transition}
+use Rattle.host_machine.specs.Context.Host.{Host, at, is_assigned}
+use Rattle.host_machine.specs.Context.Addresses.{is_unicast_v4}
+use Rattle.host_machine.specs.Receive.Ethernet.{is_for}
+use Rattle.host_machine.specs.Packet.Packet.{IpPayload, PacketV4, Icmpv4, header_v4, payload_len}
+use Rattle.host_machine.specs.Packet.Packet as packet
+use Rattle.host_machine.specs.Packet.Frame.{link_header, packet_text, payload_text}
+use Rattle.host_machine.specs.Interface.Run.{Transition}
 use Rattle.host_machine.specs.Laws.Calls.{IsCallOf, IsEgress, IsIngress, KeepsCallLaws}
 use Rattle.host_machine.specs.Laws.Service.{HasPacketV4, IsOfLink, IsToItself, Pings as AsksByEcho, HasEchoReply, Takes}
-use Rattle.host_machine.proofs.Receiving.FrameReplies.{pings_served}
-use Rattle.host_machine.proofs.Receiving.EchoReplies.{replies_queued}
-use Rattle.host_machine.proofs.Sending.FirstPackets.{first_echoes_go}
+use Rattle.host_machine.proofs.Receive.FrameReplies.{pings_served}
+use Rattle.host_machine.proofs.Icmp.EchoReplies.{replies_queued}
+use Rattle.host_machine.proofs.Sockets.FirstPackets.{first_echoes_go}
 use Rattle.host_laws.specs.Pings.{Knows, PingsComeBack, message_frame, message_packet}
 use Rattle.host_laws.specs.PingsInRuns.{PingsReturn, RunsReturnPings}
 

@@ -5,8 +5,8 @@ use Rattle.std.specs.Prelude.{map}
 use Rattle.std.proofs.lemmas.Bool.Decides.{nat_tests}
 use Rattle.sockets.specs.Kinds.{down_udp}
 use Rattle.transport_sockets.specs.Udp.{UdpSocket}
-use Rattle.host_machine.specs.State.Host.{Socket, Storage}
-use Rattle.host_machine.specs.Receiving.Delivery.{to_each, to_this}
+use Rattle.host_machine.specs.Context.Host.{Socket, Storage}
+use Rattle.host_machine.specs.Sockets.Delivery.{to_each, to_this}
 
 -- tests on indices
 eq_suc : (i j : ℕ) → (suc i == suc j) ≡ (i == j)

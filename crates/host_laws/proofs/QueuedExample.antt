@@ -18,17 +18,18 @@ use Rattle.sockets.specs.declared.socket.SocketOf.TheVariants as kind
 use Rattle.host_machine.specs.declared.results.PollIngressSingleResult.TheVariants as ingress
 use Rattle.host_machine.specs.declared.results.PollResult.TheVariants as poll
 use Rattle.host_machine.specs.declared.results.Turn.TheVariants.{Done}
-use Rattle.host_machine.specs.State.Note.{OfIdentification, Identify}
-use Rattle.host_machine.specs.Sending.Packet.{Ipv4, Udp}
-use Rattle.host_machine.specs.Sending.Dispatch.{ToSpecified, ByHop, OnLink, Known, Whole}
-use Rattle.host_machine.specs.Sending.Egress.{Egress}
-use Rattle.host_machine.specs.Sending.Egress as egress
-use Rattle.host_machine.specs.Polling.Ingress.{Ingress}
-use Rattle.host_machine.specs.Polling.Polling.{Polls}
-use Rattle.host_machine.specs.Polling.Polling as polling
+use Rattle.host_machine.specs.Context.Note.{OfIdentification, Identify}
+use Rattle.host_machine.specs.Packet.Packet.{Ipv4, Udp}
+use Rattle.host_machine.specs.Send.Dispatch.{ToSpecified, ByHop, Known, Whole}
+use Rattle.host_machine.specs.Send.Hops.{OnLink}
+use Rattle.host_machine.specs.Interface.Egress.{Egress}
+use Rattle.host_machine.specs.Sockets.Turns as egress
+use Rattle.host_machine.specs.Interface.Ingress.{Ingress}
+use Rattle.host_machine.specs.Interface.Polling.{Polls}
+use Rattle.host_machine.specs.Interface.Polling as polling
 use Rattle.host_machine.specs.Examples.ArpAndEcho as example
-use Rattle.host_machine.proofs.Sending.RoundWithoutPieces.{no_piece}
-use Rattle.host_machine.proofs.State.Keys.{get-live_at, key_exact, key_total}
+use Rattle.host_machine.proofs.Interface.RoundWithoutPieces.{no_piece}
+use Rattle.host_machine.proofs.Receive.Keys.{get-live_at, key_exact, key_total}
 use Rattle.host_laws.specs.TwoPolls.{datagram, frame, with_queue, with_queued}
 
 is_known : answer_of example.neighbors_with_sender example.sender (pos 0) ≡ Found example.sender_hardware

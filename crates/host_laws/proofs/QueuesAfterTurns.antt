@@ -12,19 +12,23 @@ use Rattle.sockets.specs.Kinds.{socket_after_told}
 use Rattle.fragmentation.specs.Cuts.{Piece}
 use Rattle.host_machine.specs.declared.results.PollResult.{PollResult}
 use Rattle.host_machine.specs.declared.results.Turn.{Turn}
-use Rattle.host_machine.specs.State.Note.{Note}
-use Rattle.host_machine.specs.State.Host.{Host, Socket, Storage, at}
-use Rattle.host_machine.specs.Sending.Packet.{Packet}
-use Rattle.host_machine.specs.Sending.Dispatch.{Outcome, Dispatches}
-use Rattle.host_machine.specs.Sending.Multicast.{join_packet, leave_packet}
-use Rattle.host_machine.specs.Sending.Egress.{Ipv4Egress, SocketTurn, Serves, Walks, SocketEgress, Egress}
-use Rattle.host_machine.specs.Sending.Egress.{packet_from, socket_after_asking}
-use Rattle.host_machine.specs.Sending.Egress as egress
+use Rattle.host_machine.specs.Context.Note.{Note}
+use Rattle.host_machine.specs.Context.Host.{Host, Socket, Storage, at}
+use Rattle.host_machine.specs.Packet.Packet.{Packet}
+use Rattle.host_machine.specs.Send.Outcome.{Outcome}
+use Rattle.host_machine.specs.Send.Dispatch.{Dispatches}
+use Rattle.host_machine.specs.Multicast.Joins.{join_packet, leave_packet}
+use Rattle.host_machine.specs.Send.Fragments.{Ipv4Egress}
+use Rattle.host_machine.specs.Sockets.Turns.{SocketTurn, Serves, Walks, SocketEgress}
+use Rattle.host_machine.specs.Interface.Egress.{Egress}
+use Rattle.host_machine.specs.Sockets.Offers.{packet_from, socket_after_asking}
+use Rattle.host_machine.specs.Sockets.Turns as turns_rules
+use Rattle.host_machine.specs.Send.Fragments as fragments_rules
 use Rattle.host_machine.specs.Laws.Service.{all_granted, waiting_in}
-use Rattle.host_machine.proofs.Receiving.FrameReplies.{clash}
-use Rattle.host_machine.proofs.Sending.GrantedEgress.{given_parts, groups_way, igmp_way, mld_way, routers_way, there}
-use Rattle.host_machine.proofs.Sending.GrantedEgress.{turn_way, untouched}
-use Rattle.host_machine.proofs.Sending.DueWork.{piece_gone}
+use Rattle.host_machine.proofs.Receive.FrameReplies.{clash}
+use Rattle.host_machine.proofs.Interface.GrantedEgress.{given_parts, groups_way, igmp_way, mld_way, routers_way, there}
+use Rattle.host_machine.proofs.Interface.GrantedEgress.{turn_way, untouched}
+use Rattle.host_machine.proofs.Interface.DueWork.{piece_gone}
 use Rattle.host_laws.specs.Progress.{OnlyShrinks, QueuesOnlyShrink, queued, queued_at, queued_if, queued_in}
 use Rattle.host_laws.proofs.WaitingPackets.{IsSameOrLess, asked, sent_less, untold}
 use Rattle.host_laws.proofs.FragmentsLeft.{IsWide, LeavesFew, SameLeft, FewLeft, dispatched_left, groups_left}
@@ -146,15 +150,15 @@ sent_turned {H} {mid} {q} s s' (Err error) some g z wide = by (dispatched_left g
 
 turned : {s s' : Socket} {turn : Turn} {H mid : Host} {told : List Event} {notes : List Note} →
     SocketTurn s turn s' H told notes mid → IsWide H → Turned s s' H mid
-turned {s} {s'} {turn} {H} {mid} (egress.Silent p d e m y z) wide = from_asking s s' H mid (ap (λ (K : Host). K.left) y) z
-turned {s} {s'} {turn} {H} {mid} (egress.Refused q p d e m y z) wide = from_asking s s' H mid (ap (λ (K : Host). K.left) y) z
-turned {s} {s'} (egress.Sent q o f p g d e z) wide = sent_turned s s' o p g z wide
+turned {s} {s'} {turn} {H} {mid} (turns_rules.Silent p d e m y z) wide = from_asking s s' H mid (ap (λ (K : Host). K.left) y) z
+turned {s} {s'} {turn} {H} {mid} (turns_rules.Refused q p d e m y z) wide = from_asking s s' H mid (ap (λ (K : Host). K.left) y) z
+turned {s} {s'} (turns_rules.Sent q o f p g d e z) wide = sent_turned s s' o p g z wide
 
 serves_works : {i : ℕ} {turn : Turn} {H new : Host} {told : List Event} {notes : List Note} →
     Serves i turn H told notes new → IsWide H → Works H new
-serves_works (egress.Free f d e m y) wide = works_same (ap (λ (K : Host). K.left) y) (ap (λ (K : Host). K.sockets) y)
-serves_works (egress.Waits s known f l w d e m y) wide = works_same (ap (λ (K : Host). K.left) y) (ap (λ (K : Host). K.sockets) y)
-serves_works {i} {turn} {H} {new} (egress.Served s s' known mid f l w z y) wide = by (turned z wide) where
+serves_works (turns_rules.Free f d e m y) wide = works_same (ap (λ (K : Host). K.left) y) (ap (λ (K : Host). K.sockets) y)
+serves_works (turns_rules.Waits s known f l w d e m y) wide = works_same (ap (λ (K : Host). K.left) y) (ap (λ (K : Host). K.sockets) y)
+serves_works {i} {turn} {H} {new} (turns_rules.Served s s' known mid f l w z y) wide = by (turned z wide) where
   places : new.sockets.places ≡ slice_set H.sockets.places i (Some s')
   places = ap (λ (K : Host). K.sockets.places) y ∙ ap (λ (K : Host). slice_set K.sockets.places i (Some s')) (turn_way z)
 
@@ -185,23 +189,23 @@ wide_as old new e wide = subst (λ c. 576 ≤ ip_mtu_of c) (sym e) wide
 
 walks_work : {old new : Host} {n : ℕ} {granted changed : Bool} {told : List Event} {notes : List Note} →
     Walks old n granted changed told notes new → IsWide old → Works old new
-walks_work egress.Begins wide = works_same refl refl
-walks_work {old} (egress.Goes {mid = mid} turn told_it notes new w s e) wide =
+walks_work turns_rules.Begins wide = works_same refl refl
+walks_work {old} (turns_rules.Goes {mid = mid} turn told_it notes new w s e) wide =
     works_then (walks_work w wide) (serves_works s (wide_as old mid (ap (λ (K : Host). K.capabilities) (untouched w).rest) wide))
-walks_work {old} (egress.Stops {mid = mid} turn told_it notes new w s e) wide =
+walks_work {old} (turns_rules.Stops {mid = mid} turn told_it notes new w s e) wide =
     works_then (walks_work w wide) (serves_works s (wide_as old mid (ap (λ (K : Host). K.capabilities) (untouched w).rest) wide))
 
 sockets_work : {old new : Host} {changed : Bool} {told : List Event} {notes : List Note} →
     SocketEgress old changed told notes new → IsWide old → Works old new
-sockets_work (egress.Whole w) wide = walks_work w wide
-sockets_work (egress.Stopped n w) wide = walks_work w wide
+sockets_work (turns_rules.Whole w) wide = walks_work w wide
+sockets_work (turns_rules.Stopped n w) wide = walks_work w wide
 
 -- A call that sends
 
 piece_left : {H new : Host} {told : List Event} {notes : List Note} → Ipv4Egress H told notes new → all_granted told ≡ true → new.left ≡ drop 1 H.left
-piece_left (egress.NoPiece l e m y) all = ap (λ (K : Host). K.left) y ∙ l ∙ sym (ap (drop 1) l)
-piece_left (egress.NotGranted piece rest l e m y) all = absurd (clash all (ap all_granted e))
-piece_left (egress.PieceGoes piece rest l e m y) all = ap (λ (K : Host). K.left) y ∙ sym (ap (drop 1) l)
+piece_left (fragments_rules.NoPiece l e m y) all = ap (λ (K : Host). K.left) y ∙ l ∙ sym (ap (drop 1) l)
+piece_left (fragments_rules.NotGranted piece rest l e m y) all = absurd (clash all (ap all_granted e))
+piece_left (fragments_rules.PieceGoes piece rest l e m y) all = ap (λ (K : Host). K.left) y ∙ sym (ap (drop 1) l)
 
 -- the first fragment goes; then the queues get shorter, or all stays
 pub record CallWorks (old new : Host) : Type 0 where

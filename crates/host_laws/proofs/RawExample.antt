@@ -19,22 +19,23 @@ use Rattle.iface_tables.specs.declared.neighbor.Neighbor.{Neighbor}
 use Rattle.iface_tables.specs.Neighbor.{answer_of}
 use Rattle.iface_tables.proofs.NeighborLemmas.{address_total}
 use Rattle.host_machine.specs.declared.results.PollIngressSingleResult.TheVariants as result
-use Rattle.host_machine.specs.State.Host.{Storage}
-use Rattle.host_machine.specs.Receiving.Delivery.{NoneAccepts}
-use Rattle.host_machine.specs.Receiving.Ethernet as ethernet
-use Rattle.host_machine.specs.Receiving.Ipv4 as ipv4
-use Rattle.host_machine.specs.Receiving.Reply.{Ip}
-use Rattle.host_machine.specs.Receiving.Udp as udp
-use Rattle.host_machine.specs.Sending.Dispatch.{ToSpecified, ByHop, OnLink, Known, Whole}
-use Rattle.host_machine.specs.Sending.Packet.{Ipv4}
-use Rattle.host_machine.specs.Sending.Packet as packets
+use Rattle.host_machine.specs.Context.Host.{Storage}
+use Rattle.host_machine.specs.Sockets.Delivery.{NoneAccepts}
+use Rattle.host_machine.specs.Receive.Ethernet as ethernet
+use Rattle.host_machine.specs.Receive.Ipv4 as ipv4
+use Rattle.host_machine.specs.Receive.Reply.{Ip}
+use Rattle.host_machine.specs.Sockets.Udp as udp
+use Rattle.host_machine.specs.Send.Dispatch.{ToSpecified, ByHop, Known, Whole}
+use Rattle.host_machine.specs.Send.Hops.{OnLink}
+use Rattle.host_machine.specs.Packet.Packet.{Ipv4}
+use Rattle.host_machine.specs.Packet.Packet as packets
 use Rattle.host_machine.specs.declared.results.PollResult.TheVariants as poll
 use Rattle.host_machine.specs.declared.results.Turn.TheVariants.{Done}
 use Rattle.sockets.specs.declared.socket.SocketOf.TheVariants as kind
-use Rattle.host_machine.specs.Sending.Egress.{Egress}
-use Rattle.host_machine.specs.Sending.Egress as egress
-use Rattle.host_machine.proofs.Sending.RoundWithoutPieces.{no_piece}
-use Rattle.host_machine.specs.Polling.Ingress.{Ingress}
+use Rattle.host_machine.specs.Interface.Egress.{Egress}
+use Rattle.host_machine.specs.Sockets.Turns as egress
+use Rattle.host_machine.proofs.Interface.RoundWithoutPieces.{no_piece}
+use Rattle.host_machine.specs.Interface.Ingress.{Ingress}
 use Rattle.host_machine.specs.Laws.Frames as frames
 use Rattle.host_machine.specs.Examples.ArpAndEcho as example
 use Rattle.host_machine.specs.Examples.Sockets.{datagram, port_unreachable, unknown_protocol_frame, with_raw}

@@ -30,13 +30,13 @@ use Rattle.network_sockets.specs.Raw.{RawSocket, Sent}
 use Rattle.network_sockets.specs.Raw as raw
 use Rattle.fragmentation.specs.Cuts.{Datagram, Piece, HasForm, cut, pieces_of, piece_of, piece_header, piece_fragment}
 use Rattle.fragmentation.specs.Fragments.{Fragment}
-use Rattle.host_machine.specs.State.Host.{Host}
-use Rattle.host_machine.specs.Sending.Packet.{Packet, IsFormed, payload_of, packet_with, header_v4, header_v6}
-use Rattle.host_machine.specs.Sending.Packet as packet
-use Rattle.host_machine.specs.Sending.Frame.{ip_frame, piece_frame, piece_text, link_header}
+use Rattle.host_machine.specs.Context.Host.{Host}
+use Rattle.host_machine.specs.Packet.Packet.{Packet, IsFormed, payload_of, packet_with, header_v4, header_v6}
+use Rattle.host_machine.specs.Packet.Packet as packet
+use Rattle.host_machine.specs.Packet.Frame.{ip_frame, piece_frame, piece_text, link_header}
 use Rattle.host_machine.specs.Laws.Frames.{Carries}
-use Rattle.host_machine.proofs.Receiving.FrameReading.{number_again, same_packet, other_packet, version_six}
-use Rattle.host_machine.proofs.Receiving.Pieces.{IsIn, contains_in, IsPiece, piece_in, part_of}
+use Rattle.host_machine.proofs.Receive.FrameReading.{number_again, same_packet, other_packet, version_six}
+use Rattle.host_machine.proofs.Receive.Pieces.{IsIn, contains_in, IsPiece, piece_in, part_of}
 use Rattle.host_machine.proofs.Runs.TwoHosts.{is_part}
 use Rattle.host_laws.specs.Deliveries.{CarriesIpv6}
 use Rattle.host_laws.specs.RawPackets.{IsPartIf}

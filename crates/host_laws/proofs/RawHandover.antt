@@ -33,27 +33,28 @@ use Rattle.iface_tables.specs.Neighbor.{after_renewal, expiry_from}
 use Rattle.network_sockets.specs.Raw.{RawSocket, accepts, socket_after_delivery}
 use Rattle.sockets.specs.declared.socket.SocketOf.TheVariants.{Raw, Icmp, Udp, Tcp}
 use Rattle.sockets.specs.Kinds.{down_raw, down_tcp}
-use Rattle.host_machine.specs.State.Note.{Note}
-use Rattle.host_machine.specs.State.Host.{Host, Socket, SocketSet, Storage, with_neighbors}
-use Rattle.host_machine.specs.State.Addresses.{is_for_host, is_unicast}
-use Rattle.host_machine.specs.Receiving.Delivery.{to_this}
-use Rattle.host_machine.specs.Receiving.Reply.{Reply}
-use Rattle.host_machine.specs.Receiving.Renewal.{sender_renewed}
-use Rattle.host_machine.specs.Receiving.Raw as raw
-use Rattle.host_machine.specs.Receiving.Icmp as icmp
-use Rattle.host_machine.specs.Receiving.Icmpv4.{ProcessesIcmpv4}
-use Rattle.host_machine.specs.Receiving.Icmpv4 as icmpv4
-use Rattle.host_machine.specs.Receiving.Icmpv6.{ProcessesIcmpv6, ProcessesMessage}
-use Rattle.host_machine.specs.Receiving.Icmpv6 as icmpv6
-use Rattle.host_machine.specs.Receiving.Ndisc.{ProcessesNdisc, ProcessesNdiscMessage, Learns}
-use Rattle.host_machine.specs.Receiving.Ndisc as ndisc
-use Rattle.host_machine.specs.Sending.Reports as reports
-use Rattle.host_machine.specs.Receiving.Ipv4 as ipv4
-use Rattle.host_machine.specs.Receiving.Ipv6 as ipv6
-use Rattle.host_machine.specs.Receiving.Tcp.{ProcessesTcp}
-use Rattle.host_machine.specs.Receiving.Tcp as tcp
-use Rattle.host_machine.specs.Receiving.Udp.{ProcessesUdp}
-use Rattle.host_machine.specs.Receiving.Udp as udp
+use Rattle.host_machine.specs.Context.Note.{Note}
+use Rattle.host_machine.specs.Context.Host.{Host, Socket, SocketSet, Storage, with_neighbors}
+use Rattle.host_machine.specs.Context.Addresses.{is_for_host, is_unicast}
+use Rattle.host_machine.specs.Sockets.Delivery.{to_this}
+use Rattle.host_machine.specs.Receive.Reply.{Reply}
+use Rattle.host_machine.specs.Discovery.Renewal.{sender_renewed}
+use Rattle.host_machine.specs.Sockets.Raw as raw
+use Rattle.host_machine.specs.Icmp.Delivery as icmp
+use Rattle.host_machine.specs.Icmp.Icmpv4.{ProcessesIcmpv4}
+use Rattle.host_machine.specs.Icmp.Icmpv4 as icmpv4
+use Rattle.host_machine.specs.Icmp.Icmpv6.{ProcessesIcmpv6, ProcessesMessage}
+use Rattle.host_machine.specs.Icmp.Icmpv6 as icmpv6
+use Rattle.host_machine.specs.Discovery.Ndisc.{ProcessesNdisc, ProcessesNdiscMessage, Learns}
+use Rattle.host_machine.specs.Discovery.Ndisc as ndisc
+use Rattle.host_machine.specs.Multicast.Igmp as igmp_rules
+use Rattle.host_machine.specs.Multicast.Mld as mld_rules
+use Rattle.host_machine.specs.Receive.Ipv4 as ipv4
+use Rattle.host_machine.specs.Receive.Ipv6 as ipv6
+use Rattle.host_machine.specs.Sockets.Tcp.{ProcessesTcp}
+use Rattle.host_machine.specs.Sockets.Tcp as tcp
+use Rattle.host_machine.specs.Sockets.Udp.{ProcessesUdp}
+use Rattle.host_machine.specs.Sockets.Udp as udp
 use Rattle.host_laws.specs.RawArrivals.{RawArrival, raw_at, with_arrivals}
 use Rattle.host_laws.specs.RawPackets.{tcp_at}
 use Rattle.host_laws.proofs.DatagramHandover.{seen}
@@ -232,27 +233,27 @@ icmpv4_taken : {r : Ipv4Repr} {H new : Host} {octets : List ℕ} {reply : Option
 icmpv4_taken (icmpv4.Malformed m d) = same d.unchanged
 icmpv4_taken {r} {H} {new} {octets} (icmpv4.Taken i e n s) = same_by s (icmp_heard _ _ _ octets H)
 
-asked_same : (H : Host) (dst : Ipv4Address) (m : IgmpRepr) → Same H (reports.host_after_igmp H dst m)
+asked_same : (H : Host) (dst : Ipv4Address) (m : IgmpRepr) → Same H (igmp_rules.host_after_igmp H dst m)
 asked_same H dst (MembershipQuery code group) = unread refl refl
 asked_same H dst (MembershipReport group version) = same refl
 asked_same H dst (LeaveGroup group) = same refl
 
 igmp_taken : {r : Ipv4Repr} {H new : Host} {octets : List ℕ} {reply : Option Reply} {notes : List Note} →
-    reports.ProcessesIgmp r H octets reply notes new → Same H new
-igmp_taken (reports.Malformed m d) = same d.unchanged
-igmp_taken {r} {H} {new} {octets} (reports.Taken i e n s) = same_by s (asked_same H r.dst_addr (igmp_in octets))
+    igmp_rules.ProcessesIgmp r H octets reply notes new → Same H new
+igmp_taken (igmp_rules.Malformed m d) = same d.unchanged
+igmp_taken {r} {H} {new} {octets} (igmp_rules.Taken i e n s) = same_by s (asked_same H r.dst_addr (igmp_in octets))
 
-mld_same : (H : Host) (r : Ipv6Repr) (code : ℕ) (group : Ipv6Address) → Same H (reports.host_after_mld_query H r code group)
-mld_same H r code group = by (reports.is_near r) where
+mld_same : (H : Host) (r : Ipv6Repr) (code : ℕ) (group : Ipv6Address) → Same H (mld_rules.host_after_mld_query H r code group)
+mld_same H r code group = by (mld_rules.is_near r) where
   by : (b : Bool) → Same H (if b then record H {
-    mld_report = reports.mld_report_for H r.dst_addr (H.moment +ℤ pos (reports.delay code H.random)) group;
-    random = reports.random_after_draw code H.random;
+    mld_report = mld_rules.mld_report_for H r.dst_addr (H.moment +ℤ pos (mld_rules.delay code H.random)) group;
+    random = mld_rules.random_after_draw code H.random;
   } else H)
   by true = unread refl refl
   by false = same refl
 
 mld_taken : (r : Ipv6Repr) (m : MldRepr) (H : Host) (reply : Option Reply) (notes : List Note) (new : Host) →
-    reports.ProcessesMld r m H reply notes new → Same H new
+    mld_rules.ProcessesMld r m H reply notes new → Same H new
 mld_taken r (Query code group) H reply notes new t = same_by t.2 (mld_same H r code group)
 mld_taken r (Report count) H reply notes new t = same t.unchanged
 

@@ -25,27 +25,27 @@ use Rattle.fragmentation.specs.declared.key.FragKey.{FragKey}
 use Rattle.fragmentation.specs.Fragments.{Fragment}
 use Rattle.fragmentation.specs.Reassembly.{SlotNote}
 use Rattle.host_machine.specs.declared.results.PollIngressSingleResult.{PollIngressSingleResult}
-use Rattle.host_machine.specs.State.Note.{Note, slot_notes}
-use Rattle.host_machine.specs.State.Host.{Host, at, without_expired}
-use Rattle.host_machine.specs.State.Addresses.{is_for_host, may_be_source}
-use Rattle.host_machine.specs.Receiving.Reply.{Reply}
-use Rattle.host_machine.specs.Receiving.Arp.{ProcessesArp}
-use Rattle.host_machine.specs.Receiving.Arp as arp
-use Rattle.host_machine.specs.Receiving.Reassembly.{TakesFragment}
-use Rattle.host_machine.specs.Receiving.Ipv4.{ProcessesIpv4, key_in, fragment_in, datagram_header}
-use Rattle.host_machine.specs.Receiving.Ipv4 as ipv4
-use Rattle.host_machine.specs.Receiving.Ipv6 as ipv6
-use Rattle.host_machine.specs.Receiving.Ethernet.{ProcessesEthertype, ProcessesFrame, is_for}
-use Rattle.host_machine.specs.Receiving.Ethernet as ethernet
+use Rattle.host_machine.specs.Context.Note.{Note, slot_notes}
+use Rattle.host_machine.specs.Context.Host.{Host, at, without_expired}
+use Rattle.host_machine.specs.Context.Addresses.{is_for_host, may_be_source}
+use Rattle.host_machine.specs.Receive.Reply.{Reply}
+use Rattle.host_machine.specs.Discovery.Arp.{ProcessesArp}
+use Rattle.host_machine.specs.Discovery.Arp as arp
+use Rattle.host_machine.specs.Receive.Reassembly.{TakesFragment}
+use Rattle.host_machine.specs.Receive.Ipv4.{ProcessesIpv4, key_in, fragment_in, datagram_header}
+use Rattle.host_machine.specs.Receive.Ipv4 as ipv4
+use Rattle.host_machine.specs.Receive.Ipv6 as ipv6
+use Rattle.host_machine.specs.Receive.Ethernet.{ProcessesEthertype, ProcessesFrame, is_for}
+use Rattle.host_machine.specs.Receive.Ethernet as ethernet
 use Rattle.host_machine.specs.Laws.Frames.{Carries}
 use Rattle.host_machine.specs.Laws.Frames as frames
-use Rattle.host_machine.specs.Polling.Ingress.{Takes, Ingress}
-use Rattle.host_machine.specs.Sending.Frame.{sends}
-use Rattle.host_machine.specs.Sending.Parts.{Part}
-use Rattle.host_machine.proofs.State.NotesBySubject.{slot_notes-append, slot_notes-slots}
-use Rattle.host_machine.proofs.Receiving.PacketEffects.{whole_plain}
-use Rattle.host_machine.proofs.Receiving.Malformed.{handed_frames-sends}
-use Rattle.host_machine.proofs.Receiving.SlotEffects.{handed_frames-append}
+use Rattle.host_machine.specs.Interface.Ingress.{Takes, Ingress}
+use Rattle.host_machine.specs.Packet.Frame.{sends}
+use Rattle.host_machine.specs.Interface.Parts.{Part}
+use Rattle.host_machine.proofs.Context.NotesBySubject.{slot_notes-append, slot_notes-slots}
+use Rattle.host_machine.proofs.Receive.PacketEffects.{whole_plain}
+use Rattle.host_machine.proofs.Receive.Malformed.{handed_frames-sends}
+use Rattle.host_machine.proofs.Receive.SlotEffects.{handed_frames-append}
 use Rattle.host_laws.specs.Deliveries.{CarriesIpv6}
 use Rattle.host_laws.specs.Deliveries as spec
 use Rattle.host_laws.specs.RawArrivals.{RawArrival, Arrive, BringsRaw, receiver_at, socket_after_arrival, with_arrivals, without_sending}

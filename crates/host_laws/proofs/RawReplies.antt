@@ -52,32 +52,34 @@ use Rattle.network_sockets.specs.Raw.{RawSocket}
 use Rattle.network_sockets.specs.Raw as raw_socket
 use Rattle.sockets.specs.Kinds.{down_raw}
 use Rattle.sockets.specs.declared.socket.SocketOf.TheVariants.{Raw, Icmp, Udp, Tcp}
-use Rattle.host_machine.specs.State.Note.{Note}
-use Rattle.host_machine.specs.State.Host.{Host, SocketSet, Storage}
-use Rattle.host_machine.specs.Receiving.Reply.{Reply, Arp, Ip, IsDropped}
-use Rattle.host_machine.specs.Receiving.Renewal.{sender_renewed}
-use Rattle.host_machine.specs.Receiving.Raw as raw
-use Rattle.host_machine.specs.Receiving.Arp.{ProcessesArp}
-use Rattle.host_machine.specs.Receiving.Arp as arp
-use Rattle.host_machine.specs.Receiving.Icmpv4.{ProcessesIcmpv4, answer_to, message_back, reply_source, quotation_of, unreachable}
-use Rattle.host_machine.specs.Receiving.Icmpv4 as icmpv4
-use Rattle.host_machine.specs.Receiving.Icmpv6.{ProcessesIcmpv6, ProcessesMessage}
-use Rattle.host_machine.specs.Receiving.Icmpv6 as icmpv6
-use Rattle.host_machine.specs.Receiving.Ndisc.{ProcessesNdisc, ProcessesNdiscMessage, advertisement_of, answer_by, is_target}
-use Rattle.host_machine.specs.Receiving.Ndisc as ndisc
-use Rattle.host_machine.specs.Receiving.Unreachable.{port_unreachable}
-use Rattle.host_machine.specs.Receiving.Ethernet.{ProcessesEthertype, ProcessesFrame, is_for}
-use Rattle.host_machine.specs.Receiving.Ethernet as ethernet
-use Rattle.host_machine.specs.Receiving.Ipv4 as ipv4
-use Rattle.host_machine.specs.Receiving.Ipv6 as ipv6
-use Rattle.host_machine.specs.Receiving.Tcp.{ProcessesTcp}
-use Rattle.host_machine.specs.Receiving.Tcp as tcp
-use Rattle.host_machine.specs.Receiving.Udp.{ProcessesUdp}
-use Rattle.host_machine.specs.Receiving.Udp as udp
-use Rattle.host_machine.specs.Sending.Packet.{IpPayload, payload_of}
-use Rattle.host_machine.specs.Sending.Packet as packet
-use Rattle.host_machine.specs.Sending.Reports as reports
-use Rattle.host_machine.specs.Polling.Ingress.{Takes}
+use Rattle.host_machine.specs.Context.Note.{Note}
+use Rattle.host_machine.specs.Context.Host.{Host, SocketSet, Storage}
+use Rattle.host_machine.specs.Receive.Reply.{Reply, Arp, Ip, IsDropped}
+use Rattle.host_machine.specs.Discovery.Renewal.{sender_renewed}
+use Rattle.host_machine.specs.Sockets.Raw as raw
+use Rattle.host_machine.specs.Discovery.Arp.{ProcessesArp}
+use Rattle.host_machine.specs.Discovery.Arp as arp
+use Rattle.host_machine.specs.Icmp.Icmpv4.{ProcessesIcmpv4, answer_to, message_back, reply_source, quotation_of, unreachable}
+use Rattle.host_machine.specs.Icmp.Icmpv4 as icmpv4
+use Rattle.host_machine.specs.Icmp.Icmpv6.{ProcessesIcmpv6, ProcessesMessage}
+use Rattle.host_machine.specs.Icmp.Icmpv6 as icmpv6
+use Rattle.host_machine.specs.Discovery.Ndisc.{ProcessesNdisc, ProcessesNdiscMessage, advertisement_of, answer_by, is_target}
+use Rattle.host_machine.specs.Discovery.Ndisc as ndisc
+use Rattle.host_machine.specs.Icmp.Unreachable.{port_unreachable}
+use Rattle.host_machine.specs.Receive.Ethernet.{ProcessesEthertype, ProcessesFrame, is_for}
+use Rattle.host_machine.specs.Receive.Ethernet as ethernet
+use Rattle.host_machine.specs.Receive.Ipv4 as ipv4
+use Rattle.host_machine.specs.Receive.Ipv6 as ipv6
+use Rattle.host_machine.specs.Icmp.HopByHop as hop_by_hop_rules
+use Rattle.host_machine.specs.Sockets.Tcp.{ProcessesTcp}
+use Rattle.host_machine.specs.Sockets.Tcp as tcp
+use Rattle.host_machine.specs.Sockets.Udp.{ProcessesUdp}
+use Rattle.host_machine.specs.Sockets.Udp as udp
+use Rattle.host_machine.specs.Packet.Packet.{IpPayload, payload_of}
+use Rattle.host_machine.specs.Packet.Packet as packet
+use Rattle.host_machine.specs.Multicast.Igmp as igmp
+use Rattle.host_machine.specs.Multicast.Mld as mld_rules
+use Rattle.host_machine.specs.Interface.Ingress.{Takes}
 use Rattle.host_laws.specs.Deliveries.{CarriesIpv6}
 use Rattle.host_laws.specs.Deliveries as spec
 use Rattle.host_laws.specs.RawArrivals.{with_arrivals}
@@ -131,7 +133,7 @@ unrecognized true own r payload = tt
 unrecognized false own r payload = refl
 
 option_refusal : (failure : Ipv6OptionFailureType) (own : List IpCidr) (r : Ipv6Repr) (payload : List ℕ) →
-    IsNoSegment (ipv6.unknown_option failure own r payload)
+    IsNoSegment (hop_by_hop_rules.unknown_option failure own r payload)
 option_refusal Skip own r payload = tt
 option_refusal Discard own r payload = tt
 option_refusal DiscardSendAll own r payload = refl
@@ -158,9 +160,9 @@ icmpv4_is (icmpv4.Malformed m d) = drop_is d
 icmpv4_is {r} {H} {new} {octets} (icmpv4.Taken i e n s) = some_is _ e (answered H.ip_addrs r (icmpv4_in octets).0 (icmpv4_in octets).1)
 
 igmp_is : {r : Ipv4Repr} {H new : Host} {octets : List ℕ} {reply : Option Reply} {notes : List Note} →
-    reports.ProcessesIgmp r H octets reply notes new → IsNoSegment reply
-igmp_is (reports.Malformed m d) = drop_is d
-igmp_is (reports.Taken i e n s) = none_is e
+    igmp.ProcessesIgmp r H octets reply notes new → IsNoSegment reply
+igmp_is (igmp.Malformed m d) = drop_is d
+igmp_is (igmp.Taken i e n s) = none_is e
 
 solicited : (own : EthernetAddress) (H : Host) (r : Ipv6Repr) (target : Ipv6Address) → IsNoSegment (answer_by own H r target)
 solicited own H r target = by (is_target H r target) where
@@ -181,7 +183,7 @@ ndisc_is (ndisc.WithoutAddresses without d) = drop_is d
 ndisc_is (ndisc.FromNeighbor own near mine h) = neighbor_is h
 
 mld_is : (r : Ipv6Repr) (m : MldRepr) (H : Host) (reply : Option Reply) (notes : List Note) (new : Host) →
-    reports.ProcessesMld r m H reply notes new → IsNoSegment reply
+    mld_rules.ProcessesMld r m H reply notes new → IsNoSegment reply
 mld_is r (Query code group) H reply notes new t = none_is t.0
 mld_is r (Report count) H reply notes new t = drop_is t
 

@@ -22,23 +22,25 @@ use Rattle.sockets.specs.Kinds.{RawOffer, IcmpOffer, UdpOffer}
 use Rattle.fragmentation.specs.Fragments.{Fragment}
 use Rattle.fragmentation.specs.Cuts.{Datagram, Piece, HasForm, cut, count, pieces_of, piece_of}
 use Rattle.host_machine.specs.declared.results.DispatchError.{DispatchError}
-use Rattle.host_machine.specs.State.Note.{Note, OfCuts, Cut, PieceSent}
-use Rattle.host_machine.specs.State.Addresses.{source_for}
-use Rattle.host_machine.specs.State.Host.{Host, Socket, SocketSet, with_left}
-use Rattle.host_machine.specs.Sending.Packet.{IpPayload, Packet, PacketV4, IsFormed, header_v4, payload_of, payload_len, total_len}
-use Rattle.host_machine.specs.Sending.Packet as packet
-use Rattle.host_machine.specs.Sending.Frame.{ip_frame, piece_frame, payload_text}
-use Rattle.host_machine.specs.Sending.Dispatch.{Outcome, Dispatches, datagram_of, piece_size}
-use Rattle.host_machine.specs.Sending.Egress.{packet_from, packet_of}
+use Rattle.host_machine.specs.Context.Note.{Note, OfCuts, Cut, PieceSent}
+use Rattle.host_machine.specs.Context.Addresses.{source_for}
+use Rattle.host_machine.specs.Context.Host.{Host, Socket, SocketSet, with_left}
+use Rattle.host_machine.specs.Packet.Packet.{IpPayload, Packet, PacketV4, IsFormed, header_v4, payload_of, payload_len, total_len}
+use Rattle.host_machine.specs.Packet.Packet as packet
+use Rattle.host_machine.specs.Packet.Frame.{ip_frame, piece_frame, payload_text}
+use Rattle.host_machine.specs.Send.Outcome.{Outcome}
+use Rattle.host_machine.specs.Send.Dispatch.{Dispatches}
+use Rattle.host_machine.specs.Context.Pieces.{datagram_of, piece_size}
+use Rattle.host_machine.specs.Sockets.Offers.{packet_from, packet_of}
 use Rattle.host_machine.specs.Laws.Real.{IsRegular}
 use Rattle.host_machine.specs.Laws.Steps.{SendsOneThing, ThePacket, ItsFirstPiece, ARequest}
 use Rattle.host_machine.specs.Laws.Steps as laws
-use Rattle.host_machine.proofs.Receiving.Pieces.{IsIn, count_below, in_left, in_right, length-pieces_from}
+use Rattle.host_machine.proofs.Receive.Pieces.{IsIn, count_below, in_left, in_right, length-pieces_from}
 use Rattle.host_machine.proofs.Runs.TwoHosts.{in_map, size_positive}
 use Rattle.host_machine.proofs.Runs.Walk.{Reached, dispatched}
-use Rattle.host_machine.proofs.Sending.NotedRequests.{sends_one}
-use Rattle.host_machine.proofs.Sending.OwnMessages.{is_own}
-use Rattle.host_machine.proofs.Sending.Turns.{between_is, icmp_is, tcp_is}
+use Rattle.host_machine.proofs.Discovery.NotedRequests.{sends_one}
+use Rattle.host_machine.proofs.Interface.OwnMessages.{is_own}
+use Rattle.host_machine.proofs.Interface.Turns.{between_is, icmp_is, tcp_is}
 use Rattle.host_laws.proofs.Accounts.{cuts_follow, dispatch_follows, follows}
 use Rattle.host_laws.proofs.FramesWithoutUdp.{request_at_most}
 use Rattle.host_laws.proofs.RawFrames.{packet_for}

@@ -12,13 +12,13 @@ use Rattle.ip_address.specs.declared.protocol.IpVersion.TheVariants as version
 use Rattle.ip_address.specs.Protocol.{number_of}
 use Rattle.ip_wire.specs.IpPacket.{next_header}
 use Rattle.network_sockets.specs.Raw.{RawSocket, Sent, if_spoken, packet_in}
-use Rattle.host_machine.specs.State.Host.{Host, SocketSet}
+use Rattle.host_machine.specs.Context.Host.{Host, SocketSet}
 use Rattle.host_machine.specs.Laws.Real.{IsReal}
-use Rattle.host_machine.specs.Polling.Run.{Transition, Run, Ends, Then, events_in}
-use Rattle.host_machine.specs.Sending.Packet.{payload_of}
-use Rattle.host_machine.specs.Sending.Packet as packet
-use Rattle.host_machine.proofs.Receiving.Pieces.{is_in}
-use Rattle.host_machine.proofs.Receiving.SlotEffects.{handed_frames-append}
+use Rattle.host_machine.specs.Interface.Run.{Transition, Run, Ends, Then, events_in}
+use Rattle.host_machine.specs.Packet.Packet.{payload_of}
+use Rattle.host_machine.specs.Packet.Packet as packet
+use Rattle.host_machine.proofs.Receive.Pieces.{is_in}
+use Rattle.host_machine.proofs.Receive.SlotEffects.{handed_frames-append}
 use Rattle.host_machine.proofs.Runs.SentPieces as shown
 use Rattle.host_laws.specs.Network.{Runs, SentBySome}
 use Rattle.host_laws.specs.RawArrivals.{raw_at}

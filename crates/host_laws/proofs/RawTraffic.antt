@@ -21,25 +21,25 @@ use Rattle.host_machine.specs.declared.command.Command.{Command}
 use Rattle.host_machine.specs.declared.command.Answer.{Answer}
 use Rattle.host_machine.specs.declared.results.PollIngressSingleResult.{PollIngressSingleResult}
 use Rattle.host_machine.specs.declared.results.PollResult.{PollResult}
-use Rattle.host_machine.specs.State.Note.{Note, slot_notes}
-use Rattle.host_machine.specs.State.Host.{Host, Socket, SocketSet, at, without_expired}
-use Rattle.host_machine.specs.Receiving.Reply.{Reply, Arp, Ip}
-use Rattle.host_machine.specs.Receiving.Response.{Responds}
-use Rattle.host_machine.specs.Sending.Frame.{arp_frame, sends}
-use Rattle.host_machine.specs.Sending.Packet.{payload_of}
-use Rattle.host_machine.specs.Sending.Parts.{Part}
-use Rattle.host_machine.specs.Sending.Slaac.{with_slaac_applied}
-use Rattle.host_machine.specs.Sending.Egress.{Egress}
-use Rattle.host_machine.specs.Sending.Multicast.{JoinsGroup, LeavesGroup, NoGroup, NoPlace, JoinTaken, NoGroupEither, LeaveTaken}
-use Rattle.host_machine.specs.Polling.Ingress.{Ingress}
-use Rattle.host_machine.specs.Polling.Polling.{Polls, after_maintenance}
-use Rattle.host_machine.specs.Polling.Step.{Act, Step, Accepted, Refused, Taken, NotTaken, WithinDay, OverDay}
-use Rattle.host_machine.specs.Polling.Step as step
+use Rattle.host_machine.specs.Context.Note.{Note, slot_notes}
+use Rattle.host_machine.specs.Context.Host.{Host, Socket, SocketSet, at, without_expired}
+use Rattle.host_machine.specs.Receive.Reply.{Reply, Arp, Ip}
+use Rattle.host_machine.specs.Receive.Response.{Responds}
+use Rattle.host_machine.specs.Packet.Frame.{arp_frame, sends}
+use Rattle.host_machine.specs.Packet.Packet.{payload_of}
+use Rattle.host_machine.specs.Interface.Parts.{Part}
+use Rattle.host_machine.specs.Context.Autoconfiguration.{with_slaac_applied}
+use Rattle.host_machine.specs.Interface.Egress.{Egress}
+use Rattle.host_machine.specs.Multicast.Joins.{JoinsGroup, LeavesGroup, NoGroup, NoPlace, JoinTaken, NoGroupEither, LeaveTaken}
+use Rattle.host_machine.specs.Interface.Ingress.{Ingress}
+use Rattle.host_machine.specs.Interface.Polling.{Polls, after_maintenance}
+use Rattle.host_machine.specs.Interface.Step.{Act, Step, Accepted, Refused, Taken, NotTaken, WithinDay, OverDay}
+use Rattle.host_machine.specs.Interface.Step as step
 use Rattle.host_machine.specs.Laws.Real.{IsReal, IsRegular}
-use Rattle.host_machine.proofs.State.NotesBySubject.{slot_notes-append}
-use Rattle.host_machine.proofs.Polling.PollCalls.{until}
-use Rattle.host_machine.proofs.Receiving.Malformed.{handed_frames-received, handed_frames-sends, sent_frames-sends}
-use Rattle.host_machine.proofs.Receiving.SlotEffects.{egress_hands_none, egress_still, handed_frames-append}
+use Rattle.host_machine.proofs.Context.NotesBySubject.{slot_notes-append}
+use Rattle.host_machine.proofs.Interface.PollCalls.{until}
+use Rattle.host_machine.proofs.Receive.Malformed.{handed_frames-received, handed_frames-sends, sent_frames-sends}
+use Rattle.host_machine.proofs.Receive.SlotEffects.{egress_hands_none, egress_still, handed_frames-append}
 use Rattle.host_machine.proofs.Runs.SentPieces.{GoodReply, takes_good, takes_real}
 use Rattle.host_machine.proofs.Runs.Walk.{sent_frames-append}
 use Rattle.host_laws.specs.Datagrams.{host_at_command}

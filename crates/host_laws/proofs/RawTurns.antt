@@ -17,27 +17,33 @@ use Rattle.network_sockets.specs.Raw.{RawSocket, offered_packet, socket_after_of
 use Rattle.transport_sockets.specs.Tcp.{TcpSocket}
 use Rattle.host_machine.specs.declared.results.PollResult.{PollResult}
 use Rattle.host_machine.specs.declared.results.Turn.{Turn}
-use Rattle.host_machine.specs.State.Note.{Note}
-use Rattle.host_machine.specs.State.Host.{Host, Socket, SocketSet, Storage, at}
-use Rattle.host_machine.specs.Sending.Packet.{Packet, payload_of}
-use Rattle.host_machine.specs.Sending.Frame.{sends}
-use Rattle.host_machine.specs.Sending.Dispatch.{Outcome, Dispatches}
-use Rattle.host_machine.specs.Sending.Egress.{SocketTurn, Serves, Walks, SocketEgress, Ipv4Egress, Round, Egress, packet_from}
-use Rattle.host_machine.specs.Sending.Egress.{socket_after_asking, with_socket}
-use Rattle.host_machine.specs.Sending.Egress as egress
-use Rattle.host_machine.specs.Sending.Multicast as multicast
-use Rattle.host_machine.specs.Sending.Reports.{IgmpEgress, MldEgress}
-use Rattle.host_machine.specs.Sending.Reports as reports
-use Rattle.host_machine.specs.Sending.Slaac.{NdiscRsEgress}
-use Rattle.host_machine.specs.Sending.Slaac as slaac
-use Rattle.host_machine.specs.Sending.Parts.{Part}
+use Rattle.host_machine.specs.Context.Note.{Note}
+use Rattle.host_machine.specs.Context.Host.{Host, Socket, SocketSet, Storage, at}
+use Rattle.host_machine.specs.Packet.Packet.{Packet, payload_of}
+use Rattle.host_machine.specs.Packet.Frame.{sends}
+use Rattle.host_machine.specs.Send.Outcome.{Outcome}
+use Rattle.host_machine.specs.Send.Dispatch.{Dispatches}
+use Rattle.host_machine.specs.Sockets.Turns.{SocketTurn, Serves, Walks, SocketEgress, with_socket}
+use Rattle.host_machine.specs.Send.Fragments.{Ipv4Egress}
+use Rattle.host_machine.specs.Interface.Egress.{Round, Egress}
+use Rattle.host_machine.specs.Sockets.Offers.{packet_from, socket_after_asking}
+use Rattle.host_machine.specs.Sockets.Turns as turns
+use Rattle.host_machine.specs.Send.Fragments as fragments
+use Rattle.host_machine.specs.Multicast.Joins as multicast
+use Rattle.host_machine.specs.Multicast.Igmp.{IgmpEgress}
+use Rattle.host_machine.specs.Multicast.Mld.{MldEgress}
+use Rattle.host_machine.specs.Multicast.Igmp as igmp
+use Rattle.host_machine.specs.Multicast.Mld as mld
+use Rattle.host_machine.specs.Discovery.RouterSolicitation.{NdiscRsEgress}
+use Rattle.host_machine.specs.Discovery.RouterSolicitation as slaac
+use Rattle.host_machine.specs.Interface.Parts.{Part}
 use Rattle.host_machine.specs.Laws.Real.{IsPart, IsRegular}
-use Rattle.host_machine.proofs.Polling.PollCalls.{both}
-use Rattle.host_machine.proofs.Receiving.Malformed.{sent_frames-sends}
-use Rattle.host_machine.proofs.Sending.NotedRequests.{sends_one}
+use Rattle.host_machine.proofs.Interface.PollCalls.{both}
+use Rattle.host_machine.proofs.Receive.Malformed.{sent_frames-sends}
+use Rattle.host_machine.proofs.Discovery.NotedRequests.{sends_one}
 use Rattle.host_machine.proofs.Runs.Walk.{sent_frames-append}
-use Rattle.host_machine.proofs.Sending.OwnMessages.{is_own}
-use Rattle.host_machine.proofs.Sending.Turns.{join_is, leave_is, report_is, solicitation_is, turn_sockets}
+use Rattle.host_machine.proofs.Interface.OwnMessages.{is_own}
+use Rattle.host_machine.proofs.Interface.Turns.{join_is, leave_is, report_is, solicitation_is, turn_sockets}
 use Rattle.host_laws.specs.RawArrivals.{receiver_at, without_sending}
 use Rattle.host_laws.proofs.Accounts.{dispatch_follows, still}
 use Rattle.host_laws.proofs.IdleParts.{Idle, dispatch_idle}
@@ -262,11 +268,11 @@ no_turn u H after told mid t e ready =
 turn_sends : (u : Unspoken) → (i : ℕ) (s : Socket) {s' : Socket} {turn : Turn} {H mid : Host} {told : List Event} {notes : List Note}
     (after : SocketSet) → slice_get H.sockets.places i ≡ Some (Some s) → speaker_at after i ≡ speaker s' →
     SocketTurn s turn s' H told notes mid → Ready u H → TurnSends u H after (sent_frames told) mid
-turn_sends u i s {H = H} {mid = mid} {told = told} after there later (egress.Silent p t o m e r) ready =
+turn_sends u i s {H = H} {mid = mid} {told = told} after there later (turns.Silent p t o m e r) ready =
     no_turn u H after told mid (ap sent_frames o) e ready
-turn_sends u i s {H = H} {mid = mid} {told = told} after there later (egress.Refused p q t o m e r) ready =
+turn_sends u i s {H = H} {mid = mid} {told = told} after there later (turns.Refused p q t o m e r) ready =
     no_turn u H after told mid (ap sent_frames o) e ready
-turn_sends u i s {s' = s'} {H = H} {mid = mid} {notes = notes} after there later (egress.Sent p outcome frames q d t o r) ready =
+turn_sends u i s {s' = s'} {H = H} {mid = mid} {notes = notes} after there later (turns.Sent p outcome frames q d t o r) ready =
     let f = dispatch_follows d ready.regular in
     rw (ap sent_frames o ∙ sent_frames-sends frames)
     (record { all = by s there q r; same = f.same; regular = f.regular; pending = dispatch_pending u d ready.regular ready.pending }) where
@@ -304,9 +310,9 @@ asked H (Udp w) e = record { told = false; is_done = false; raw = λ v is. absur
 asked H (Tcp w) e = record { told = false; is_done = false; raw = λ v is. absurd cc; other = λ none. ap speaker e }
 
 turned : {s s' : Socket} {turn : Turn} {H mid : Host} {told : List Event} {notes : List Note} → SocketTurn s turn s' H told notes mid → Turned s s'
-turned {s} {H = H} (egress.Silent p t o n e r) = asked H s r
-turned {s} {H = H} (egress.Refused p q t o n e r) = asked H s r
-turned {s} {H = H} (egress.Sent p outcome frames q d t o r) = answered s r where
+turned {s} {H = H} (turns.Silent p t o n e r) = asked H s r
+turned {s} {H = H} (turns.Refused p q t o n e r) = asked H s r
+turned {s} {H = H} (turns.Sent p outcome frames q d t o r) = answered s r where
   answered : (s : Socket) {s' : Socket} → s' ≡ kinds.socket_after_told (is_ok outcome) (socket_after_asking H s) → Turned s s'
   answered (Raw w) e = record {
     told = true;
@@ -345,9 +351,9 @@ served_moves H new i s s' there t e = by s there t where
 
 serves : (u : Unspoken) → (i : ℕ) {turn : Turn} {H new : Host} {told : List Event} {notes : List Note} →
     Serves i turn H told notes new → SendsPart u H told notes new
-serves u i (egress.Free s t o m e) = same_sent u (ap sent_frames o) e
-serves u i (egress.Waits s known h k p t o m e) = same_sent u (ap sent_frames o) e
-serves u i {turn} {H} {new} {told} {notes} (egress.Served s s' known mid there k p t e) =
+serves u i (turns.Free s t o m e) = same_sent u (ap sent_frames o) e
+serves u i (turns.Waits s known h k p t o m e) = same_sent u (ap sent_frames o) e
+serves u i {turn} {H} {new} {told} {notes} (turns.Served s s' known mid there k p t e) =
     let at_mid : mid.sockets ≡ H.sockets = turn_sockets t in
     let set : (j : ℕ) → speaker_at new.sockets j ≡ kind_of speaker (slice_set H.sockets.places i (Some s')) j =
     λ j. ap (λ (K : Host). speaker_at K.sockets j) e ∙ ap (λ (x : SocketSet). kind_of speaker (slice_set x.places i (Some s')) j) at_mid in
@@ -368,31 +374,31 @@ serves u i {turn} {H} {new} {told} {notes} (egress.Served s s' known mid there k
     } where
       turn_idle : {s s' : Socket} {turn : Turn} {H new : Host} {told : List Event} {notes : List Note} →
           SocketTurn s turn s' H told notes new → Idle H new
-      turn_idle (egress.Silent p t o u e r) = rw e (record { base_is = refl; sockets_are = refl })
-      turn_idle (egress.Refused p q t o u e r) = rw e (record { base_is = refl; sockets_are = refl })
-      turn_idle (egress.Sent p outcome frames q d t o r) = dispatch_idle d
+      turn_idle (turns.Silent p t o u e r) = rw e (record { base_is = refl; sockets_are = refl })
+      turn_idle (turns.Refused p q t o u e r) = rw e (record { base_is = refl; sockets_are = refl })
+      turn_idle (turns.Sent p outcome frames q d t o r) = dispatch_idle d
 
 pub begins : (u : Unspoken) (H : Host) → SendsPart u H [] [] H
 begins u H = same_sent u refl refl
 
 walked : (u : Unspoken) → {old new : Host} {k : ℕ} {granted changed : Bool} {told : List Event} {notes : List Note} →
     Walks old k granted changed told notes new → SendsPart u old told notes new
-walked u {old} egress.Begins = begins u old
-walked u {old} {new} (egress.Goes {n = k} {told_so = told_so} {notes_so = so} {mid = mid} turn told notes _ w s t) =
+walked u {old} turns.Begins = begins u old
+walked u {old} {new} (turns.Goes {n = k} {told_so = told_so} {notes_so = so} {mid = mid} turn told notes _ w s t) =
     sending_on u old mid new told_so told so notes (walked u w) (serves u k s)
-walked u {old} {new} (egress.Stops {n = k} {told_so = told_so} {notes_so = so} {mid = mid} turn told notes _ w s t) =
+walked u {old} {new} (turns.Stops {n = k} {told_so = told_so} {notes_so = so} {mid = mid} turn told notes _ w s t) =
     sending_on u old mid new told_so told so notes (walked u w) (serves u k s)
 
 sockets_send : (u : Unspoken) → {old new : Host} {changed : Bool} {told : List Event} {notes : List Note} →
     SocketEgress old changed told notes new → SendsPart u old told notes new
-sockets_send u (egress.Whole w) = walked u w
-sockets_send u (egress.Stopped k w) = walked u w
+sockets_send u (turns.Whole w) = walked u w
+sockets_send u (turns.Stopped k w) = walked u w
 
 -- the parts of a round but sockets
 pieces_send : (u : Unspoken) {H new : Host} {told : List Event} {notes : List Note} → Ipv4Egress H told notes new → SendsPart u H told notes new
-pieces_send u (egress.NoPiece l t m e) = same_sent u (ap sent_frames t) e
-pieces_send u (egress.NotGranted piece rest l t m e) = same_sent u (ap sent_frames t) e
-pieces_send u {H} {new} {told} {notes} (egress.PieceGoes piece rest l t m e) = rw (t, e) (record {
+pieces_send u (fragments.NoPiece l t m e) = same_sent u (ap sent_frames t) e
+pieces_send u (fragments.NotGranted piece rest l t m e) = same_sent u (ap sent_frames t) e
+pieces_send u {H} {new} {told} {notes} (fragments.PieceGoes piece rest l t m e) = rw (t, e) (record {
   moves = moves_none (λ j. refl);
   hardware = refl;
   receivers_are = λ j. refl;
@@ -440,19 +446,19 @@ module _ (u : Unspoken) {packet_for : List IpCidr → IpAddress → Option Packe
 
 igmp_sends : (u : Unspoken) → {H new : Host} {told : List Event} {notes : List Note} →
     IgmpEgress H told notes new → SendsPart u H told notes new
-igmp_sends u (reports.NotDue h t m e) = same_sent u (ap sent_frames t) e
-igmp_sends u {H} (reports.NoFurtherGroup h g t m e) = then_stays u (same_sent u (ap sent_frames t) refl) e (stay refl refl refl refl refl)
-igmp_sends u (reports.NoAddress next h g a t m e) = same_sent u (ap sent_frames t) e
-igmp_sends u (reports.NotGranted p h r t m e) = same_sent u (ap sent_frames t) e
-igmp_sends u {H} {new} {told} {notes} (reports.Sent p outcome frames mid h r d t e) =
+igmp_sends u (igmp.NotDue h t m e) = same_sent u (ap sent_frames t) e
+igmp_sends u {H} (igmp.NoFurtherGroup h g t m e) = then_stays u (same_sent u (ap sent_frames t) refl) e (stay refl refl refl refl refl)
+igmp_sends u (igmp.NoAddress next h g a t m e) = same_sent u (ap sent_frames t) e
+igmp_sends u (igmp.NotGranted p h r t m e) = same_sent u (ap sent_frames t) e
+igmp_sends u {H} {new} {told} {notes} (igmp.Sent p outcome frames mid h r d t e) =
     then_stays u (own_sending u told (ap sent_frames t ∙ over_sends true H.moment frames)
     (report_is H p r) (report_no_segment H p r) d) e (stay refl refl refl refl refl)
 
 mld_sends : (u : Unspoken) → {H new : Host} {told : List Event} {notes : List Note} →
     MldEgress H told notes new → SendsPart u H told notes new
-mld_sends u (reports.NotYet h t m e) = same_sent u (ap sent_frames t) e
-mld_sends u {H} (reports.GivenUp h t m e) = then_stays u (same_sent u (ap sent_frames t) refl) e (stay refl refl refl refl refl)
-mld_sends u {H} {new} {told} {notes} (reports.ReportGoes outcome frames mid h d t e) =
+mld_sends u (mld.NotYet h t m e) = same_sent u (ap sent_frames t) e
+mld_sends u {H} (mld.GivenUp h t m e) = then_stays u (same_sent u (ap sent_frames t) refl) e (stay refl refl refl refl refl)
+mld_sends u {H} {new} {told} {notes} (mld.ReportGoes outcome frames mid h d t e) =
     then_stays u (own_sending u told (ap sent_frames t ∙ over_sends true H.moment frames) refl refl d) e (stay refl refl refl refl refl)
 
 round : (u : Unspoken) → {changed : Bool} {old new : Host} {told : List Event} {notes : List Note} →

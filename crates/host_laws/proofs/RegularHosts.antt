@@ -8,21 +8,21 @@ use Rattle.fragmentation.specs.Cuts.{Piece}
 use Rattle.host_machine.specs.declared.command.Command.{Command}
 use Rattle.host_machine.specs.declared.command.Answer.{Answer}
 use Rattle.host_machine.specs.declared.results.PollIngressSingleResult.{PollIngressSingleResult}
-use Rattle.host_machine.specs.State.Note.{Note, OfCuts, PieceSent, cut_notes}
-use Rattle.host_machine.specs.State.Host.{Host, without_expired, with_left}
-use Rattle.host_machine.specs.Sending.Frame.{piece_frame, sends}
-use Rattle.host_machine.specs.Polling.Ingress.{Ingress}
-use Rattle.host_machine.specs.Sending.Parts.{Part}
+use Rattle.host_machine.specs.Context.Note.{Note, OfCuts, PieceSent, cut_notes}
+use Rattle.host_machine.specs.Context.Host.{Host, without_expired, with_left}
+use Rattle.host_machine.specs.Packet.Frame.{piece_frame, sends}
+use Rattle.host_machine.specs.Interface.Ingress.{Ingress}
+use Rattle.host_machine.specs.Interface.Parts.{Part}
 use Rattle.host_machine.specs.Laws.Real.{IsReal, IsPart, IsRegular}
-use Rattle.host_machine.specs.Receiving.Reply.{Reply, Arp, Ip}
-use Rattle.host_machine.specs.Receiving.Response.{Responds}
-use Rattle.host_machine.specs.Polling.Run.{Transition, Run, Ends, Then}
-use Rattle.host_machine.specs.Polling.Step.{Act, Step}
-use Rattle.host_machine.specs.Polling.Step as step
+use Rattle.host_machine.specs.Receive.Reply.{Reply, Arp, Ip}
+use Rattle.host_machine.specs.Receive.Response.{Responds}
+use Rattle.host_machine.specs.Interface.Run.{Transition, Run, Ends, Then}
+use Rattle.host_machine.specs.Interface.Step.{Act, Step}
+use Rattle.host_machine.specs.Interface.Step as step
 use Rattle.host_machine.specs.Laws.TwoHosts.{cuts}
 use Rattle.host_machine.proofs.Runs.SentPieces.{takes_real}
-use Rattle.host_machine.proofs.State.MediumAddresses.{none_of}
-use Rattle.host_machine.proofs.Sending.Turns.{stepped}
+use Rattle.host_machine.proofs.Context.MediumAddresses.{none_of}
+use Rattle.host_machine.proofs.Interface.Turns.{stepped}
 use Rattle.host_laws.specs.Departures.{Departure, HasDeparted}
 use Rattle.host_laws.specs.Datagrams.{host_at_command}
 use Rattle.host_laws.specs.EndToEnd.{LeaveQueues}

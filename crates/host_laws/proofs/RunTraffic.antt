@@ -2,9 +2,9 @@
 use Rattle.std.proofs.Common.{◌≡◌, ℕ, List, [], ◌∷◌, ◌++◌, refl, sym, ◌∙◌, ap, subst, option_map}
 use Rattle.std.proofs.lemmas.List.{append_assoc}
 use Rattle.transport_sockets.specs.Udp.{UdpSocket, socket_after_delivery, without_first_to_send}
-use Rattle.host_machine.specs.State.Host.{Host}
+use Rattle.host_machine.specs.Context.Host.{Host}
 use Rattle.host_machine.specs.Laws.Order.{IsBeginning}
-use Rattle.host_machine.specs.Polling.Run.{Transition, Run, Ends, Then, acts_in}
+use Rattle.host_machine.specs.Interface.Run.{Transition, Run, Ends, Then, acts_in}
 use Rattle.host_laws.specs.Deliveries.{Delivery, to_index, udp_at, with_deliveries}
 use Rattle.host_laws.specs.Departures.{Departure, entries, from_index, without}
 use Rattle.host_laws.specs.Datagrams.{KeepsQueues, OneTransition, RunsKeepDatagrams, RunsKeepQueues, Still, socket_after_run}

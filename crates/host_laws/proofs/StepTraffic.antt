@@ -10,20 +10,20 @@ use Rattle.host_machine.specs.declared.command.Command.{Command}
 use Rattle.host_machine.specs.declared.command.Answer.{Answer}
 use Rattle.host_machine.specs.declared.results.PollIngressSingleResult.{PollIngressSingleResult}
 use Rattle.host_machine.specs.declared.results.PollResult.{PollResult}
-use Rattle.host_machine.specs.State.Note.{Note, slot_notes, cut_notes}
-use Rattle.host_machine.specs.State.Host.{Host, SocketSet, at, without_expired}
-use Rattle.host_machine.specs.Sending.Slaac.{with_slaac_applied}
-use Rattle.host_machine.specs.Polling.Ingress.{Ingress}
-use Rattle.host_machine.specs.Sending.Egress.{Egress}
-use Rattle.host_machine.specs.Sending.Multicast.{JoinsGroup, LeavesGroup, NoGroup, NoPlace, JoinTaken, NoGroupEither, LeaveTaken}
+use Rattle.host_machine.specs.Context.Note.{Note, slot_notes, cut_notes}
+use Rattle.host_machine.specs.Context.Host.{Host, SocketSet, at, without_expired}
+use Rattle.host_machine.specs.Context.Autoconfiguration.{with_slaac_applied}
+use Rattle.host_machine.specs.Interface.Ingress.{Ingress}
+use Rattle.host_machine.specs.Interface.Egress.{Egress}
+use Rattle.host_machine.specs.Multicast.Joins.{JoinsGroup, LeavesGroup, NoGroup, NoPlace, JoinTaken, NoGroupEither, LeaveTaken}
 use Rattle.host_machine.specs.Laws.Order.{IsAmong, IsBeginning}
-use Rattle.host_machine.specs.Sending.Parts.{Part}
-use Rattle.host_machine.specs.Polling.Polling.{Polls, after_maintenance}
-use Rattle.host_machine.specs.Polling.Step.{Act, Step, Accepted, Refused, Taken, NotTaken, WithinDay, OverDay}
-use Rattle.host_machine.specs.Polling.Step as step
+use Rattle.host_machine.specs.Interface.Parts.{Part}
+use Rattle.host_machine.specs.Interface.Polling.{Polls, after_maintenance}
+use Rattle.host_machine.specs.Interface.Step.{Act, Step, Accepted, Refused, Taken, NotTaken, WithinDay, OverDay}
+use Rattle.host_machine.specs.Interface.Step as step
 use Rattle.host_machine.specs.Laws.TwoHosts.{cuts}
-use Rattle.host_machine.proofs.State.NotesBySubject.{slot_notes-append, cut_notes-append}
-use Rattle.host_machine.proofs.Receiving.SlotEffects.{handed_frames-append, egress_hands_none, egress_still}
+use Rattle.host_machine.proofs.Context.NotesBySubject.{slot_notes-append, cut_notes-append}
+use Rattle.host_machine.proofs.Receive.SlotEffects.{handed_frames-append, egress_hands_none, egress_still}
 use Rattle.host_machine.proofs.Runs.Walk.{sent_frames-append}
 use Rattle.host_machine.specs.Laws.Real.{IsRegular}
 use Rattle.host_laws.specs.Deliveries.{Delivery, Deliver, IsAccepted, NoFrame, to_index, udp_at, with_deliveries}
@@ -31,7 +31,7 @@ use Rattle.host_laws.specs.Departures.{Departure, HasDeparted, cuts_of, entries,
 use Rattle.host_laws.specs.Datagrams.{host_at_command, socket_after_run}
 use Rattle.host_laws.proofs.IdleParts.{base}
 use Rattle.host_laws.proofs.IngressDeliveries.{Gains, IsAt, gained_none, gained_on, ingress_gained, ingress_gains}
-use Rattle.host_machine.proofs.Polling.PollCalls.{until}
+use Rattle.host_machine.proofs.Interface.PollCalls.{until}
 use Rattle.host_machine.proofs.Runs.SentPieces.{maintains}
 use Rattle.host_machine.proofs.Runs.TwoHosts.{cuts-append}
 use Rattle.host_laws.specs.Senders.{CarryOnly, NoSocketWritesUdp}

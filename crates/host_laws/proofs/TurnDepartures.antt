@@ -13,12 +13,12 @@ use Rattle.sockets.specs.declared.socket.SocketOf.TheVariants.{Raw, Icmp, Udp, T
 use Rattle.transport_sockets.specs.Udp.{UdpSocket, without_first_to_send}
 use Rattle.transport_sockets.specs.Udp as udp
 use Rattle.host_machine.specs.declared.results.Turn.{Turn}
-use Rattle.host_machine.specs.State.Note.{Note, cut_notes}
-use Rattle.host_machine.specs.State.Host.{Host, Socket}
-use Rattle.host_machine.specs.State.Addresses.{source_for}
+use Rattle.host_machine.specs.Context.Note.{Note, cut_notes}
+use Rattle.host_machine.specs.Context.Host.{Host, Socket}
+use Rattle.host_machine.specs.Context.Addresses.{source_for}
 use Rattle.net_base.specs.Checksum.{ip_mtu_of}
-use Rattle.host_machine.specs.Sending.Packet.{Packet, PacketV4, IsFormed, header_v4, payload_len, total_len, Udp as UdpPayload}
-use Rattle.host_machine.specs.Sending.Packet as packet
+use Rattle.host_machine.specs.Packet.Packet.{Packet, PacketV4, IsFormed, header_v4, payload_len, total_len, Udp as UdpPayload}
+use Rattle.host_machine.specs.Packet.Packet as packet
 use Rattle.std.specs.Prelude.{length, ◌+◌, ◌-◌, ◌/◌}
 use Rattle.std.specs.List.{AllByRecursion}
 use Rattle.std.proofs.Common.{inl, inr, arith}
@@ -31,24 +31,26 @@ use Rattle.ip_wire.specs.declared.udp.UdpRepr.{UdpRepr}
 use Rattle.ip_wire.specs.IpPacket.{src_addr, dst_addr}
 use Rattle.ip_wire.specs.Udp as udp_wire
 use Rattle.fragmentation.specs.Cuts.{Piece, HasForm, pieces_of}
-use Rattle.host_machine.specs.Sending.Frame.{payload_text}
-use Rattle.host_machine.specs.Sending.Dispatch.{piece_size}
-use Rattle.host_machine.proofs.Sending.NotedRequests.{sends_one}
-use Rattle.host_machine.proofs.Receiving.Pieces.{contains_in}
+use Rattle.host_machine.specs.Packet.Frame.{payload_text}
+use Rattle.host_machine.specs.Context.Pieces.{piece_size, datagram_of}
+use Rattle.host_machine.proofs.Discovery.NotedRequests.{sends_one}
+use Rattle.host_machine.proofs.Receive.Pieces.{contains_in}
 use Rattle.host_machine.proofs.Runs.TwoHosts.{size_positive}
-use Rattle.host_machine.proofs.Sending.PendingParts.{pieces_are}
-use Rattle.host_machine.proofs.Sending.Turns.{between_is}
+use Rattle.host_machine.proofs.Context.PendingParts.{pieces_are}
+use Rattle.host_machine.proofs.Interface.Turns.{between_is}
 use Rattle.host_machine.specs.Laws.Real.{IsPart, IsRegular}
 use Rattle.host_laws.specs.Senders.{CarryOnly}
 use Rattle.host_laws.proofs.Accounts.{nothing_carried, unsent_carry}
 use Rattle.host_laws.proofs.FramesWithoutUdp.{piece_none}
-use Rattle.host_machine.specs.Sending.Frame.{ip_frame, piece_frame}
-use Rattle.host_machine.specs.Sending.Dispatch.{datagram_of, may_be_cut}
-use Rattle.host_machine.specs.Sending.Egress.{SocketTurn, Serves, packet_between, packet_from, socket_after_asking, with_socket}
-use Rattle.host_machine.specs.Sending.Egress as egress
+use Rattle.host_machine.specs.Packet.Frame.{ip_frame, piece_frame}
+use Rattle.host_machine.specs.Send.Dispatch.{may_be_cut}
+use Rattle.host_machine.specs.Sockets.Turns.{SocketTurn, Serves, with_socket}
+use Rattle.host_machine.specs.Sockets.Offers.{packet_between, packet_from, socket_after_asking}
+use Rattle.host_machine.specs.Sockets.Offers as offers_rules
+use Rattle.host_machine.specs.Sockets.Turns as turns_rules
 use Rattle.host_machine.specs.Laws.Order.{IsAmong, NoneOfNone, OneOf}
 use Rattle.host_machine.specs.Laws.TwoHosts.{cuts}
-use Rattle.host_machine.proofs.Receiving.Malformed.{sent_frames-sends}
+use Rattle.host_machine.proofs.Receive.Malformed.{sent_frames-sends}
 use Rattle.host_laws.specs.Departures.{Departure, HasDeparted, Departs, Dropped, InOneFrame, InPieces, cuts_of}
 use Rattle.host_laws.specs.Departures.{departs_from, entries, frames_of, from_index, packet_of, without}
 use Rattle.host_laws.specs.Departures as spec
@@ -141,12 +143,12 @@ offers H s o some = by s.tx.packets refl where
 
 -- its packet counts as gone
 sent_udp : (H : Host) (i : ℕ) (s : UdpSocket) (o : udp.Datagram) (p : Packet) (frames : List (List ℕ)) (notes : List Note) →
-    Offers H s o → egress.packet_of (UdpOffer o) ≡ Some p → Goes H p frames notes →
+    Offers H s o → offers_rules.packet_of (UdpOffer o) ≡ Some p → Goes H p frames notes →
     Turned H i s (without_first_to_send s) frames notes
 sent_udp H i s o p frames notes f e g = Loses (by g) refl where
   packet_is : packet_between f.src f.first.0.addr s.hop_limit
       (UdpPayload (record { src_port = s.endpoint.port; dst_port = f.first.0.port }) f.first.1) ≡ Some p
-  packet_is = subst (λ d. egress.packet_of (UdpOffer d) ≡ Some p) f.is e
+  packet_is = subst (λ d. offers_rules.packet_of (UdpOffer d) ≡ Some p) f.is e
 
   -- the first piece of its packet, which was cut since it is longer
   text_len : (q : PacketV4) →
@@ -229,24 +231,24 @@ pub turned : (H : Host) (i : ℕ) (s : UdpSocket) {after : Socket} {turn : Turn}
 turned H i s {after} {turn} {told} {notes} {new} t = by (udp.offered_packet (source_for H.ip_addrs) s) refl t where
   by : (o : Option udp.Datagram) → udp.offered_packet (source_for H.ip_addrs) s ≡ o → SocketTurn (Udp s) turn after H told notes new →
       TurnedUdp H i s after (sent_frames told) notes
-  by None none (egress.Silent p x o n e r) =
+  by None none (turns_rules.Silent p x o n e r) =
       record { socket = without_first_to_send s; is = r ∙ rw none refl; turned = asked_udp H i s (sent_frames told) notes (ap sent_frames o) n none }
-  by None none (egress.Refused p q x o n e r) = let no : packet_from H (Udp s) ≡ None = rw none refl in absurd cc
-  by None none (egress.Sent p outcome frames q d x o r) = let no : packet_from H (Udp s) ≡ None = rw none refl in absurd cc
-  by (Some d) some (egress.Silent p x o n e r) =
+  by None none (turns_rules.Refused p q x o n e r) = let no : packet_from H (Udp s) ≡ None = rw none refl in absurd cc
+  by None none (turns_rules.Sent p outcome frames q d x o r) = let no : packet_from H (Udp s) ≡ None = rw none refl in absurd cc
+  by (Some d) some (turns_rules.Silent p x o n e r) =
       record { socket = s; is = r ∙ rw some refl; turned = Stays refl (λ x. nothing_carried notes (ap sent_frames o) (ap cut_notes n)) }
-  by (Some d) some (egress.Refused p q x o n e r) =
+  by (Some d) some (turns_rules.Refused p q x o n e r) =
       record { socket = s; is = r ∙ rw some refl; turned = Stays refl (λ x. nothing_carried notes (ap sent_frames o) (ap cut_notes n)) }
-  by (Some d) some (egress.Sent p (Ok tt) frames q dispatched x o r) =
-      let packet : egress.packet_of (UdpOffer d) ≡ Some p =
-      subst (λ (a : Option udp.Datagram). option_and_then egress.packet_of (option_map UdpOffer a) ≡ Some p) some q in
+  by (Some d) some (turns_rules.Sent p (Ok tt) frames q dispatched x o r) =
+      let packet : offers_rules.packet_of (UdpOffer d) ≡ Some p =
+      subst (λ (a : Option udp.Datagram). option_and_then offers_rules.packet_of (option_map UdpOffer a) ≡ Some p) some q in
       let frames_are : sent_frames told ≡ frames = ap sent_frames o ∙ sent_frames-sends frames in
       record {
         socket = without_first_to_send s;
         is = r ∙ rw some refl;
         turned = rw frames_are (sent_udp H i s d p frames notes (offers H s d some) packet (ways.gone dispatched));
       }
-  by (Some d) some (egress.Sent p (Err error) frames q dispatched x o r) =
+  by (Some d) some (turns_rules.Sent p (Err error) frames q dispatched x o r) =
       let frames_are : sent_frames told ≡ frames = ap sent_frames o ∙ sent_frames-sends frames in
       record {
         socket = s;
@@ -269,7 +271,7 @@ told_other b (Tcp s) e = refl
 
 pub turned_other : {H new : Host} {s s' : Socket} {turn : Turn} {told : List Event} {notes : List Note} →
     down_udp s ≡ None → SocketTurn s turn s' H told notes new → down_udp s' ≡ None
-turned_other {H} {s = s} e (egress.Silent p t o n x r) = ap down_udp r ∙ other H s e
-turned_other {H} {s = s} e (egress.Refused p q t o n x r) = ap down_udp r ∙ other H s e
-turned_other {H} {s = s} e (egress.Sent p outcome frames q d t o r) = ap down_udp r
+turned_other {H} {s = s} e (turns_rules.Silent p t o n x r) = ap down_udp r ∙ other H s e
+turned_other {H} {s = s} e (turns_rules.Refused p q t o n x r) = ap down_udp r ∙ other H s e
+turned_other {H} {s = s} e (turns_rules.Sent p outcome frames q d t o r) = ap down_udp r
     ∙ told_other (is_ok outcome) (socket_after_asking H s) (other H s e)

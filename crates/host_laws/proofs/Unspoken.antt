@@ -21,11 +21,11 @@ use Rattle.ipv6_wire.specs.Ipv6Packet as ipv6
 use Rattle.ipv6_wire.specs.HopByHop.{hop_by_hop_in}
 use Rattle.fragmentation.specs.Fragments.{Fragment}
 use Rattle.fragmentation.specs.Cuts.{Datagram, Piece, HasForm, pieces_of, piece_of, piece_header, piece_fragment}
-use Rattle.host_machine.specs.State.Host.{Host}
-use Rattle.host_machine.specs.Sending.Packet.{IpPayload, Packet, PacketV4, header_v4, header_v6, payload_of}
-use Rattle.host_machine.specs.Sending.Packet as packet
-use Rattle.host_machine.specs.Sending.Frame.{ip_frame, link_header, piece_frame}
-use Rattle.host_machine.specs.Sending.Dispatch.{datagram_of}
+use Rattle.host_machine.specs.Context.Host.{Host}
+use Rattle.host_machine.specs.Packet.Packet.{IpPayload, Packet, PacketV4, header_v4, header_v6, payload_of}
+use Rattle.host_machine.specs.Packet.Packet as packet
+use Rattle.host_machine.specs.Packet.Frame.{ip_frame, link_header, piece_frame}
+use Rattle.host_machine.specs.Context.Pieces.{datagram_of}
 use Rattle.host_laws.specs.RawPackets.{HasNoSegmentAfterOptions, IsLeftToSockets, IsPartIf}
 use Rattle.host_laws.proofs.FramesWithoutUdp.{CarriesAtMostIcmpv6, number_v6, other_packet_v6, same_packet_v6, version_four}
 use Rattle.host_laws.proofs.RawFrames.{CarriesNo, at_most_none, number_read, packet_none, piece_none, pieces_are}

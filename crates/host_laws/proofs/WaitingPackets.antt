@@ -11,10 +11,10 @@ use Rattle.network_sockets.specs.Raw as raw
 use Rattle.network_sockets.specs.Icmp as icmp_socket
 use Rattle.transport_sockets.specs.Udp as udp
 use Rattle.transport_sockets.specs.Tcp as tcp
-use Rattle.host_machine.specs.State.Host.{Host, Socket}
-use Rattle.host_machine.specs.State.Addresses.{source_for}
-use Rattle.host_machine.specs.Sending.Packet.{Packet}
-use Rattle.host_machine.specs.Sending.Egress.{socket_after_asking, packet_from, packet_of}
+use Rattle.host_machine.specs.Context.Host.{Host, Socket}
+use Rattle.host_machine.specs.Context.Addresses.{source_for}
+use Rattle.host_machine.specs.Packet.Packet.{Packet}
+use Rattle.host_machine.specs.Sockets.Offers.{socket_after_asking, packet_from, packet_of}
 use Rattle.host_machine.specs.Laws.Service.{waiting_in}
 
 -- the same number, or one less

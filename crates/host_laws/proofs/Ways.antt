@@ -9,16 +9,19 @@ use Rattle.ip_address.specs.Ip.{is_unspecified}
 use Rattle.ip_address.specs.declared.ethernet_address.EthernetAddress.{EthernetAddress}
 use Rattle.ip_address.specs.Hardware.{IsOf}
 use Rattle.fragmentation.specs.Cuts.{Piece, pieces_of, HasForm}
-use Rattle.host_machine.specs.State.Note.{Note, cut_notes}
-use Rattle.host_machine.specs.State.Host.{Host}
-use Rattle.host_machine.specs.Sending.Packet.{IpPayload, Packet, PacketV4, IsFormed, total_len}
+use Rattle.host_machine.specs.Context.Note.{Note, cut_notes}
+use Rattle.host_machine.specs.Context.Host.{Host, with_next_id}
+use Rattle.host_machine.specs.Packet.Packet.{IpPayload, Packet, PacketV4, IsFormed, total_len}
 use Rattle.host_machine.specs.Laws.Real.{IsReal}
-use Rattle.host_machine.specs.Sending.Packet as packet
-use Rattle.host_machine.specs.Sending.Frame.{ip_frame, piece_frame}
-use Rattle.host_machine.specs.Sending.Dispatch.{Outcome, IsUnsent, Emits, Discovers, DispatchesByHop, DispatchesEthernet}
-use Rattle.host_machine.specs.Sending.Dispatch.{SendsOver, Dispatches, datagram_of, destination_of, with_next_id, may_be_cut}
-use Rattle.host_machine.specs.Sending.Dispatch as dispatch
-use Rattle.host_machine.specs.Sending.Egress.{packet_between}
+use Rattle.host_machine.specs.Packet.Packet as packet
+use Rattle.host_machine.specs.Packet.Frame.{ip_frame, piece_frame}
+use Rattle.host_machine.specs.Send.Outcome.{Outcome, IsUnsent}
+use Rattle.host_machine.specs.Send.Dispatch.{Emits, DispatchesByHop, DispatchesEthernet, SendsOver, Dispatches, destination_of, may_be_cut}
+use Rattle.host_machine.specs.Send.Requests.{Discovers}
+use Rattle.host_machine.specs.Context.Pieces.{datagram_of}
+use Rattle.host_machine.specs.Send.Dispatch as dispatch
+use Rattle.host_machine.specs.Send.Requests as requests
+use Rattle.host_machine.specs.Sockets.Offers.{packet_between}
 use Rattle.host_machine.specs.Laws.TwoHosts.{cuts}
 use Rattle.host_machine.proofs.Runs.Walk.{Reached, ByNeighbor, ByGroup, WithoutAddresses}
 use Rattle.host_machine.proofs.Runs.SentPieces.{reached_of}
@@ -46,9 +49,9 @@ emitted r (dispatch.TooLong long longer o u) = Longer long longer u.silent (cuts
 
 -- what isn't gone doesn't count
 not_discovered : {own : _} {hop : _} {H new : Host} {frames : List (List ℕ)} {notes : List Note} → Discovers own hop (Ok tt) H frames notes new → ⊥
-not_discovered (dispatch.Asked target source i s o f n e) = absurd cc
-not_discovered (dispatch.NoSource target i s o u) = absurd cc
-not_discovered (dispatch.Solicited target i o f n e) = absurd cc
+not_discovered (requests.Asked target source i s o f n e) = absurd cc
+not_discovered (requests.NoSource target i s o u) = absurd cc
+not_discovered (requests.Solicited target i o f n e) = absurd cc
 
 by_hop : {id : ℕ} {own : _} {p : Packet} {hop : _} {H new : Host} {frames : List (List ℕ)} {notes : List Note} →
     DispatchesByHop id own p hop (Ok tt) H frames notes new → Goes H p frames notes

@@ -5,12 +5,12 @@ use Rattle.std.specs.List.{AllByRecursion}
 use Rattle.net_base.specs.Device.{handed_frames, sent_frames}
 use Rattle.host_machine.specs.declared.command.Command.{Command}
 use Rattle.host_machine.specs.declared.command.Command.TheVariants.{PollIngressSingle, PollEgress, Poll}
-use Rattle.host_machine.specs.State.Note.{slot_notes, cut_notes}
-use Rattle.host_machine.specs.State.Host.{Host, at, without_expired}
-use Rattle.host_machine.specs.Polling.Polling.{after_maintenance}
+use Rattle.host_machine.specs.Context.Note.{slot_notes, cut_notes}
+use Rattle.host_machine.specs.Context.Host.{Host, at, without_expired}
+use Rattle.host_machine.specs.Interface.Polling.{after_maintenance}
 use Rattle.host_machine.specs.Laws.Real.{IsRegular}
 use Rattle.host_machine.specs.Laws.Order.{IsAmong, IsBeginning}
-use Rattle.host_machine.specs.Polling.Run.{Transition, Run, acts_in}
+use Rattle.host_machine.specs.Interface.Run.{Transition, Run, acts_in}
 use Rattle.host_machine.specs.Laws.TwoHosts.{cuts}
 use Rattle.transport_sockets.specs.Udp.{UdpSocket}
 use Rattle.host_laws.specs.Deliveries.{Delivery, Deliver, IsAccepted, to_index, udp_at, with_deliveries}

@@ -24,11 +24,11 @@ use Rattle.sockets.specs.Kinds.{down_udp}
 use Rattle.transport_sockets.specs.Udp.{UdpSocket, accepts, socket_after_delivery}
 use Rattle.fragmentation.specs.Reassembly.{SlotNote, Rebuild}
 use Rattle.socket_set.specs.SocketSet.{socket_at}
-use Rattle.host_machine.specs.State.Host.{Host, SocketSet}
-use Rattle.host_machine.specs.State.Addresses.{is_broadcast, is_for_host, may_be_source}
-use Rattle.host_machine.specs.Receiving.Ethernet.{is_for, version_in}
+use Rattle.host_machine.specs.Context.Host.{Host, SocketSet}
+use Rattle.host_machine.specs.Context.Addresses.{is_broadcast, is_for_host, may_be_source}
+use Rattle.host_machine.specs.Receive.Ethernet.{is_for, version_in}
 use Rattle.host_machine.specs.Laws.Frames.{Carries}
-use Rattle.host_machine.specs.Receiving.Ipv4.{key_in, datagram_header}
+use Rattle.host_machine.specs.Receive.Ipv4.{key_in, datagram_header}
 
 -- a datagram that was delivered to a socket: the socket's index, both endpoints, and the payload
 pub record Delivery : Type 0 where

@@ -8,13 +8,14 @@ use Rattle.socket_base.specs.declared.endpoint.IpEndpoint.{IpEndpoint}
 use Rattle.socket_base.specs.Source.{source_of}
 use Rattle.transport_sockets.specs.Udp.{UdpSocket, without_first_to_send}
 use Rattle.fragmentation.specs.Cuts.{Datagram, Piece, pieces_of}
-use Rattle.host_machine.specs.State.Host.{Host}
-use Rattle.host_machine.specs.State.Addresses.{source_for}
-use Rattle.host_machine.specs.Sending.Packet.{Packet, PacketV4, IsFormed, Udp, total_len}
-use Rattle.host_machine.specs.Sending.Packet as packet
-use Rattle.host_machine.specs.Sending.Frame.{ip_frame, piece_frame}
-use Rattle.host_machine.specs.Sending.Dispatch.{datagram_of, may_be_cut}
-use Rattle.host_machine.specs.Sending.Egress.{packet_between}
+use Rattle.host_machine.specs.Context.Host.{Host}
+use Rattle.host_machine.specs.Context.Addresses.{source_for}
+use Rattle.host_machine.specs.Packet.Packet.{Packet, PacketV4, IsFormed, Udp, total_len}
+use Rattle.host_machine.specs.Packet.Packet as packet
+use Rattle.host_machine.specs.Packet.Frame.{ip_frame, piece_frame}
+use Rattle.host_machine.specs.Context.Pieces.{datagram_of}
+use Rattle.host_machine.specs.Send.Dispatch.{may_be_cut}
+use Rattle.host_machine.specs.Sockets.Offers.{packet_between}
 use Rattle.host_laws.specs.Deliveries.{udp_at}
 
 -- how a datagram left: it was dropped; it was sent to a hardware address in a frame; or it was fragmented, and its

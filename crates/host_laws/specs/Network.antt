@@ -6,9 +6,9 @@ use Rattle.net_base.specs.Device.{handed_frames, sent_frames}
 use Rattle.net_base.specs.declared.phy.Medium.{Medium}
 use Rattle.ip_address.specs.declared.ip.IpAddress.{IpAddress}
 use Rattle.fragmentation.specs.Reassembly.{SlotNote}
-use Rattle.host_machine.specs.State.Host.{Host}
+use Rattle.host_machine.specs.Context.Host.{Host}
 use Rattle.host_machine.specs.Laws.Real.{IsReal, IsRegular}
-use Rattle.host_machine.specs.Polling.Run.{Transition, Run, events_in}
+use Rattle.host_machine.specs.Interface.Run.{Transition, Run, events_in}
 use Rattle.host_laws.specs.Deliveries.{Delivery, Deliver, NoFrame, OneGets, NoSocketGets}
 use Rattle.host_laws.specs.Deliveries.{BringsUdp, AtOnce, InFragments}
 use Rattle.host_laws.specs.Departures.{Departure}

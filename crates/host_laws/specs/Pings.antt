@@ -15,13 +15,13 @@ use Rattle.network_sockets.specs.Icmp.{IcmpSocket}
 use Rattle.network_sockets.specs.declared.icmp.Endpoint.TheVariants.{Ident}
 use Rattle.sockets.specs.declared.socket.SocketOf.TheVariants.{Icmp}
 use Rattle.host_machine.specs.declared.results.PollResult.{PollResult}
-use Rattle.host_machine.specs.State.Note.{Note}
-use Rattle.host_machine.specs.State.Host.{Host, at, is_assigned}
-use Rattle.host_machine.specs.State.Addresses.{is_unicast_v4}
-use Rattle.host_machine.specs.Sending.Packet.{PacketV4, Icmpv4}
-use Rattle.host_machine.specs.Sending.Packet as packet
-use Rattle.host_machine.specs.Sending.Frame.{ip_frame}
-use Rattle.host_machine.specs.Sending.Egress.{Egress}
+use Rattle.host_machine.specs.Context.Note.{Note}
+use Rattle.host_machine.specs.Context.Host.{Host, at, is_assigned}
+use Rattle.host_machine.specs.Context.Addresses.{is_unicast_v4}
+use Rattle.host_machine.specs.Packet.Packet.{PacketV4, Icmpv4}
+use Rattle.host_machine.specs.Packet.Packet as packet
+use Rattle.host_machine.specs.Packet.Frame.{ip_frame}
+use Rattle.host_machine.specs.Interface.Egress.{Egress}
 use Rattle.host_machine.specs.Laws.Service.{HasFirstEcho, IsOfLink, IsReached, MayBeAsked, Takes, all_granted}
 
 -- a packet with a message of ICMP

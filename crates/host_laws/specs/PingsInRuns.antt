@@ -11,8 +11,8 @@ use Rattle.network_sockets.specs.Icmp.{IcmpSocket}
 use Rattle.network_sockets.specs.declared.icmp.Endpoint.TheVariants.{Ident}
 use Rattle.sockets.specs.declared.socket.SocketOf.TheVariants.{Icmp}
 use Rattle.host_machine.specs.declared.command.Command.TheVariants.{PollEgress, PollIngressSingle}
-use Rattle.host_machine.specs.State.Host.{Host, at}
-use Rattle.host_machine.specs.Polling.Run.{Transition}
+use Rattle.host_machine.specs.Context.Host.{Host, at}
+use Rattle.host_machine.specs.Interface.Run.{Transition}
 use Rattle.host_machine.specs.Laws.Service.{HasFirstEcho, MayBeAsked, all_granted}
 use Rattle.host_machine.specs.Laws.Ran.{Laws}
 use Rattle.host_laws.specs.Pings.{ComesBack, Knows, message_frame, message_packet}

@@ -11,12 +11,12 @@ use Rattle.group_table.specs.declared.report.IgmpReportState.TheVariants as igmp
 use Rattle.group_table.specs.Groups.{ipv4_groups}
 use Rattle.host_machine.specs.declared.command.Command.TheVariants.{Poll}
 use Rattle.host_machine.specs.declared.results.PollResult.{PollResult}
-use Rattle.host_machine.specs.State.Note.{Note}
-use Rattle.host_machine.specs.State.Host.{Host, Storage, at}
-use Rattle.host_machine.specs.Sending.Egress.{Egress}
-use Rattle.host_machine.specs.Polling.Due.{Due}
-use Rattle.host_machine.specs.Polling.Polling.{Polls}
-use Rattle.host_machine.specs.Polling.Run.{Transition, Run}
+use Rattle.host_machine.specs.Context.Note.{Note}
+use Rattle.host_machine.specs.Context.Host.{Host, Storage, at}
+use Rattle.host_machine.specs.Interface.Egress.{Egress}
+use Rattle.host_machine.specs.Interface.Due.{Due}
+use Rattle.host_machine.specs.Interface.Polling.{Polls}
+use Rattle.host_machine.specs.Interface.Run.{Transition, Run}
 use Rattle.host_machine.specs.Laws.Service.{all_granted, waiting_in}
 
 -- the number of packets that the entry of a socket set has to send

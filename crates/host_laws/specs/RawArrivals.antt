@@ -16,9 +16,9 @@ use Rattle.network_sockets.specs.Raw.{RawSocket, accepts, socket_after_delivery}
 use Rattle.sockets.specs.Kinds.{down_raw}
 use Rattle.socket_set.specs.SocketSet.{socket_at}
 use Rattle.fragmentation.specs.Reassembly.{SlotNote, Rebuild}
-use Rattle.host_machine.specs.State.Host.{Host, SocketSet}
-use Rattle.host_machine.specs.State.Addresses.{is_for_host, may_be_source}
-use Rattle.host_machine.specs.Receiving.Ipv4.{key_in, datagram_header}
+use Rattle.host_machine.specs.Context.Host.{Host, SocketSet}
+use Rattle.host_machine.specs.Context.Addresses.{is_for_host, may_be_source}
+use Rattle.host_machine.specs.Receive.Ipv4.{key_in, datagram_header}
 use Rattle.host_machine.specs.Laws.Frames.{Carries}
 use Rattle.host_laws.specs.Deliveries.{CarriesIpv6}
 

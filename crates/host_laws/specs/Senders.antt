@@ -9,8 +9,8 @@ use Rattle.ip_address.specs.Protocol.{number_of}
 use Rattle.ip_wire.specs.declared.ip_packet.IpRepr.{IpRepr}
 use Rattle.sockets.specs.Kinds.{down_raw}
 use Rattle.fragmentation.specs.Cuts.{Datagram}
-use Rattle.host_machine.specs.State.Host.{Host, Storage}
-use Rattle.host_machine.specs.Receiving.Delivery.{holds}
+use Rattle.host_machine.specs.Context.Host.{Host, Storage}
+use Rattle.host_machine.specs.Sockets.Delivery.{holds}
 use Rattle.host_laws.specs.Deliveries.{BringsPacket}
 use Rattle.host_laws.specs.Departures.{Way, InOneFrame, Departure, cuts_of}
 

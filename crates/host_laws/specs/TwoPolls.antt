@@ -5,10 +5,10 @@ use Rattle.socket_base.specs.declared.endpoint.IpEndpoint.{IpEndpoint}
 use Rattle.transport_sockets.specs.Udp.{UdpSocket}
 use Rattle.sockets.specs.declared.socket.SocketOf.TheVariants.{Udp}
 use Rattle.host_machine.specs.declared.results.PollResult.TheVariants as poll
-use Rattle.host_machine.specs.State.Note.{OfIdentification, Identify}
-use Rattle.host_machine.specs.State.Host.{Host}
-use Rattle.host_machine.specs.Polling.Due.{Due, IsLeast}
-use Rattle.host_machine.specs.Polling.Polling.{Polls}
+use Rattle.host_machine.specs.Context.Note.{OfIdentification, Identify}
+use Rattle.host_machine.specs.Context.Host.{Host}
+use Rattle.host_machine.specs.Interface.Due.{Due, IsLeast}
+use Rattle.host_machine.specs.Interface.Polling.{Polls}
 use Rattle.host_machine.specs.Examples.ArpAndEcho as example
 use Rattle.host_machine.specs.Examples.Sockets.{listening_socket}
 use Rattle.host_laws.specs.Progress.{work}

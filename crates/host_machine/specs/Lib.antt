@@ -1,6 +1,11 @@
-pub mod State
-pub mod Receiving
-pub mod Sending
-pub mod Polling
+pub mod Context
+pub mod Packet
+pub mod Send
+pub mod Multicast
+pub mod Discovery
+pub mod Icmp
+pub mod Sockets
+pub mod Receive
+pub mod Interface
 pub mod Laws
 pub mod Examples

@@ -1,8 +1,8 @@
 //! What the list of an interface's addresses says of another address.
 ghost use Rattle.std.specs.Prelude.{◌≡◌};
 ghost use Rattle.std.specs.List.{list_any};
-ghost use Rattle.host_machine.specs.State.Host.{is_assigned};
-ghost use Rattle.host_machine.specs.State.Addresses as addresses;
+ghost use Rattle.host_machine.specs.Context.Host.{is_assigned};
+ghost use Rattle.host_machine.specs.Context.Addresses as addresses;
 
 use ip_wire::{IpAddress, IpCidr, Ipv4Address, Ipv6Address};
 

@@ -6,10 +6,10 @@ use Rattle.ip_address.specs.declared.hardware.HardwareAddress.TheVariants as har
 use Rattle.ip_address.specs.declared.ip.IpAddress.TheVariants.{Ipv4}
 use Rattle.ip_wire.specs.Arp.{IsArp, arp_in}
 use Rattle.iface_tables.specs.Neighbor.{Neighbors, Fills, expiry_from}
-use Rattle.host_machine.specs.State.Host.{Host, with_neighbors}
-use Rattle.host_machine.specs.Receiving.Reply.{Reply}
-use Rattle.host_machine.specs.Receiving.Arp.{ProcessesArp, Learnt, NotForUs, is_for_us, answer_by}
-use Rattle.iface_send.proofs.Processing.{dropped}
+use Rattle.host_machine.specs.Context.Host.{Host, with_neighbors}
+use Rattle.host_machine.specs.Receive.Reply.{Reply}
+use Rattle.host_machine.specs.Discovery.Arp.{ProcessesArp, Learnt, NotForUs, is_for_us, answer_by}
+use Rattle.iface_context.proofs.Processing.{dropped}
 
 -- a packet is learnt from, and answered if it asks
 pub arp_learnt : (own : EthernetAddress) (H K : Host) (payload : List ℕ) (r : ArpRepr) (neighbors : Neighbors) (reply : Option Reply) →

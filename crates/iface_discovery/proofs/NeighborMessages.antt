@@ -7,11 +7,11 @@ use Rattle.ip_address.specs.declared.ipv6.Ipv6Address.{Ipv6Address}
 use Rattle.ipv6_wire.specs.declared.ipv6_packet.Ipv6Repr.{Ipv6Repr}
 use Rattle.icmpv6_wire.specs.declared.ndisc.NdiscRepr.{NdiscRepr}
 use Rattle.icmpv6_wire.specs.declared.ndisc.NdiscRepr.TheVariants.{NeighborSolicit}
-use Rattle.host_machine.specs.State.Note.{Note}
-use Rattle.host_machine.specs.State.Host.{Host}
-use Rattle.host_machine.specs.Receiving.Reply.{Reply, Ip}
-use Rattle.host_machine.specs.Receiving.Ndisc.{ProcessesNdisc, ProcessesNdiscMessage, FromNeighbor, Learns}
-use Rattle.host_machine.specs.Receiving.Ndisc.{Solicited, advertisement_of, is_target, has_no_unicast, usable_lladdr}
+use Rattle.host_machine.specs.Context.Note.{Note}
+use Rattle.host_machine.specs.Context.Host.{Host}
+use Rattle.host_machine.specs.Receive.Reply.{Reply, Ip}
+use Rattle.host_machine.specs.Discovery.Ndisc.{ProcessesNdisc, ProcessesNdiscMessage, FromNeighbor, Learns}
+use Rattle.host_machine.specs.Discovery.Ndisc.{Solicited, advertisement_of, is_target, has_no_unicast, usable_lladdr}
 
 -- it counts on a link with hardware addresses, if no router passed it on
 pub from_neighbor : (own : EthernetAddress) (r : Ipv6Repr) (message m : NdiscRepr) (H K : Host) (reply : Option Reply) (notes : List Note) →

@@ -3,14 +3,14 @@ use Rattle.std.proofs.Common.{◌≡◌, Bool, true, false, List, [], refl, ap, 
 use Rattle.net_base.specs.Device.{Event}
 use Rattle.fragmentation.specs.Slots.{Slots}
 use Rattle.slaac.specs.Slaac.{rs_sent}
-use Rattle.host_machine.specs.State.Host.{SocketSet, no_sockets, with_slots}
-use Rattle.host_machine.specs.Sending.Packet as value
-use Rattle.host_machine.specs.Sending.Slaac as slaac
-use Rattle.host_machine.specs.Sending.Slaac.{NdiscRsEgress, due_solicitation, with_slaac}
-use Rattle.iface_send.specs.declared.context.Context.{Context}
-use Rattle.iface_send.specs.Stands.{host_in, host_of}
+use Rattle.host_machine.specs.Context.Host.{SocketSet, no_sockets, with_slots, with_slaac}
+use Rattle.host_machine.specs.Packet.Packet as value
+use Rattle.host_machine.specs.Discovery.RouterSolicitation as slaac
+use Rattle.host_machine.specs.Discovery.RouterSolicitation.{NdiscRsEgress, due_solicitation}
+use Rattle.iface_context.specs.declared.context.Context.{Context}
+use Rattle.iface_context.specs.Stands.{host_in, host_of}
 use Rattle.iface_send.specs.Offered.{HasPart, IsOffered, NoPacket, NotGranted, Goes}
-use Rattle.iface_send.specs.Refines.{RefinesTelling}
+use Rattle.iface_context.specs.Refines.{RefinesTelling}
 use Rattle.iface_send.proofs.Offered.{none_is_some, true_is_false}
 
 module _ {D : Type 0} {tells : D → List Event → D → Type 0} where

@@ -2,15 +2,15 @@
 ghost use Rattle.std.specs.Prelude.{◌≡◌, [], true};
 ghost use Rattle.ip_address.specs.EthernetAddress as ethernet;
 ghost use Rattle.ip_address.specs.Ipv4 as ipv4;
-ghost use Rattle.host_machine.specs.State.Host.{SocketSet, no_sockets};
-ghost use Rattle.host_machine.specs.Receiving.Arp.{ProcessesArp, answer_by, is_for_us, reply_to};
-ghost use Rattle.host_machine.specs.Receiving.Response.{Responds};
-ghost use Rattle.iface_send.specs.Refines.{RefinesBuilding, RefinesReplying};
-ghost use Rattle.iface_send.specs.Stands.{host_of};
+ghost use Rattle.host_machine.specs.Context.Host.{SocketSet, no_sockets};
+ghost use Rattle.host_machine.specs.Discovery.Arp.{ProcessesArp, answer_by, is_for_us, reply_to};
+ghost use Rattle.host_machine.specs.Receive.Response.{Responds};
+ghost use Rattle.iface_context.specs.Refines.{RefinesBuilding, RefinesReplying};
+ghost use Rattle.iface_context.specs.Stands.{host_of};
 
+use iface_context::Context;
+use iface_context::neighbors::fill_neighbor;
 use iface_packet::packet::emit_arp;
-use iface_send::Context;
-use iface_send::neighbors::fill_neighbor;
 use ip_wire::emit::FrameBuffer;
 use ip_wire::{ArpOperation, ArpRepr, EthernetAddress, HardwareAddress, IpAddress};
 

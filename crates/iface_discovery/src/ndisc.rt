@@ -6,20 +6,20 @@ ghost use Rattle.ip_address.specs.Ipv6 as ipv6;
 ghost use Rattle.ip_address.specs.Hardware.{medium_of};
 ghost use Rattle.icmpv6_wire.specs.declared.ndisc.NdiscRepr.TheVariants.{NeighborSolicit};
 ghost use Rattle.fragmentation.specs.Slots.{Slots};
-ghost use Rattle.host_machine.specs.State.Host.{SocketSet, no_sockets};
-ghost use Rattle.host_machine.specs.Receiving.Ndisc as spec;
-ghost use Rattle.host_machine.specs.Sending.Packet as value;
+ghost use Rattle.host_machine.specs.Context.Host.{SocketSet, no_sockets};
+ghost use Rattle.host_machine.specs.Discovery.Ndisc as spec;
+ghost use Rattle.host_machine.specs.Packet.Packet as value;
 ghost use Rattle.iface_packet.specs.PacketValues as value_of;
-ghost use Rattle.iface_send.specs.Stands.{host_in, host_of};
-ghost use Rattle.iface_send.specs.Refines.{RefinesReplying};
+ghost use Rattle.iface_context.specs.Stands.{host_in, host_of};
+ghost use Rattle.iface_context.specs.Refines.{RefinesReplying};
 
 use bitflags::Flags;
 use icmpv6_wire::{NdiscNeighborFlags, NdiscRepr};
+use iface_context::Context;
+use iface_context::neighbors::{fill_neighbor, is_known};
 use iface_packet::PacketV6;
 use iface_packet::payload::NeighborAdvert;
-use iface_send::Context;
 use iface_send::dispatch::dispatch;
-use iface_send::neighbors::{fill_neighbor, is_known};
 use ip_wire::emit::FrameBuffer;
 use ip_wire::{EthernetAddress, HardwareAddress, IpAddress, Ipv6Address, Ipv6Repr};
 

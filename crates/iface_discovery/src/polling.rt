@@ -1,12 +1,12 @@
 //! When router discovery has work.
 ghost use Rattle.std.specs.Prelude.{◌≡◌};
-ghost use Rattle.host_machine.specs.State.Host.{no_sockets};
-ghost use Rattle.host_machine.specs.Polling.Due as due;
-ghost use Rattle.host_machine.specs.Polling.Due.{routers_poll_at};
-ghost use Rattle.iface_send.specs.Stands.{host_of};
+ghost use Rattle.host_machine.specs.Context.Host.{no_sockets};
+ghost use Rattle.host_machine.specs.Discovery.Polling as due;
+ghost use Rattle.host_machine.specs.Discovery.Polling.{routers_poll_at};
+ghost use Rattle.iface_context.specs.Stands.{host_of};
 
 use crate::router_solicitation::rs_poll_at;
-use iface_send::Context;
+use iface_context::Context;
 use net_base::time::Instant;
 use slaac::earlier_of;
 use sockets::SocketContext;

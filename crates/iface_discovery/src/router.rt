@@ -1,15 +1,16 @@
 //! How an interface processes router advertisements: it learns prefixes and routers (RFC 4861 6.3.4, RFC 4862 5.5.3).
 ghost use Rattle.std.specs.Prelude.{◌≡◌, ◌||◌, ◌==◌};
 ghost use Rattle.fragmentation.specs.Slots.{Slots};
-ghost use Rattle.host_machine.specs.State.Config.{is_ethernet};
-ghost use Rattle.host_machine.specs.State.Host.{SocketSet, no_sockets};
-ghost use Rattle.host_machine.specs.Sending.Slaac as spec;
-ghost use Rattle.iface_send.specs.Stands.{host_in, host_of};
+ghost use Rattle.host_machine.specs.Interface.Config.{is_ethernet};
+ghost use Rattle.host_machine.specs.Context.Host.{SocketSet, no_sockets};
+ghost use Rattle.host_machine.specs.Context.Host as host;
+ghost use Rattle.host_machine.specs.Discovery.Router as router_rules;
+ghost use Rattle.iface_context.specs.Stands.{host_in, host_of};
 ghost use Rattle.ip_address.specs.Ipv6.{all_nodes, is_link_local};
 
 use icmpv6_wire::RouterRepr;
-use iface_send::Context;
-use iface_send::autoconfiguration::process_advertisement;
+use iface_context::Context;
+use iface_context::autoconfiguration::process_advertisement;
 use ip_wire::ipv6_packet::Ipv6Repr;
 use ip_wire::{HardwareAddress, Ipv6Address};
 use net_base::time::Duration;
@@ -19,8 +20,8 @@ use net_base::time::Duration;
 /// to all-nodes or to a link-local address (RFC 4861 6.1.2). Solicitations are for routers and are ignored.
 pub fn process_router(context: &mut Context, header: &Ipv6Repr, message: &RouterRepr)
     ensures { (slots : Slots) (sockets : SocketSet) → host_in context.new slots sockets
-        ≡ spec.with_slaac (host_in context.old slots sockets)
-        (spec.after_advertisement message.now (host_in context.old slots sockets) header.now) }
+        ≡ host.with_slaac (host_in context.old slots sockets)
+        (router_rules.after_advertisement message.now (host_in context.old slots sockets) header.now) }
 {
     match message {
         RouterRepr::RouterSolicit { .. } => {}
@@ -39,7 +40,7 @@ pub fn process_router(context: &mut Context, header: &Ipv6Repr, message: &Router
 
 /// Whether an advertisement in a packet with this header is valid.
 fn is_valid_advertisement(context: &Context, header: &Ipv6Repr) -> bool
-    ensures { result ≡ spec.is_valid_advertisement (host_of context.now no_sockets) header.now }
+    ensures { result ≡ router_rules.is_valid_advertisement (host_of context.now no_sockets) header.now }
 {
     context.is_slaac_enabled()
         && is_ethernet(&context.hardware_addr())

@@ -10,13 +10,13 @@ use Rattle.std.specs.Borrow.{Bor}
 use Rattle.std.specs.Box.{with_value}
 use Rattle.socket_set.specs.SocketSet.{Sockets}
 use Rattle.host_machine.specs.declared.results.PollResult.{PollResult}
-use Rattle.host_machine.specs.State.Config.{first_host}
-use Rattle.host_machine.specs.Polling.Due.{Due, IsLeast}
-use Rattle.host_machine.specs.State.Host.{Host as Machine, SocketSet, at}
-use Rattle.host_machine.specs.Polling.Ingress.{answer_to}
-use Rattle.host_machine.specs.Polling.Polling.{Polls, is_changed, may_change}
+use Rattle.host_machine.specs.Interface.Config.{first_host}
+use Rattle.host_machine.specs.Interface.Due.{Due, IsLeast}
+use Rattle.host_machine.specs.Context.Host.{Host as Machine, SocketSet, at}
+use Rattle.host_machine.specs.Interface.Ingress.{answer_to}
+use Rattle.host_machine.specs.Interface.Polling.{Polls, is_changed, may_change}
 use Rattle.net_base.specs.Device.{Event, Frame, sent_frames}
-use Rattle.host_machine.specs.Polling.Step.{SetsReassemblyTimeout, WithinDay, OverDay}
+use Rattle.host_machine.specs.Interface.Step.{SetsReassemblyTimeout, WithinDay, OverDay}
 use Rattle.interface.specs.Refines.{HostRefinesTelling}
 use Rattle.interface.specs.Receives.{HostRefinesReceiving, frames_shown}
 use Rattle.interface.specs.Stands as interfaces

@@ -3,8 +3,8 @@ use Rattle.std.proofs.Common.{◌≡◌, Bool, true, false, List, length, Option
 use Rattle.std.specs.Prelude.{nat_lt}
 use Rattle.ip_address.specs.declared.cidr.IpCidr.{IpCidr}
 use Rattle.iface_tables.specs.declared.route.Route.{Route}
-use Rattle.host_machine.specs.State.Host.{Host as Machine, SocketSet}
-use Rattle.host_machine.specs.Polling.Step.{UpdatesIpAddrs, Accepted, Refused}
+use Rattle.host_machine.specs.Context.Host.{Host as Machine, SocketSet}
+use Rattle.host_machine.specs.Interface.Step.{UpdatesIpAddrs, Accepted, Refused}
 use Rattle.host_machine.specs.declared.results.AddrError.{AddrError}
 use Rattle.interface.specs.Stands as interface
 use Rattle.interface.specs.Stands.{Becomes, host_with}

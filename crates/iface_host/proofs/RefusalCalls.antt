@@ -12,12 +12,12 @@ use Rattle.group_table.specs.declared.groups.Group.{Group}
 use Rattle.iface_tables.specs.Route as routes
 use Rattle.iface_tables.specs.declared.route.Route.{Route}
 use Rattle.iface_tables.specs.declared.route.RouteTableFull.{RouteTableFull}
-use Rattle.host_machine.specs.State.Host.{Host as Machine, SocketSet}
-use Rattle.host_machine.specs.Sending.Multicast as machine
-use Rattle.host_machine.specs.Sending.Multicast.{NoGroup, NoPlace, JoinTaken, NoGroupEither, LeaveTaken}
-use Rattle.host_machine.specs.Polling.Step.{UpdatesIpAddrs, Accepted, Refused, SetsReassemblyTimeout, WithinDay, OverDay}
-use Rattle.host_machine.specs.Polling.Step.{SetsHardwareAddr, Taken, NotTaken}
-use Rattle.host_machine.specs.State.Config.{hardware_refusal_of, if_ethernet}
+use Rattle.host_machine.specs.Context.Host.{Host as Machine, SocketSet}
+use Rattle.host_machine.specs.Multicast.Joins as machine
+use Rattle.host_machine.specs.Multicast.Joins.{NoGroup, NoPlace, JoinTaken, NoGroupEither, LeaveTaken}
+use Rattle.host_machine.specs.Interface.Step.{UpdatesIpAddrs, Accepted, Refused, SetsReassemblyTimeout, WithinDay, OverDay}
+use Rattle.host_machine.specs.Interface.Step.{SetsHardwareAddr, Taken, NotTaken}
+use Rattle.host_machine.specs.Interface.Config.{hardware_refusal_of, if_ethernet}
 use Rattle.host_machine.specs.declared.results.HardwareError.{HardwareError}
 use Rattle.host_machine.specs.declared.results.HardwareError.TheVariants as error
 use Rattle.ip_address.specs.declared.ethernet_address.EthernetAddress.{EthernetAddress}

@@ -7,10 +7,10 @@ use Rattle.ip_address.specs.declared.ip.IpAddress.{IpAddress}
 use Rattle.iface_tables.specs.declared.route.Route.{Route}
 use Rattle.iface_tables.specs.declared.route.RouteTableFull.{RouteTableFull}
 use Rattle.iface_tables.specs.Route.{is_refused, old_or_full, with_default}
-use Rattle.host_machine.specs.State.Host.{Host as Machine, SocketSet}
-use Rattle.host_machine.specs.Sending.Multicast as machine
-use Rattle.host_machine.specs.Sending.Multicast.{NoGroup, NoPlace, JoinTaken, NoGroupEither, LeaveTaken}
-use Rattle.host_machine.specs.Polling.Step.{UpdatesIpAddrs, Accepted, Refused, SetsHardwareAddr, Taken, NotTaken}
+use Rattle.host_machine.specs.Context.Host.{Host as Machine, SocketSet}
+use Rattle.host_machine.specs.Multicast.Joins as machine
+use Rattle.host_machine.specs.Multicast.Joins.{NoGroup, NoPlace, JoinTaken, NoGroupEither, LeaveTaken}
+use Rattle.host_machine.specs.Interface.Step.{UpdatesIpAddrs, Accepted, Refused, SetsHardwareAddr, Taken, NotTaken}
 use Rattle.host_machine.specs.declared.results.HardwareError.{HardwareError}
 use Rattle.ip_address.specs.declared.hardware.HardwareAddress.{HardwareAddress}
 use Rattle.host_machine.specs.declared.results.AddrError.{AddrError}

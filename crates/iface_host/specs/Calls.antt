@@ -8,10 +8,10 @@ use Rattle.ip_address.specs.declared.ip.IpAddress.TheVariants as address
 use Rattle.group_table.specs.declared.groups.Group.{Group}
 use Rattle.iface_tables.specs.declared.route.Route.{Route}
 use Rattle.iface_tables.specs.Route.{ipv4_gateway, ipv6_gateway, is_ipv4_gateway, is_ipv6_gateway, with_default}
-use Rattle.host_machine.specs.State.Host.{Host as Machine, no_sockets}
-use Rattle.host_machine.specs.Sending.Multicast as machine
-use Rattle.host_machine.specs.State.Addresses as addresses
-use Rattle.host_machine.specs.Polling.Step.{UpdatesIpAddrs}
+use Rattle.host_machine.specs.Context.Host.{Host as Machine, no_sockets}
+use Rattle.host_machine.specs.Multicast.Joins as machine
+use Rattle.host_machine.specs.Context.Addresses as addresses
+use Rattle.host_machine.specs.Interface.Step.{UpdatesIpAddrs}
 use Rattle.interface.specs.Stands.{host_with}
 use Rattle.iface_host.specs.declared.host.Host.{Host}
 

@@ -11,10 +11,10 @@ use Rattle.interface.specs.Stands as interfaces
 use Rattle.interface.specs.Stands.{host_with}
 use Rattle.interface.specs.declared.interface.Interface.{Interface}
 use Rattle.host_machine.specs.declared.results.PollResult.{PollResult}
-use Rattle.host_machine.specs.Polling.Due.{Due, IsLeast}
-use Rattle.host_machine.specs.State.Host.{Host as Machine, at, no_sockets}
-use Rattle.host_machine.specs.Polling.Ingress.{answer_to}
-use Rattle.host_machine.specs.Polling.Polling.{Polls, is_changed, may_change}
+use Rattle.host_machine.specs.Interface.Due.{Due, IsLeast}
+use Rattle.host_machine.specs.Context.Host.{Host as Machine, at, no_sockets}
+use Rattle.host_machine.specs.Interface.Ingress.{answer_to}
+use Rattle.host_machine.specs.Interface.Polling.{Polls, is_changed, may_change}
 use Rattle.net_base.specs.Device.{Frame}
 use Rattle.interface.specs.Refines.{HostRefinesTelling}
 use Rattle.interface.specs.Receives.{HostRefinesReceiving}

@@ -8,7 +8,7 @@ use Rattle.ip_address.specs.declared.ip.IpAddress.{IpAddress}
 use Rattle.guard.specs.Defence.{announced}
 use Rattle.guard.specs.Pins as pins
 use Rattle.guard.specs.declared.queries.Waits.{Waits}
-use Rattle.host_machine.specs.State.Config.{if_ethernet}
+use Rattle.host_machine.specs.Interface.Config.{if_ethernet}
 use Rattle.guard.specs.Watch as guard
 use Rattle.iface_host.specs.Calls.{addresses_of}
 use Rattle.iface_host.specs.Counters.{after_handing}

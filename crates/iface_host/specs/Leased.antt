@@ -10,8 +10,8 @@ use Rattle.ip_address.specs.declared.ip.IpAddress.TheVariants as address
 use Rattle.ip_address.specs.declared.ipv4.Ipv4Address.{Ipv4Address}
 use Rattle.iface_tables.specs.declared.route.Route.{Route}
 use Rattle.iface_tables.specs.Route.{ipv4_gateway, is_ipv4_gateway}
-use Rattle.host_machine.specs.State.Host.{Host as Machine, are_assignable}
-use Rattle.host_machine.specs.Sending.Multicast.{after_address_change}
+use Rattle.host_machine.specs.Context.Host.{Host as Machine, are_assignable}
+use Rattle.host_machine.specs.Context.Settings.{after_address_change}
 use Rattle.host_machine.specs.declared.results.AddrError.{AddrError}
 use Rattle.host_machine.specs.declared.results.AddrError.TheVariants.{NotUnicast}
 use Rattle.iface_host.specs.Calls.{addresses_of, is_same, routes_of}

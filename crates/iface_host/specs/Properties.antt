@@ -4,10 +4,10 @@ use Rattle.ip_address.specs.declared.ethernet_address.EthernetAddress.{EthernetA
 use Rattle.ip_address.specs.declared.hardware.HardwareAddress.{HardwareAddress}
 use Rattle.ip_address.specs.declared.hardware.HardwareAddress.TheVariants.{Ethernet, Ip}
 use Rattle.ip_address.specs.declared.ip.IpAddress.{IpAddress}
-use Rattle.host_machine.specs.Polling.Step.{SetsHardwareAddr}
-use Rattle.host_machine.specs.State.Addresses as machine
-use Rattle.host_machine.specs.State.Config.{hardware_refusal_of}
-use Rattle.host_machine.specs.State.Host.{Host as Machine, no_sockets}
+use Rattle.host_machine.specs.Interface.Step.{SetsHardwareAddr}
+use Rattle.host_machine.specs.Context.Addresses as machine
+use Rattle.host_machine.specs.Interface.Config.{hardware_refusal_of}
+use Rattle.host_machine.specs.Context.Host.{Host as Machine, no_sockets}
 use Rattle.host_machine.specs.declared.results.HardwareError.{HardwareError}
 use Rattle.host_machine.specs.declared.results.HardwareError.TheVariants as error
 use Rattle.interface.specs.Stands.{host_with}

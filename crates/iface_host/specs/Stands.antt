@@ -7,8 +7,8 @@ use Rattle.socket_set.specs.SocketSet.{Storage, over}
 use Rattle.iface_tables.specs.Neighbor.{first_neighbors, room_over}
 use Rattle.iface_host.specs.Counters.{no_frames}
 use Rattle.iface_host.specs.Outbox.{empty}
-use Rattle.host_machine.specs.State.Config.{first_host}
-use Rattle.host_machine.specs.State.Host.{Host as Machine, SocketSet}
+use Rattle.host_machine.specs.Interface.Config.{first_host}
+use Rattle.host_machine.specs.Context.Host.{Host as Machine, SocketSet}
 use Rattle.ip_address.specs.Hardware.{medium_of}
 use Rattle.ip_address.specs.declared.hardware.HardwareAddress.{HardwareAddress}
 use Rattle.ip_address.specs.declared.hardware.HardwareAddress.TheVariants.{Ethernet, Ip}

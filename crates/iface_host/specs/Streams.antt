@@ -7,8 +7,8 @@ use Rattle.tcp_sockets.specs.Polls as tcp
 use Rattle.tcp_sockets.specs.Polls.{Carrier, state}
 use Rattle.tcp_streams.specs.Host as streams
 use Rattle.ip_address.specs.declared.ip.IpAddress.{IpAddress}
-use Rattle.host_machine.specs.State.Host.{SocketSet}
-use Rattle.host_machine.specs.Sending.Dispatch.{HasNeighbor}
+use Rattle.host_machine.specs.Context.Host.{SocketSet}
+use Rattle.host_machine.specs.Send.Hops.{HasNeighbor}
 use Rattle.interface.specs.Stands.{host_with}
 use Rattle.interface.specs.declared.interface.Interface.{Interface}
 use Rattle.iface_host.specs.Calls.{addresses_of}

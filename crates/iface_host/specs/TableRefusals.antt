@@ -14,7 +14,7 @@ use Rattle.iface_tables.specs.Route as routes
 use Rattle.iface_tables.specs.Route.{is_ipv4_gateway, is_ipv6_gateway}
 use Rattle.group_table.specs.Groups as groups
 use Rattle.socket_set.specs.SocketSet.{has_free}
-use Rattle.host_machine.specs.State.Host.{are_assignable}
+use Rattle.host_machine.specs.Context.Host.{are_assignable}
 use Rattle.iface_host.specs.Calls.{addresses_of, groups_of, is_same, is_to, routes_of, source_for}
 use Rattle.iface_host.specs.Names.{first_unused}
 use Rattle.iface_host.specs.Refusals.{moment_refusal}

@@ -1,10 +1,10 @@
 //! The addresses of a host, and the groups that it joins.
 ghost use Rattle.std.specs.Prelude.{◌≡◌, ◌<◌, IfSome, IfNone, OnOk, OnErr, length, slice_get};
 ghost use Rattle.std.specs.Result.{result_err};
-ghost use Rattle.host_machine.specs.Polling.Step.{UpdatesIpAddrs};
+ghost use Rattle.host_machine.specs.Interface.Step.{UpdatesIpAddrs};
 ghost use Rattle.interface.specs.Stands as stands;
 ghost use Rattle.std.specs.List.{position_or_len, remove};
-ghost use Rattle.host_machine.specs.State.Host.{SocketSet};
+ghost use Rattle.host_machine.specs.Context.Host.{SocketSet};
 ghost use Rattle.iface_host.specs.Calls.{is_same, AddsAddress, JoinsGroup, LeavesGroup, RemovesAddress};
 ghost use Rattle.iface_host.specs.Calls.{SetsAddresses, addresses_of, source_for};
 ghost use Rattle.iface_host.specs.Stands.{Follows, Stays};

@@ -2,7 +2,7 @@
 ghost use Rattle.std.specs.Prelude.{◌≡◌, ◌≤◌, IfOk, IfErr, OnOk, OnErr, IfSome, length, None, Some, []};
 ghost use Rattle.net_base.specs.Time.{IsMoment};
 ghost use Rattle.std.specs.Result.{IsErrOf, result_err};
-ghost use Rattle.host_machine.specs.Polling.Polling as polling;
+ghost use Rattle.host_machine.specs.Interface.Polling as polling;
 ghost use Rattle.iface_host.specs.Frames.{Gives, HandsOver, IsDue, PollsInto, Round, Takes};
 ghost use Rattle.iface_host.specs.Guarded.{NextIs, Receives};
 ghost use Rattle.iface_host.specs.Refusals.{frame_refusal, moment_refusal};

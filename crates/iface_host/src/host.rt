@@ -3,8 +3,8 @@ ghost use Rattle.std.specs.Prelude.{◌≡◌, ◌<◌, ◌≤◌, IfOk, IfErr, 
 ghost use Rattle.net_base.specs.Time.{IsMoment};
 ghost use Rattle.std.specs.Result.{IsErrOf, result_err};
 ghost use Rattle.net_base.specs.Checksum.{ip_mtu_of};
-ghost use Rattle.host_machine.specs.State.Config.{first_host, refusal_of};
-ghost use Rattle.host_machine.specs.State.Host as machine;
+ghost use Rattle.host_machine.specs.Interface.Config.{first_host, refusal_of};
+ghost use Rattle.host_machine.specs.Context.Host as machine;
 ghost use Rattle.iface_tables.specs.Neighbor.{room_over};
 ghost use Rattle.interface.specs.Stands.{Becomes, StandsFor};
 ghost use Rattle.iface_host.specs.Stands.{IsFirst, capabilities_of, free_storage};

@@ -1,7 +1,7 @@
 //! The routes of a host.
 ghost use Rattle.std.specs.Prelude.{◌≡◌, ◌≤◌, IfOk, OnOk, OnErr, length, slice_get};
 ghost use Rattle.std.specs.Result.{result_err};
-ghost use Rattle.host_machine.specs.State.Host.{SocketSet};
+ghost use Rattle.host_machine.specs.Context.Host.{SocketSet};
 ghost use Rattle.iface_tables.specs.Route.{ipv4_gateway, ipv6_gateway, is_ipv4_gateway};
 ghost use Rattle.iface_tables.specs.Route.{is_ipv6_gateway, old_or_full, with_default};
 ghost use Rattle.interface.specs.Stands.{Becomes, host_with};

@@ -16,13 +16,13 @@ use Rattle.icmpv6_wire.specs.Router.{Solicitation, Advertisement, router_in}
 use Rattle.group_wire.specs.Mld.{IsQuery, IsReport, mld_in}
 use Rattle.ipv6_wire.specs.Ipv6Packet.{quoted_in}
 use Rattle.wire_base.specs.Octets.{u16_at, u32_at}
-use Rattle.host_machine.specs.State.Note.{Note}
-use Rattle.host_machine.specs.State.Host.{Host}
-use Rattle.host_machine.specs.Receiving.Reply.{Reply}
-use Rattle.host_machine.specs.Receiving.Icmpv6.{ProcessesMessage, message_back}
-use Rattle.host_machine.specs.Sending.Reports.{ProcessesMld}
-use Rattle.host_machine.specs.Sending.Slaac.{after_advertisement, with_slaac}
-use Rattle.iface_send.proofs.Processing.{dropped}
+use Rattle.host_machine.specs.Context.Note.{Note}
+use Rattle.host_machine.specs.Context.Host.{Host, with_slaac}
+use Rattle.host_machine.specs.Receive.Reply.{Reply}
+use Rattle.host_machine.specs.Icmp.Icmpv6.{ProcessesMessage, message_back}
+use Rattle.host_machine.specs.Multicast.Mld.{ProcessesMld}
+use Rattle.host_machine.specs.Discovery.Router.{after_advertisement}
+use Rattle.iface_context.proofs.Processing.{dropped}
 
 -- an echo request is answered
 pub echoed : (r : Ipv6Repr) (message : Icmpv6Repr) (contents : List ℕ) (ident seq_no : ℕ) (H : Host) (reply : Option Reply) →

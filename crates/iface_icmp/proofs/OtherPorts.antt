@@ -13,12 +13,12 @@ use Rattle.control_wire.specs.declared.icmp.IcmpRepr.{IcmpRepr}
 use Rattle.sockets.specs.declared.socket.SocketOf.TheVariants.{Raw, Icmp, Udp, Tcp}
 use Rattle.sockets.specs.Kinds.{own_port}
 use Rattle.socket_set.specs.SocketSet.{socket_at, with_places}
-use Rattle.host_machine.specs.State.Host.{SocketSet, Storage}
-use Rattle.host_machine.specs.Receiving.Delivery.{to_this}
-use Rattle.host_machine.specs.Receiving.Raw as raw
-use Rattle.host_machine.specs.Receiving.Icmp as icmp
-use Rattle.host_machine.specs.Receiving.Udp as udp
-use Rattle.host_machine.specs.Receiving.Tcp as tcp
+use Rattle.host_machine.specs.Context.Host.{SocketSet, Storage}
+use Rattle.host_machine.specs.Sockets.Delivery.{to_this}
+use Rattle.host_machine.specs.Sockets.Raw as raw
+use Rattle.host_machine.specs.Icmp.Delivery as icmp
+use Rattle.host_machine.specs.Sockets.Udp as udp
+use Rattle.host_machine.specs.Sockets.Tcp as tcp
 use Rattle.iface_icmp.proofs.SocketIteration.{any_of, any_passed, at_later, at_place, mapped, mapped_passed}
 
 -- a place with a socket of another own port, or none

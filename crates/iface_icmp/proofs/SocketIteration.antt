@@ -8,10 +8,10 @@ use Rattle.sockets.specs.declared.socket.SocketOf.{SocketOf}
 use Rattle.socket_set.specs.SocketSet.{Sockets, socket_at, with_place, with_places}
 use Rattle.net_base.specs.Checksum.{is_tx}
 use Rattle.ip_wire.specs.declared.ip_packet.IpRepr.{IpRepr}
-use Rattle.host_machine.specs.State.Host.{Host, SocketSet, Storage, Socket}
-use Rattle.host_machine.specs.State.Host as host
-use Rattle.host_machine.specs.Receiving.Delivery.{to_each, to_this, holds}
-use Rattle.host_machine.specs.Receiving.Raw.{storage_after_delivery, host_after_raw_delivery, takes}
+use Rattle.host_machine.specs.Context.Host.{Host, SocketSet, Storage, Socket}
+use Rattle.host_machine.specs.Context.Host as host
+use Rattle.host_machine.specs.Sockets.Delivery.{to_each, to_this, holds}
+use Rattle.host_machine.specs.Sockets.Raw.{storage_after_delivery, host_after_raw_delivery, takes}
 use Rattle.socket_set.proofs.SocketSetLemmas as table
 
 module _ {S : Type 0} where

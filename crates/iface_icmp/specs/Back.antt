@@ -2,9 +2,9 @@
 use Rattle.std.specs.Prelude.{List}
 use Rattle.ip_address.specs.declared.cidr.IpCidr.{IpCidr}
 use Rattle.ipv6_wire.specs.declared.ipv6_packet.Ipv6Repr.{Ipv6Repr}
-use Rattle.host_machine.specs.Receiving.Icmpv6.{reply_source}
-use Rattle.host_machine.specs.Sending.Packet.{IpPayload, Ipv6}
-use Rattle.host_machine.specs.Receiving.Reply.{Reply, Ip}
+use Rattle.host_machine.specs.Icmp.Icmpv6.{reply_source}
+use Rattle.host_machine.specs.Packet.Packet.{IpPayload, Ipv6}
+use Rattle.host_machine.specs.Receive.Reply.{Reply, Ip}
 
 -- a payload in reply to a packet over IPv6, with hop limit 64
 abbrev pub payload_back : List IpCidr → Ipv6Repr → IpPayload → Reply

@@ -1,8 +1,8 @@
 //! Delivery to ICMP sockets: the messages that are for them, of either family.
 ghost use Rattle.std.specs.Prelude.{◌≡◌, length};
 ghost use Rattle.socket_set.specs.SocketSet.{socket_at, with_place, with_places};
-ghost use Rattle.host_machine.specs.Receiving.Delivery.{some_accepts, to_each, to_this};
-ghost use Rattle.host_machine.specs.Receiving.Icmp.{accepts, storage_after_delivery};
+ghost use Rattle.host_machine.specs.Sockets.Delivery.{some_accepts, to_each, to_this};
+ghost use Rattle.host_machine.specs.Icmp.Delivery.{accepts, storage_after_delivery};
 
 use control_wire::IcmpRepr;
 use ip_wire::IpAddress;

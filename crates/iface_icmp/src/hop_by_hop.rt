@@ -1,14 +1,14 @@
 //! How an interface processes IPv6 hop-by-hop options (RFC 8200 4.2, 4.3).
 ghost use Rattle.std.specs.Prelude.{◌≡◌, [], None, if◌then◌else◌};
-ghost use Rattle.host_machine.specs.State.Host.{no_sockets};
-ghost use Rattle.host_machine.specs.Receiving.Ipv6.{unknown_option};
-ghost use Rattle.host_machine.specs.Receiving.Response.{Responds};
-ghost use Rattle.iface_send.specs.Refines.{RefinesBuilding};
-ghost use Rattle.iface_send.specs.Stands.{host_of};
+ghost use Rattle.host_machine.specs.Context.Host.{no_sockets};
+ghost use Rattle.host_machine.specs.Icmp.HopByHop.{unknown_option};
+ghost use Rattle.host_machine.specs.Receive.Response.{Responds};
+ghost use Rattle.iface_context.specs.Refines.{RefinesBuilding};
+ghost use Rattle.iface_context.specs.Stands.{host_of};
 
 use crate::icmpv6::parameter_problem;
 use icmpv6_wire::Icmpv6ParamProblem;
-use iface_send::Context;
+use iface_context::Context;
 use ip_wire::Ipv6Repr;
 use ip_wire::emit::FrameBuffer;
 use ipv6_wire::Ipv6OptionFailureType;

@@ -1,20 +1,20 @@
 //! How an interface processes ICMPv4 messages, and which it sends in reply (RFC 792, RFC 1122 3.2.2).
 ghost use Rattle.std.specs.Prelude.{◌≡◌, ◌+◌, ◌<◌, ◌^◌, [], length};
 ghost use Rattle.control_wire.specs.Icmpv4.{IsIcmpv4, QuotesPacket, icmpv4_in};
-ghost use Rattle.host_machine.specs.State.Host.{no_sockets};
-ghost use Rattle.host_machine.specs.Receiving.Icmpv4 as spec;
-ghost use Rattle.host_machine.specs.Sending.Packet as value;
-ghost use Rattle.host_machine.specs.Receiving.Response.{Responds};
-ghost use Rattle.iface_send.specs.Refines.{RefinesBuilding, RefinesReplying};
-ghost use Rattle.iface_send.specs.Stands.{host_of};
+ghost use Rattle.host_machine.specs.Context.Host.{no_sockets};
+ghost use Rattle.host_machine.specs.Icmp.Icmpv4 as spec;
+ghost use Rattle.host_machine.specs.Packet.Packet as value;
+ghost use Rattle.host_machine.specs.Receive.Response.{Responds};
+ghost use Rattle.iface_context.specs.Refines.{RefinesBuilding, RefinesReplying};
+ghost use Rattle.iface_context.specs.Stands.{host_of};
 
 use crate::delivery::deliver;
 use control_wire::IcmpRepr;
 use control_wire::icmpv4::{EchoRequest, Icmpv4DstUnreachable, Icmpv4Repr};
+use iface_context::Context;
 use iface_packet::packet::icmp_reply_payload_len;
 use iface_packet::payload::{EchoReplyV4, Unreachable};
 use iface_packet::{IpPayload, PacketV4, Payload};
-use iface_send::Context;
 use iface_send::dispatch::dispatch;
 use ip_wire::emit::FrameBuffer;
 use ip_wire::ipv4_packet::HEADER_LEN;

@@ -1,15 +1,15 @@
 //! Port unreachable errors, by the family of the packet (RFC 1122 3.2.2.1, RFC 4443 3.1).
 ghost use Rattle.std.specs.Prelude.{◌≡◌, []};
 ghost use Rattle.ip_wire.specs.IpPacket.{TellsLength};
-ghost use Rattle.host_machine.specs.State.Host.{no_sockets};
-ghost use Rattle.host_machine.specs.Receiving.Response.{Responds};
-ghost use Rattle.host_machine.specs.Receiving.Unreachable.{port_unreachable};
-ghost use Rattle.iface_send.specs.Refines.{RefinesBuilding};
-ghost use Rattle.iface_send.specs.Stands.{host_of};
+ghost use Rattle.host_machine.specs.Context.Host.{no_sockets};
+ghost use Rattle.host_machine.specs.Receive.Response.{Responds};
+ghost use Rattle.host_machine.specs.Icmp.Unreachable.{port_unreachable};
+ghost use Rattle.iface_context.specs.Refines.{RefinesBuilding};
+ghost use Rattle.iface_context.specs.Stands.{host_of};
 
 use crate::{icmpv4, icmpv6};
 use control_wire::icmpv4::Icmpv4DstUnreachable;
-use iface_send::Context;
+use iface_context::Context;
 use ip_wire::IpRepr;
 use ip_wire::emit::FrameBuffer;
 

@@ -5,8 +5,8 @@ use Rattle.ip_address.specs.declared.ipv6.Ipv6Address.{Ipv6Address}
 use Rattle.ipv6_wire.specs.declared.ipv6_packet.Ipv6Repr.{Ipv6Repr}
 use Rattle.group_wire.specs.declared.mld.MldRepr.{MldRepr}
 use Rattle.group_wire.specs.declared.mld.MldRepr.TheVariants.{Query}
-use Rattle.host_machine.specs.State.Host.{Host}
-use Rattle.host_machine.specs.Sending.Reports.{ProcessesMld, delay, random_after_draw, is_near, host_after_mld_query, mld_report_for}
+use Rattle.host_machine.specs.Context.Host.{Host}
+use Rattle.host_machine.specs.Multicast.Mld.{ProcessesMld, delay, random_after_draw, is_near, host_after_mld_query, mld_report_for}
 
 -- a query of MLD is taken
 pub mld_taken : (r : Ipv6Repr) (m : MldRepr) (code : ℕ) (group : Ipv6Address) (H K : Host) →

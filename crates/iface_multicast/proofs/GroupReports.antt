@@ -7,20 +7,21 @@ use Rattle.group_wire.specs.declared.igmp.IgmpVersion.{IgmpVersion}
 use Rattle.group_table.specs.declared.report.IgmpReportState.TheVariants as igmp
 use Rattle.group_table.specs.declared.report.MldReportState.TheVariants as mld
 use Rattle.fragmentation.specs.Slots.{Slots}
-use Rattle.host_machine.specs.State.Host.{Host, SocketSet, no_sockets, with_slots}
-use Rattle.host_machine.specs.State.Addresses.{ipv4_addr}
-use Rattle.host_machine.specs.Sending.Packet as value
-use Rattle.host_machine.specs.Sending.Dispatch.{Dispatches}
-use Rattle.host_machine.specs.Sending.Multicast.{igmp_report}
-use Rattle.host_machine.specs.Sending.Reports.{IgmpEgress, MldEgress, has_passed, igmp_timeout_of, mld_timeout_of, next_group}
-use Rattle.host_machine.specs.Sending.Reports.{next_report, next_mld_report, igmp_report_after, with_igmp_report, with_mld_report}
-use Rattle.host_machine.specs.Sending.Reports as reports
-use Rattle.iface_send.specs.declared.context.Context.{Context}
+use Rattle.host_machine.specs.Context.Host.{Host, SocketSet, no_sockets, with_slots, with_igmp_report, with_mld_report}
+use Rattle.host_machine.specs.Context.Addresses.{ipv4_addr}
+use Rattle.host_machine.specs.Packet.Packet as value
+use Rattle.host_machine.specs.Send.Dispatch.{Dispatches}
+use Rattle.host_machine.specs.Multicast.Igmp.{igmp_report, IgmpEgress, igmp_timeout_of, next_group, next_report, igmp_report_after}
+use Rattle.host_machine.specs.Multicast.Mld.{MldEgress, mld_timeout_of, next_mld_report}
+use Rattle.host_machine.specs.Multicast.Timeout.{has_passed}
+use Rattle.host_machine.specs.Multicast.Igmp as igmp_rules
+use Rattle.host_machine.specs.Multicast.Mld as mld_rules
+use Rattle.iface_context.specs.declared.context.Context.{Context}
 use Rattle.iface_packet.specs.declared.packet.Packet.{Packet}
 use Rattle.iface_packet.specs.PacketValues as value_of
-use Rattle.iface_send.specs.Stands.{host_in, host_of}
+use Rattle.iface_context.specs.Stands.{host_in, host_of}
 use Rattle.iface_send.specs.Offered.{HasPart, IsOffered, NoPacket, NotGranted, Goes}
-use Rattle.iface_send.specs.Refines.{RefinesTelling}
+use Rattle.iface_context.specs.Refines.{RefinesTelling}
 use Rattle.iface_send.proofs.Offered.{none_is_some, true_is_false}
 
 -- the packet of the next report
@@ -43,7 +44,7 @@ module _ {D : Type 0} {tells : D → List Event → D → Type 0} where
   -- IGMP
   pub not_due : {d : D} (c : Context) → tells d [] d → has_passed (igmp_timeout_of c.multicast.igmp_report) c.moment ≡ false →
       RefinesTelling tells d d (HasPart IgmpEgress c) c
-  not_due c quiet due = record { told = []; notes = []; tells_it = quiet; follows = λ slots sockets. reports.NotDue due refl refl refl }
+  not_due c quiet due = record { told = []; notes = []; tells_it = quiet; follows = λ slots sockets. igmp_rules.NotDue due refl refl refl }
 
   pub no_further : {d : D} (c c' : Context) → tells d [] d → has_passed (igmp_timeout_of c.multicast.igmp_report) c.moment ≡ true →
       next_group (host_of c no_sockets) c.multicast.igmp_report ≡ None →
@@ -53,7 +54,7 @@ module _ {D : Type 0} {tells : D → List Event → D → Type 0} where
     told = [];
     notes = [];
     tells_it = quiet;
-    follows = λ slots sockets. reports.NoFurtherGroup due none refl refl (ap (λ H. with_slots H slots) (sets sockets));
+    follows = λ slots sockets. igmp_rules.NoFurtherGroup due none refl refl (ap (λ H. with_slots H slots) (sets sockets));
   }
 
   pub no_address : {d : D} (c : Context) (next : IgmpVersion × Ipv4Address) →
@@ -61,7 +62,7 @@ module _ {D : Type 0} {tells : D → List Event → D → Type 0} where
       next_group (host_of c no_sockets) c.multicast.igmp_report ≡ Some next → ipv4_addr (host_of c no_sockets).ip_addrs ≡ None →
       RefinesTelling tells d d (HasPart IgmpEgress c) c
   no_address c next quiet due some none =
-      record { told = []; notes = []; tells_it = quiet; follows = λ slots sockets. reports.NoAddress next due some none refl refl refl }
+      record { told = []; notes = []; tells_it = quiet; follows = λ slots sockets. igmp_rules.NoAddress next due some none refl refl refl }
 
   pub report_waits : {d e : D} (c c' : Context) (p : value.Packet) (granted : Bool) →
       has_passed (igmp_timeout_of c.multicast.igmp_report) c.moment ≡ true → next_report (host_of c no_sockets) ≡ Some p → granted ≡ false →
@@ -76,7 +77,7 @@ module _ {D : Type 0} {tells : D → List Event → D → Type 0} where
         IsOffered (Some p) granted (host_in c slots sockets) offered.told offered.notes (host_in c' slots sockets) →
         IgmpEgress (host_in c slots sockets) offered.told offered.notes (host_in c' slots sockets)
     by slots sockets (NoPacket none is silent unnoted unchanged) = none_is_some none
-    by slots sockets (NotGranted q some is silent unnoted unchanged) = reports.NotGranted q due (next ∙ some) silent unnoted unchanged
+    by slots sockets (NotGranted q some is silent unnoted unchanged) = igmp_rules.NotGranted q due (next ∙ some) silent unnoted unchanged
     by slots sockets (Goes q outcome frames some is sends_it told_so) = true_is_false is refused
 
   pub report_goes : {d e : D} (c c' c'' : Context) (p : value.Packet) (granted : Bool) →
@@ -96,12 +97,12 @@ module _ {D : Type 0} {tells : D → List Event → D → Type 0} where
     by slots sockets (NoPacket none is silent unnoted unchanged) = none_is_some none
     by slots sockets (NotGranted q some is silent unnoted unchanged) = true_is_false gone is
     by slots sockets (Goes q outcome frames some is sends_it told_so) =
-        reports.Sent q outcome frames (host_in c' slots sockets) due (next ∙ some) sends_it told_so (ap (λ H. with_slots H slots) (sets sockets))
+        igmp_rules.Sent q outcome frames (host_in c' slots sockets) due (next ∙ some) sends_it told_so (ap (λ H. with_slots H slots) (sets sockets))
 
   -- MLD
   pub not_yet : {d : D} (c : Context) → tells d [] d → has_passed (mld_timeout_of c.multicast.mld_report) c.moment ≡ false →
       RefinesTelling tells d d (HasPart MldEgress c) c
-  not_yet c quiet due = record { told = []; notes = []; tells_it = quiet; follows = λ slots sockets. reports.NotYet due refl refl refl }
+  not_yet c quiet due = record { told = []; notes = []; tells_it = quiet; follows = λ slots sockets. mld_rules.NotYet due refl refl refl }
 
   pub report_ends : {d e : D} (c c' c'' : Context) (p : value.Packet) (granted : Bool) →
       has_passed (mld_timeout_of c.multicast.mld_report) c.moment ≡ true → p ≡ next_mld_report (host_of c no_sockets) →
@@ -122,8 +123,8 @@ module _ {D : Type 0} {tells : D → List Event → D → Type 0} where
         MldEgress (host_in c slots sockets) offered.told offered.notes (host_in c'' slots sockets)
     by slots sockets (NoPacket none is silent unnoted unchanged) = none_is_some none
     by slots sockets (NotGranted q some is silent unnoted unchanged) =
-        reports.GivenUp due silent unnoted (ap (λ H. with_slots H slots) (sets sockets) ∙ ap (λ (H : Host). with_mld_report H mld.Inactive) unchanged)
+        mld_rules.GivenUp due silent unnoted (ap (λ H. with_slots H slots) (sets sockets) ∙ ap (λ (H : Host). with_mld_report H mld.Inactive) unchanged)
     by slots sockets (Goes q outcome frames some is sends_it told_so) =
-        reports.ReportGoes outcome frames (host_in c' slots sockets) due
+        mld_rules.ReportGoes outcome frames (host_in c' slots sockets) due
         (subst (λ (r : value.Packet). Dispatches r outcome (host_in c slots sockets) frames offered.notes (host_in c' slots sockets))
         (is_next q some) sends_it) told_so (ap (λ H. with_slots H slots) (sets sockets))

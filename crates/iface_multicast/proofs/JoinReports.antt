@@ -9,16 +9,16 @@ use Rattle.fragmentation.specs.Slots.{Slots}
 use Rattle.group_table.specs.declared.groups.Group.{Group}
 use Rattle.group_table.specs.declared.groups.GroupState.{GroupState}
 use Rattle.group_table.specs.Groups.{first_in}
-use Rattle.host_machine.specs.State.Note.{Note}
-use Rattle.host_machine.specs.State.Host.{Host, SocketSet, with_groups, no_sockets}
-use Rattle.host_machine.specs.Sending.Packet.{Packet}
-use Rattle.host_machine.specs.Sending.Multicast.{ReportsEach, ReportsAll, Begins, Silently, Refused, Reported as ToldGroup, All, UpToRefusal}
-use Rattle.host_machine.specs.Sending.Parts.{Part}
-use Rattle.iface_send.specs.declared.context.Context.{Context}
-use Rattle.iface_send.specs.Stands.{host_in, host_of}
+use Rattle.host_machine.specs.Context.Note.{Note}
+use Rattle.host_machine.specs.Context.Host.{Host, SocketSet, with_groups, no_sockets}
+use Rattle.host_machine.specs.Packet.Packet.{Packet}
+use Rattle.host_machine.specs.Multicast.Joins.{ReportsEach, ReportsAll, Begins, Silently, Refused, Reported as ToldGroup, All, UpToRefusal}
+use Rattle.host_machine.specs.Interface.Parts.{Part}
+use Rattle.iface_context.specs.declared.context.Context.{Context}
+use Rattle.iface_context.specs.Stands.{host_in, host_of}
 use Rattle.iface_send.specs.Offered.{HasPart, IsOffered, NoPacket, NotGranted, Goes}
 use Rattle.iface_multicast.specs.Joins.{IsReported}
-use Rattle.iface_send.specs.Refines.{RefinesTelling}
+use Rattle.iface_context.specs.Refines.{RefinesTelling}
 
 -- the groups in a state, as far as they were told of
 abbrev pub ReportsSo : GroupState → (List IpCidr → IpAddress → Option Packet) → (List Group → IpAddress → List Group) → Bool → Part

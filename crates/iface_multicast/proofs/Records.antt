@@ -8,7 +8,7 @@ use Rattle.group_wire.specs.declared.mld.MldRecordType.TheVariants.{ModeIsExclud
 use Rattle.group_wire.specs.Mld.{record_text}
 use Rattle.group_table.specs.declared.groups.Group.{Group}
 use Rattle.group_table.specs.Groups.{ipv6_groups}
-use Rattle.host_machine.specs.Sending.Multicast.{records_of}
+use Rattle.host_machine.specs.Multicast.Mld.{records_of}
 
 abbrev record_for : Ipv6Address → List ℕ
 record_for a = record_text (record { record_type = ModeIsExclude; mcast_addr = a })

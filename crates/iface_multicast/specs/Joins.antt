@@ -4,9 +4,9 @@ use Rattle.net_base.specs.Device.{Event}
 use Rattle.ip_address.specs.declared.cidr.IpCidr.{IpCidr}
 use Rattle.ip_address.specs.declared.ip.IpAddress.{IpAddress}
 use Rattle.group_table.specs.declared.groups.Group.{Group}
-use Rattle.host_machine.specs.State.Note.{Note}
-use Rattle.host_machine.specs.State.Host.{Host, with_groups}
-use Rattle.host_machine.specs.Sending.Packet.{Packet}
+use Rattle.host_machine.specs.Context.Note.{Note}
+use Rattle.host_machine.specs.Context.Host.{Host, with_groups}
+use Rattle.host_machine.specs.Packet.Packet.{Packet}
 use Rattle.iface_send.specs.Offered.{IsOffered}
 
 -- a group is reported; it counts as reported unless a transmit token was refused

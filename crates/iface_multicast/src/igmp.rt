@@ -2,26 +2,27 @@
 ghost use Rattle.std.specs.Prelude.{◌≡◌, ◌*◌, ◌<◌, ◌≤◌, [], None, ◌+◌, Some, IfSome, IsSome, true};
 ghost use Rattle.fragmentation.specs.Slots.{Slots};
 ghost use Rattle.group_wire.specs.Igmp.{query_version};
-ghost use Rattle.host_machine.specs.State.Host.{SocketSet, no_sockets};
-ghost use Rattle.host_machine.specs.Sending.Reports as reports;
-ghost use Rattle.host_machine.specs.Sending.Multicast as multicast;
-ghost use Rattle.host_machine.specs.Sending.Packet as value;
-ghost use Rattle.iface_send.specs.Multicast.{interval_of, index_of};
-ghost use Rattle.iface_send.specs.Stands.{host_in, host_of};
+ghost use Rattle.host_machine.specs.Context.Host.{SocketSet, no_sockets};
+ghost use Rattle.host_machine.specs.Multicast.Igmp as igmp_rules;
+ghost use Rattle.host_machine.specs.Multicast.Timeout as timeout_rules;
+ghost use Rattle.host_machine.specs.Multicast.Igmp as multicast;
+ghost use Rattle.host_machine.specs.Packet.Packet as value;
+ghost use Rattle.iface_context.specs.Multicast.{interval_of, index_of};
+ghost use Rattle.iface_context.specs.Stands.{host_in, host_of};
 ghost use Rattle.std.specs.Option.{option_map};
 ghost use Rattle.net_base.specs.Time.{IsMoment};
-ghost use Rattle.host_machine.specs.Sending.Packet.{IsWritable};
+ghost use Rattle.host_machine.specs.Packet.Packet.{IsWritable};
 ghost use Rattle.iface_packet.specs.PacketValues as value_of;
 ghost use Rattle.iface_send.specs.Offered.{HasPart};
-ghost use Rattle.iface_send.specs.Refines.{RefinesTelling};
+ghost use Rattle.iface_context.specs.Refines.{RefinesTelling};
 
 use crate::timeout::{has_passed, later_of};
 use group_table::IgmpReportState;
 use group_wire::igmp::{max_resp_time, query_version};
 use group_wire::{IgmpRepr, IgmpVersion};
+use iface_context::Context;
+use iface_context::multicast::set_igmp_report;
 use iface_packet::{IpPayload, Packet, PacketV4};
-use iface_send::Context;
-use iface_send::multicast::set_igmp_report;
 use iface_send::transmit::send_packet;
 use ip_wire::emit::FrameBuffer;
 use ip_wire::{IpAddress, Ipv4Address, Ipv4Repr};
@@ -33,7 +34,7 @@ use sockets::SocketContext;
 /// for one of them schedules delayed reports, which replace those scheduled before. Nothing else has an effect, and
 /// nothing is sent immediately.
 pub fn process_igmp(context: &mut Context, header: &Ipv4Repr, octets: &[u8])
-    ensures { (slots : Slots) (sockets : SocketSet) → reports.ProcessesIgmp header.now
+    ensures { (slots : Slots) (sockets : SocketSet) → igmp_rules.ProcessesIgmp header.now
         (host_in context.old slots sockets) octets.now None [] (host_in context.new slots sockets) }
 {
     let Some(message) = IgmpRepr::parse(octets) else {
@@ -45,7 +46,7 @@ pub fn process_igmp(context: &mut Context, header: &Ipv4Repr, octets: &[u8])
 /// Sends the next report of an IPv4 group, if it is due and the device grants a transmit token. If no further group is
 /// left to report, the answer to the query ends. Without a token or an IPv4 address the report stays due.
 pub fn igmp_egress<D: Device>(context: &mut Context, device: &mut D, out: &mut FrameBuffer)
-    ensures { RefinesTelling D.tells device.old device.new (HasPart reports.IgmpEgress context.old) context.new }
+    ensures { RefinesTelling D.tells device.old device.new (HasPart igmp_rules.IgmpEgress context.old) context.new }
 {
     let now = context.now();
     let report = context.igmp_report();
@@ -66,7 +67,7 @@ pub fn igmp_egress<D: Device>(context: &mut Context, device: &mut D, out: &mut F
 
 /// When the next report of an IPv4 group is due, if there is one and an address to send it from.
 pub fn igmp_poll_at(context: &Context) -> Option<Instant>
-    ensures { result ≡ reports.igmp_poll_at (host_of context.now no_sockets) }
+    ensures { result ≡ igmp_rules.igmp_poll_at (host_of context.now no_sockets) }
 {
     let report = context.igmp_report();
     let (version, group) = next_group(context, &report)?;
@@ -77,7 +78,7 @@ pub fn igmp_poll_at(context: &Context) -> Option<Instant>
 /// Processes a message by its values: only a query has an effect.
 fn process_igmp_message(context: &mut Context, dst_addr: &Ipv4Address, message: &IgmpRepr)
     ensures { (slots : Slots) (sockets : SocketSet) → host_in context.new slots sockets
-        ≡ reports.host_after_igmp (host_in context.old slots sockets) dst_addr.now message.now }
+        ≡ igmp_rules.host_after_igmp (host_in context.old slots sockets) dst_addr.now message.now }
 {
     match message {
         IgmpRepr::MembershipQuery {
@@ -99,7 +100,7 @@ fn igmp_report_for(
     group: &Ipv4Address,
 ) -> IgmpReportState
     ensures value { result
-        ≡ reports.igmp_report_for (host_of context.now no_sockets) dst_addr.now max_resp_code group.now }
+        ≡ igmp_rules.igmp_report_for (host_of context.now no_sockets) dst_addr.now max_resp_code group.now }
     ensures paced { interval_of result < 3600000000 }
 {
     let version = query_version(max_resp_code);
@@ -128,7 +129,7 @@ fn igmp_report_for(
 fn igmp_interval_for(version: IgmpVersion, time: Duration, count: usize) -> Duration
     requires within_an_hour { time < 3600000000 }
     requires few { count ≤ 8 }
-    ensures value { result ≡ reports.igmp_interval_for version time count }
+    ensures value { result ≡ igmp_rules.igmp_interval_for version time count }
     ensures within_an_hour { result < 3600000000 }
 {
     match version {
@@ -140,7 +141,7 @@ fn igmp_interval_for(version: IgmpVersion, time: Duration, count: usize) -> Dura
 /// Whether a query is a general query for the interface: it names no group, its destination is all-hosts, and there is
 /// a group to report.
 fn is_igmp_general(context: &Context, dst_addr: &Ipv4Address, group: &Ipv4Address) -> bool
-    ensures { result ≡ reports.is_igmp_general (host_of context.now no_sockets) dst_addr.now group.now }
+    ensures { result ≡ igmp_rules.is_igmp_general (host_of context.now no_sockets) dst_addr.now group.now }
 {
     group.is_unspecified()
         && dst_addr.bits == Ipv4Address::MULTICAST_ALL_SYSTEMS.bits
@@ -149,7 +150,7 @@ fn is_igmp_general(context: &Context, dst_addr: &Ipv4Address, group: &Ipv4Addres
 
 /// Whether a query is for one group of the interface: it names the group, which is also its destination.
 fn is_igmp_specific(context: &Context, dst_addr: &Ipv4Address, group: &Ipv4Address) -> bool
-    ensures { result ≡ reports.is_igmp_specific (host_of context.now no_sockets) dst_addr.now group.now }
+    ensures { result ≡ igmp_rules.is_igmp_specific (host_of context.now no_sockets) dst_addr.now group.now }
 {
     context.has_multicast_group(&IpAddress::Ipv4(*group)) && dst_addr.bits == group.bits
 }
@@ -192,7 +193,7 @@ pub(crate) fn igmp_report(
 
 /// The group to report next in answer to a query, and the IGMP version to use.
 fn next_group(context: &Context, report: &IgmpReportState) -> Option<(IgmpVersion, Ipv4Address)>
-    ensures value { result ≡ reports.next_group (host_of context.now no_sockets) report.now }
+    ensures value { result ≡ igmp_rules.next_group (host_of context.now no_sockets) report.now }
     ensures within { IsSome result → index_of report.now < 8 }
 {
     match report {
@@ -213,10 +214,10 @@ fn next_group(context: &Context, report: &IgmpReportState) -> Option<(IgmpVersio
 /// in the past; anything else ends.
 fn igmp_report_after(report: &IgmpReportState, now: Instant) -> IgmpReportState
     requires timely { IsMoment now }
-    requires due { reports.has_passed (reports.igmp_timeout_of report.now) now ≡ true }
+    requires due { timeout_rules.has_passed (igmp_rules.igmp_timeout_of report.now) now ≡ true }
     requires paced { interval_of report.now < 3600000000 }
     requires within { index_of report.now < 8 }
-    ensures value { result ≡ reports.igmp_report_after report.now now }
+    ensures value { result ≡ igmp_rules.igmp_report_after report.now now }
     ensures paced { interval_of result < 3600000000 }
 {
     match report {
@@ -239,7 +240,7 @@ fn igmp_report_after(report: &IgmpReportState, now: Instant) -> IgmpReportState
 
 /// When the next IPv4 group is reported.
 fn igmp_timeout(report: &IgmpReportState) -> Option<Instant>
-    ensures { result ≡ reports.igmp_timeout_of report.now }
+    ensures { result ≡ igmp_rules.igmp_timeout_of report.now }
 {
     match report {
         IgmpReportState::Inactive => None,

@@ -1,26 +1,26 @@
 //! MLD (RFC 3810 5, 6.2): queries of routers, and the delayed report that answers them.
 ghost use Rattle.std.specs.Prelude.{◌≡◌, ◌<◌, [], None, ◌+◌, ◌≤◌, ◌++◌, ◌∷◌, length, Some};
 ghost use Rattle.fragmentation.specs.Slots.{Slots};
-ghost use Rattle.host_machine.specs.State.Host.{SocketSet, no_sockets};
-ghost use Rattle.host_machine.specs.Sending.Reports as reports;
-ghost use Rattle.host_machine.specs.Sending.Multicast as multicast;
-ghost use Rattle.host_machine.specs.Sending.Packet as value;
-ghost use Rattle.iface_send.specs.Stands.{host_in, host_of};
+ghost use Rattle.host_machine.specs.Context.Host.{SocketSet, no_sockets};
+ghost use Rattle.host_machine.specs.Multicast.Mld as reports;
+ghost use Rattle.host_machine.specs.Multicast.Mld as multicast;
+ghost use Rattle.host_machine.specs.Packet.Packet as value;
+ghost use Rattle.iface_context.specs.Stands.{host_in, host_of};
 ghost use Rattle.group_wire.specs.declared.mld.MldRecordType.TheVariants.{ModeIsExclude};
 ghost use Rattle.group_wire.specs.Mld.{record_text};
 ghost use Rattle.group_table.specs.Groups.{ipv6_groups};
-ghost use Rattle.host_machine.specs.Sending.Packet.{IsWritable};
+ghost use Rattle.host_machine.specs.Packet.Packet.{IsWritable};
 ghost use Rattle.iface_packet.specs.PacketValues as value_of;
 ghost use Rattle.iface_send.specs.Offered.{HasPart, IsOffered};
-ghost use Rattle.iface_send.specs.Refines.{RefinesTelling};
+ghost use Rattle.iface_context.specs.Refines.{RefinesTelling};
 
 use crate::timeout::has_passed;
 use arrayvec::ArrayVec;
 use group_table::{Group, MldReportState};
 use group_wire::{MldAddressRecordRepr, MldRecordType, MldRepr};
+use iface_context::Context;
+use iface_context::multicast::set_mld_report;
 use iface_packet::{IpPayload, Packet, PacketV6};
-use iface_send::Context;
-use iface_send::multicast::set_mld_report;
 use iface_send::transmit::send_packet;
 use ip_wire::emit::FrameBuffer;
 use ip_wire::{IpAddress, Ipv6Address, Ipv6Repr};

@@ -1,14 +1,14 @@
 //! When groups have something to report.
 ghost use Rattle.std.specs.Prelude.{◌≡◌};
-ghost use Rattle.host_machine.specs.State.Host.{no_sockets};
-ghost use Rattle.host_machine.specs.Polling.Due.{groups_poll_at};
-ghost use Rattle.iface_send.specs.Stands.{host_of};
+ghost use Rattle.host_machine.specs.Context.Host.{no_sockets};
+ghost use Rattle.host_machine.specs.Multicast.Polling.{groups_poll_at};
+ghost use Rattle.iface_context.specs.Stands.{host_of};
 
 use crate::igmp::igmp_poll_at;
 use crate::joins::group_poll_at;
 use crate::mld::mld_poll_at;
 use group_table::GroupState;
-use iface_send::Context;
+use iface_context::Context;
 use net_base::time::Instant;
 use slaac::earlier_of;
 use sockets::SocketContext;

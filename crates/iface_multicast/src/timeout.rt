@@ -1,6 +1,6 @@
 //! When a report is due.
 ghost use Rattle.std.specs.Prelude.{◌≡◌, ◌<◌, Some};
-ghost use Rattle.host_machine.specs.Sending.Reports as reports;
+ghost use Rattle.host_machine.specs.Multicast.Timeout as reports;
 
 use net_base::time::Instant;
 

@@ -7,7 +7,7 @@ use Rattle.control_wire.specs.Icmpv4.{echo_reply_to}
 use Rattle.icmpv6_wire.specs.Icmpv6 as v6
 use Rattle.ip_wire.specs.declared.ip_packet.IpRepr.{IpRepr}
 use Rattle.ip_wire.specs.declared.ip_packet.IpRepr.TheVariants as repr
-use Rattle.host_machine.specs.Sending.Packet as value
+use Rattle.host_machine.specs.Packet.Packet as value
 use Rattle.iface_packet.specs.declared.payload.IpPayload.{IpPayload}
 use Rattle.iface_packet.specs.declared.payload.IpPayload.TheVariants.{Icmpv4, Icmpv6, Udp, Tcp, Raw, Igmp, Mld}
 use Rattle.iface_packet.specs.declared.payload.IpPayload.TheVariants as any

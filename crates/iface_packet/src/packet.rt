@@ -1,10 +1,10 @@
 //! Packets to send: their values, with their octets borrowed from where they came from, and their frames, which are
 //! appended to a buffer.
 ghost use Rattle.std.specs.Prelude.{◌≡◌, ◌+◌, ◌-◌, ◌*◌, ◌%◌, ◌<◌, ◌≤◌, ◌^◌, ◌++◌, [], length, min};
-ghost use Rattle.host_machine.specs.Sending.Frame.{arp_frame, ethertype_of, link_header, packet_text};
-ghost use Rattle.host_machine.specs.Sending.Packet.{IsFormed, IsWritable, total_len};
-ghost use Rattle.host_machine.specs.Sending.Packet as value;
-ghost use Rattle.host_machine.specs.Sending.Dispatch.{destination_of};
+ghost use Rattle.host_machine.specs.Packet.Frame.{arp_frame, ethertype_of, link_header, packet_text};
+ghost use Rattle.host_machine.specs.Packet.Packet.{IsFormed, IsWritable, total_len};
+ghost use Rattle.host_machine.specs.Packet.Packet as value;
+ghost use Rattle.host_machine.specs.Send.Dispatch.{destination_of};
 ghost use Rattle.ip_wire.specs.declared.ip_packet.IpRepr.TheVariants as repr;
 ghost use Rattle.iface_packet.specs.PacketValues as value_of;
 
@@ -20,7 +20,7 @@ use net_base::phy::DeviceCapabilities;
 /// An IP packet of either family. Where family and kind of payload are types, the code that builds the frame is
 /// compiled for them.
 pub trait AnyPacket {
-    ghost use Rattle.host_machine.specs.Sending.Packet.{Packet};
+    ghost use Rattle.host_machine.specs.Packet.Packet.{Packet};
 
     /// The packet as a value.
     ghost stands_for: { Self → Packet };

@@ -3,9 +3,9 @@ ghost use Rattle.std.specs.Prelude.{◌≡◌, ◌+◌, ◌<◌, ◌≤◌, ◌^
 ghost use Rattle.control_wire.specs.declared.icmpv4.Icmpv4Repr.TheVariants as icmpv4;
 ghost use Rattle.icmpv6_wire.specs.declared.icmpv6.Icmpv6Repr.TheVariants as icmpv6;
 ghost use Rattle.icmpv6_wire.specs.declared.ndisc.NdiscRepr.TheVariants as ndisc;
-ghost use Rattle.host_machine.specs.Sending.Frame.{with_limited_window, mld_options, payload_text};
-ghost use Rattle.host_machine.specs.Sending.Packet.{HasPorts, IsWritablePayload, payload_len, protocol_of};
-ghost use Rattle.host_machine.specs.Sending.Packet as value;
+ghost use Rattle.host_machine.specs.Packet.Frame.{with_limited_window, mld_options, payload_text};
+ghost use Rattle.host_machine.specs.Packet.Packet.{HasPorts, IsWritablePayload, payload_len, protocol_of};
+ghost use Rattle.host_machine.specs.Packet.Packet as value;
 ghost use Rattle.ipv6_wire.specs.HopByHop.{text_len};
 ghost use Rattle.iface_packet.specs.PacketValues as value_of;
 
@@ -26,7 +26,7 @@ use net_base::phy::DeviceCapabilities;
 /// The payload of an IP packet. Where its kind is a type, the code that builds the packet's frame is compiled for that
 /// kind.
 pub trait Payload: Copy {
-    ghost use Rattle.host_machine.specs.Sending.Packet.{IpPayload};
+    ghost use Rattle.host_machine.specs.Packet.Packet.{IpPayload};
 
     /// The payload as a value.
     ghost carried: { Self → IpPayload };

@@ -12,18 +12,18 @@ use Rattle.fragmentation.specs.Slots.{Slots}
 use Rattle.fragmentation.specs.Reassembled.{Reassembled}
 use Rattle.fragmentation.specs.Assembly.{Assembly}
 use Rattle.fragmentation.specs.Stands.{StandForSlots}
-use Rattle.host_machine.specs.State.Note.{OfSlots}
-use Rattle.host_machine.specs.State.Host.{Host, SocketSet}
-use Rattle.host_machine.specs.State.Addresses.{may_be_source}
-use Rattle.host_machine.specs.Sending.Frame.{frames_in}
-use Rattle.host_machine.specs.Receiving.Reassembly.{TakesFragment}
-use Rattle.host_machine.specs.Receiving.Response.{Response}
-use Rattle.host_machine.specs.Receiving.Ipv4.{ProcessesPacket, ProcessesDatagram, Part, Completed, Whole, key_in, fragment_in, datagram_header}
-use Rattle.iface_send.specs.declared.context.Context.{Context}
-use Rattle.iface_send.specs.Stands.{host_in, host_of}
+use Rattle.host_machine.specs.Context.Note.{OfSlots}
+use Rattle.host_machine.specs.Context.Host.{Host, SocketSet}
+use Rattle.host_machine.specs.Context.Addresses.{may_be_source}
+use Rattle.host_machine.specs.Packet.Frame.{frames_in}
+use Rattle.host_machine.specs.Receive.Reassembly.{TakesFragment}
+use Rattle.host_machine.specs.Receive.Response.{Response}
+use Rattle.host_machine.specs.Receive.Ipv4.{ProcessesPacket, ProcessesDatagram, Part, Completed, Whole, key_in, fragment_in, datagram_header}
+use Rattle.iface_context.specs.declared.context.Context.{Context}
+use Rattle.iface_context.specs.Stands.{host_in, host_of}
 use Rattle.iface_receive.specs.Ipv4.{Datagram, Own, Together, end_of_slots}
-use Rattle.iface_send.specs.Refines.{HostRefinesReplying, RefinesReplying, StandsFor}
-use Rattle.iface_send.proofs.Processing.{by_rule, in_place}
+use Rattle.iface_context.specs.Refines.{HostRefinesReplying, RefinesReplying, StandsFor}
+use Rattle.iface_context.proofs.Processing.{by_rule, in_place}
 
 abbrev in_some : Option (List ℕ) → List ℕ
 in_some (Some octets) = octets

@@ -12,23 +12,23 @@ use Rattle.ip_wire.specs.declared.ethernet.EthernetProtocol.{EthernetProtocol}
 use Rattle.ip_wire.specs.declared.ethernet.EthernetProtocol.TheVariants as ethertype
 use Rattle.ip_wire.specs.declared.ethernet.EthernetRepr.{EthernetRepr}
 use Rattle.ip_wire.specs.Ethernet.{ethernet_in}
-use Rattle.host_machine.specs.State.Host.{Host}
-use Rattle.host_machine.specs.Receiving.Reply.{Reply}
-use Rattle.host_machine.specs.Receiving.Arp.{NotForUs}
+use Rattle.host_machine.specs.Context.Host.{Host}
+use Rattle.host_machine.specs.Receive.Reply.{Reply}
+use Rattle.host_machine.specs.Discovery.Arp.{NotForUs}
 use Rattle.ip_address.specs.declared.hardware.HardwareAddress.{HardwareAddress}
 use Rattle.ip_wire.specs.declared.ipv4_packet.Ipv4Fragment.{Ipv4Fragment}
 use Rattle.ip_wire.specs.Ipv4Packet.{IsIpv4, ipv4_in}
-use Rattle.host_machine.specs.State.Addresses.{is_for_host}
-use Rattle.host_machine.specs.Receiving.Raw.{host_after_raw_delivery, is_taken}
-use Rattle.host_machine.specs.Receiving.Renewal.{sender_renewed}
-use Rattle.host_machine.specs.State.Note.{Note}
-use Rattle.host_machine.specs.Receiving.Ethernet.{ProcessesFrame, ProcessesEthernet, ProcessesIp, ProcessesEthertype, is_for}
-use Rattle.host_machine.specs.Receiving.Ethernet as ethernet
-use Rattle.host_machine.specs.Receiving.Ipv4 as ipv4
-use Rattle.host_machine.specs.Receiving.Ipv4.{ProcessesProtocol, ProcessesPacket, ProcessesDatagram, ProcessesIpv4, Read}
-use Rattle.host_machine.specs.Receiving.Icmpv4.{unreachable}
+use Rattle.host_machine.specs.Context.Addresses.{is_for_host}
+use Rattle.host_machine.specs.Sockets.Raw.{host_after_raw_delivery, is_taken}
+use Rattle.host_machine.specs.Discovery.Renewal.{sender_renewed}
+use Rattle.host_machine.specs.Context.Note.{Note}
+use Rattle.host_machine.specs.Receive.Ethernet.{ProcessesFrame, ProcessesEthernet, ProcessesIp, ProcessesEthertype, is_for}
+use Rattle.host_machine.specs.Receive.Ethernet as ethernet
+use Rattle.host_machine.specs.Receive.Ipv4 as ipv4
+use Rattle.host_machine.specs.Receive.Ipv4.{ProcessesProtocol, ProcessesPacket, ProcessesDatagram, ProcessesIpv4, Read}
+use Rattle.host_machine.specs.Icmp.Icmpv4.{unreachable}
 use Rattle.control_wire.specs.declared.icmpv4.Icmpv4DstUnreachable.TheVariants.{ProtoUnreachable}
-use Rattle.iface_send.proofs.Processing.{dropped}
+use Rattle.iface_context.proofs.Processing.{dropped}
 
 -- a packet is read, and taken
 pub ipv4_read : (source : HardwareAddress) (H K : Host) (octets payload : List ℕ) (r : Ipv4Repr) (f : Ipv4Fragment) (checked : Bool)

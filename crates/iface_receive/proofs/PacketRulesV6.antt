@@ -11,15 +11,16 @@ use Rattle.ipv6_wire.specs.declared.hop_by_hop.Ipv6HopByHopRepr.{Ipv6HopByHopRep
 use Rattle.ipv6_wire.specs.declared.hop_by_hop.Ipv6OptionFailureType.{Ipv6OptionFailureType}
 use Rattle.ipv6_wire.specs.declared.hop_by_hop.Ipv6OptionFailureType.TheVariants.{Skip}
 use Rattle.ipv6_wire.specs.HopByHop.{IsHopByHop, hop_by_hop_in, first_failure}
-use Rattle.host_machine.specs.State.Note.{Note}
-use Rattle.host_machine.specs.State.Host.{Host}
-use Rattle.host_machine.specs.State.Addresses.{is_for_host}
-use Rattle.host_machine.specs.Receiving.Reply.{Reply}
-use Rattle.host_machine.specs.Receiving.Raw.{host_after_raw_delivery, is_taken}
-use Rattle.host_machine.specs.Receiving.Renewal.{sender_renewed}
-use Rattle.host_machine.specs.Receiving.Ipv6 as ipv6
-use Rattle.host_machine.specs.Receiving.Ipv6.{ProcessesIpv6}
-use Rattle.iface_send.proofs.Processing.{dropped}
+use Rattle.host_machine.specs.Context.Note.{Note}
+use Rattle.host_machine.specs.Context.Host.{Host}
+use Rattle.host_machine.specs.Context.Addresses.{is_for_host}
+use Rattle.host_machine.specs.Receive.Reply.{Reply}
+use Rattle.host_machine.specs.Sockets.Raw.{host_after_raw_delivery, is_taken}
+use Rattle.host_machine.specs.Discovery.Renewal.{sender_renewed}
+use Rattle.host_machine.specs.Receive.Ipv6 as ipv6
+use Rattle.host_machine.specs.Icmp.HopByHop as hop_by_hop_rules
+use Rattle.host_machine.specs.Receive.Ipv6.{ProcessesIpv6}
+use Rattle.iface_context.proofs.Processing.{dropped}
 use Rattle.ip_address.specs.Ipv6.{is_unicast}
 use Rattle.ip_address.specs.Protocol.{number_of}
 use Rattle.iface_receive.specs.Ipv6.{BeginsAt, AtOnce, BehindOptions, EndsAtOptions}
@@ -59,7 +60,7 @@ options_skipped r octets rest o failure options is fails skips =
 pub options_discarded : (H : Host) (r : Ipv6Repr) (payload rest : List ℕ)
     (o : Ipv6HopByHopRepr) (failure : Ipv6OptionFailureType) → number_of r.next_header ≡ 0 →
     IsHopByHop payload × ((o, rest) ≡ hop_by_hop_in payload) → failure ≡ first_failure o.options.items → failure ≢ Skip →
-    EndsAtOptions r H payload (ipv6.unknown_option failure H.ip_addrs r payload) [] H
+    EndsAtOptions r H payload (hop_by_hop_rules.unknown_option failure H.ip_addrs r payload) [] H
 options_discarded H r payload rest o failure options is fails ends =
     let same_options : o ≡ (hop_by_hop_in payload).0 = ap (λ (p : Ipv6HopByHopRepr × List ℕ). p.0) is.1 in
     record { has_options = options; ends = λ source. ipv6.Discarded failure is.0 (rw same_options at (sym fails)) ends refl refl refl }

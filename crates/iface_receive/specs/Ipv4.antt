@@ -12,8 +12,8 @@ use Rattle.fragmentation.specs.Slots.{Slots}
 use Rattle.fragmentation.specs.Assembly.{Assembly}
 use Rattle.fragmentation.specs.Stands.{StandForSlots}
 use Rattle.fragmentation.specs.Reassembled.{Reassembled}
-use Rattle.host_machine.specs.Receiving.Ipv4.{key_in, fragment_in}
-use Rattle.iface_send.specs.declared.context.Context.{Context}
+use Rattle.host_machine.specs.Receive.Ipv4.{key_in, fragment_in}
+use Rattle.iface_context.specs.declared.context.Context.{Context}
 
 -- the expiry of a slot that is taken now
 abbrev pub end_of_slots : Context → ℤ

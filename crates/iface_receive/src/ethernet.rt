@@ -1,16 +1,16 @@
 //! How an interface processes frames, by their link-layer header (RFC 894, RFC 1122 2.4).
 ghost use Rattle.std.specs.Prelude.{◌≡◌, ◌<◌, [], length};
-ghost use Rattle.host_machine.specs.Receiving.Ethernet.{ProcessesFrame, ProcessesEthernet};
-ghost use Rattle.host_machine.specs.Receiving.Ethernet.{ProcessesIp, ProcessesEthertype, is_for};
-ghost use Rattle.host_machine.specs.State.Host.{no_sockets};
-ghost use Rattle.iface_send.specs.Stands.{host_of};
-ghost use Rattle.iface_send.specs.Refines.{HostRefinesReplying, StandsFor};
+ghost use Rattle.host_machine.specs.Receive.Ethernet.{ProcessesFrame, ProcessesEthernet};
+ghost use Rattle.host_machine.specs.Receive.Ethernet.{ProcessesIp, ProcessesEthertype, is_for};
+ghost use Rattle.host_machine.specs.Context.Host.{no_sockets};
+ghost use Rattle.iface_context.specs.Stands.{host_of};
+ghost use Rattle.iface_context.specs.Refines.{HostRefinesReplying, StandsFor};
 
 use crate::ipv4::process_ipv4;
 use crate::ipv6::process_ipv6;
 use fragmentation::{FragKey, PacketAssemblerSet};
+use iface_context::Context;
 use iface_discovery::arp::process_arp;
-use iface_send::Context;
 use ip_wire::emit::FrameBuffer;
 use ip_wire::{EthernetAddress, EthernetProtocol, EthernetRepr, HardwareAddress};
 use socket_set::SocketSet;

@@ -13,21 +13,23 @@ use Rattle.ip_wire.specs.declared.ethernet.EthernetProtocol.TheVariants as proto
 use Rattle.iface_tables.specs.declared.neighbor.Answer.TheVariants.{Found, NotFound, RateLimited}
 use Rattle.iface_tables.specs.Neighbor.{answer_of}
 use Rattle.fragmentation.specs.Slots.{Slots}
-use Rattle.host_machine.specs.State.Note.{Note}
-use Rattle.host_machine.specs.State.Host.{Host, SocketSet, no_sockets}
-use Rattle.host_machine.specs.Sending.Packet.{Packet, total_len}
-use Rattle.host_machine.specs.Sending.Packet as packet
-use Rattle.host_machine.specs.Sending.Frame.{ethertype_of, link_header}
-use Rattle.host_machine.specs.Sending.Dispatch.{Outcome, Emits, SendsOver, DispatchesEthernet, ToMulticast, NoHop, ByHop, Known, Silent, Unknown}
-use Rattle.host_machine.specs.Sending.Dispatch.{Discovers, IsNextHop, destination_of, multicast_hardware_addr}
+use Rattle.host_machine.specs.Context.Note.{Note}
+use Rattle.host_machine.specs.Context.Host.{Host, SocketSet, no_sockets}
+use Rattle.host_machine.specs.Packet.Packet.{Packet, total_len}
+use Rattle.host_machine.specs.Packet.Packet as packet
+use Rattle.host_machine.specs.Packet.Frame.{ethertype_of, link_header}
+use Rattle.host_machine.specs.Send.Outcome.{Outcome}
+use Rattle.host_machine.specs.Send.Dispatch.{Emits, SendsOver, DispatchesEthernet, ToMulticast, NoHop, ByHop, Known, Silent, Unknown, destination_of}
+use Rattle.host_machine.specs.Send.Requests.{Discovers}
+use Rattle.host_machine.specs.Send.Hops.{IsNextHop, multicast_hardware_addr}
 use Rattle.host_machine.specs.declared.results.DispatchError.{DispatchError}
 use Rattle.host_machine.specs.declared.results.DispatchError.TheVariants.{NoRoute, NeighborPending}
 use Rattle.host_machine.proofs.Runs.Walk.{ByNeighbor}
 use Rattle.host_machine.proofs.Runs.SentPieces.{reached_of}
-use Rattle.iface_send.specs.declared.context.Context.{Context}
+use Rattle.iface_context.specs.declared.context.Context.{Context}
 use Rattle.iface_send.specs.Destination.{IsReached, IsRefused, ethertype_to}
-use Rattle.iface_send.specs.Stands.{host_in, host_of}
-use Rattle.iface_send.proofs.Building.{unsent, nothing}
+use Rattle.iface_context.specs.Stands.{host_in, host_of}
+use Rattle.iface_context.proofs.Building.{unsent, nothing}
 
 -- the EtherType of a packet is that of its destination
 pub same_ethertype : (p : Packet) → ethertype_to (destination_of p) ≡ ethertype_of p

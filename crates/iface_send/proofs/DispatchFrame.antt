@@ -4,11 +4,14 @@ use Rattle.ip_address.specs.declared.ethernet_address.EthernetAddress.{EthernetA
 use Rattle.ip_address.specs.declared.hardware.HardwareAddress.{HardwareAddress}
 use Rattle.ip_address.specs.declared.hardware.HardwareAddress.TheVariants as hardware
 use Rattle.ip_address.specs.declared.ip.IpAddress.{IpAddress}
-use Rattle.host_machine.specs.State.Note.{Note}
-use Rattle.host_machine.specs.State.Host.{Host}
-use Rattle.host_machine.specs.Sending.Packet.{Packet}
-use Rattle.host_machine.specs.Sending.Dispatch as dispatch
-use Rattle.host_machine.specs.Sending.Dispatch.{Outcome, Emits, Discovers, DispatchesByHop, DispatchesEthernet, SendsOver, Dispatches, with_next_id}
+use Rattle.host_machine.specs.Context.Note.{Note}
+use Rattle.host_machine.specs.Context.Host.{Host, with_next_id}
+use Rattle.host_machine.specs.Packet.Packet.{Packet}
+use Rattle.host_machine.specs.Send.Dispatch as dispatch
+use Rattle.host_machine.specs.Send.Requests as requests
+use Rattle.host_machine.specs.Send.Outcome.{Outcome}
+use Rattle.host_machine.specs.Send.Dispatch.{Emits, DispatchesByHop, DispatchesEthernet, SendsOver, Dispatches}
+use Rattle.host_machine.specs.Send.Requests.{Discovers}
 
 same : {H new : Host} → new ≡ H → new.groups ≡ H.groups
 same e = ap (λ (K : Host). K.groups) e
@@ -21,9 +24,9 @@ emitted (dispatch.TooLong long cut o u) = same u.unchanged
 
 discovered : {own : EthernetAddress} {hop : IpAddress} {outcome : Outcome} {H new : Host} {frames : List (List ℕ)} {notes : List Note} →
     Discovers own hop outcome H frames notes new → new.groups ≡ H.groups
-discovered (dispatch.Asked target source h s o f n e) = ap (λ (K : Host). K.groups) e
-discovered (dispatch.NoSource target h s o u) = same u.unchanged
-discovered (dispatch.Solicited target h o f n e) = ap (λ (K : Host). K.groups) e
+discovered (requests.Asked target source h s o f n e) = ap (λ (K : Host). K.groups) e
+discovered (requests.NoSource target h s o u) = same u.unchanged
+discovered (requests.Solicited target h o f n e) = ap (λ (K : Host). K.groups) e
 
 by_hop : {id : ℕ} {own : EthernetAddress} {p : Packet} {hop : IpAddress} {outcome : Outcome} {H new : Host} {frames : List (List ℕ)}
     {notes : List Note} → DispatchesByHop id own p hop outcome H frames notes new → new.groups ≡ H.groups

@@ -5,13 +5,13 @@ use Rattle.net_base.specs.Device.{Event, Asked}
 use Rattle.fragmentation.specs.Slots.{Slots}
 use Rattle.fragmentation.specs.Cuts.{Piece}
 use Rattle.fragmentation.specs.Pending.{is_nil}
-use Rattle.host_machine.specs.State.Host.{SocketSet}
-use Rattle.host_machine.specs.Sending.Frame.{frames_in, sends}
-use Rattle.host_machine.specs.Sending.Egress.{Ipv4Egress, NoPiece, NotGranted, PieceGoes}
-use Rattle.iface_send.specs.declared.context.Context.{Context}
-use Rattle.iface_send.specs.Refines.{RefinesBuilding, RefinesTelling}
-use Rattle.iface_send.specs.Pieces.{EmitsNextPiece, PieceHasTurn}
-use Rattle.iface_send.specs.Stands.{host_in}
+use Rattle.host_machine.specs.Context.Host.{SocketSet}
+use Rattle.host_machine.specs.Packet.Frame.{frames_in, sends}
+use Rattle.host_machine.specs.Send.Fragments.{Ipv4Egress, NoPiece, NotGranted, PieceGoes}
+use Rattle.iface_context.specs.declared.context.Context.{Context}
+use Rattle.iface_context.specs.Refines.{RefinesBuilding, RefinesTelling}
+use Rattle.iface_context.specs.Pieces.{EmitsNextPiece, PieceHasTurn}
+use Rattle.iface_context.specs.Stands.{host_in}
 
 module _ {D : Type 0} {tells : D → List Event → D → Type 0} where
   pub no_piece : {d : D} (c : Context) → tells d [] d → not (is_nil c.fragmenter.pieces) ≡ false → RefinesTelling tells d d (PieceHasTurn c) c

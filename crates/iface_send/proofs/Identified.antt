@@ -1,12 +1,13 @@
 -- A packet is sent with the identification that was taken for it.
 use Rattle.std.proofs.Common.{◌≡◌, ℕ, List, subst}
 use Rattle.fragmentation.specs.Slots.{Slots}
-use Rattle.host_machine.specs.State.Note.{Note}
-use Rattle.host_machine.specs.State.Host.{Host, SocketSet, with_slots}
-use Rattle.host_machine.specs.Sending.Packet.{Packet}
-use Rattle.host_machine.specs.Sending.Dispatch.{Outcome, SendsOver, with_next_id}
-use Rattle.iface_send.specs.declared.context.Context.{Context}
-use Rattle.iface_send.specs.Stands.{host_in, host_of}
+use Rattle.host_machine.specs.Context.Note.{Note}
+use Rattle.host_machine.specs.Context.Host.{Host, SocketSet, with_slots, with_next_id}
+use Rattle.host_machine.specs.Packet.Packet.{Packet}
+use Rattle.host_machine.specs.Send.Outcome.{Outcome}
+use Rattle.host_machine.specs.Send.Dispatch.{SendsOver}
+use Rattle.iface_context.specs.declared.context.Context.{Context}
+use Rattle.iface_context.specs.Stands.{host_in, host_of}
 
 pub with_id : (id : ℕ) (old taken : Context) (p : Packet) (outcome : Outcome) (frames : List (List ℕ)) (notes : List Note) (new : Host)
     (slots : Slots) (sockets : SocketSet) → id ≡ old.ipv4_id →

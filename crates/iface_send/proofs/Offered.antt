@@ -1,11 +1,12 @@
 -- A packet that is offered, from its parts.
 use Rattle.std.proofs.Common.{◌≡◌, Bool, true, false, sym, ◌∙◌, Some, None, ℕ, List, [], ◌∷◌, ◌++◌, refl, Option}
 use Rattle.net_base.specs.Device.{Event, Asked}
-use Rattle.host_machine.specs.Sending.Packet.{Packet}
-use Rattle.host_machine.specs.Sending.Frame.{frames_in, sends}
-use Rattle.host_machine.specs.Sending.Dispatch.{Outcome, Dispatches}
-use Rattle.iface_send.specs.declared.context.Context.{Context}
-use Rattle.iface_send.specs.Refines.{RefinesBuilding, RefinesTelling}
+use Rattle.host_machine.specs.Packet.Packet.{Packet}
+use Rattle.host_machine.specs.Packet.Frame.{frames_in, sends}
+use Rattle.host_machine.specs.Send.Outcome.{Outcome}
+use Rattle.host_machine.specs.Send.Dispatch.{Dispatches}
+use Rattle.iface_context.specs.declared.context.Context.{Context}
+use Rattle.iface_context.specs.Refines.{RefinesBuilding, RefinesTelling}
 use Rattle.iface_send.specs.Offered.{HasPart, IsOffered, NoPacket, NotGranted, Goes}
 
 pub none_is_some : {A B : Type 0} {x : A} → Some x ≡ None → B

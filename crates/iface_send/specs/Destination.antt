@@ -8,15 +8,16 @@ use Rattle.ip_address.specs.declared.ip.IpAddress.TheVariants.{Ipv4, Ipv6}
 use Rattle.ip_wire.specs.declared.ethernet.EthernetProtocol.{EthernetProtocol}
 use Rattle.ip_wire.specs.declared.ethernet.EthernetProtocol.TheVariants as protocol
 use Rattle.fragmentation.specs.Slots.{Slots}
-use Rattle.host_machine.specs.State.Note.{Note}
-use Rattle.host_machine.specs.State.Host.{Host, SocketSet}
-use Rattle.host_machine.specs.Sending.Packet.{Packet}
-use Rattle.host_machine.specs.Sending.Frame.{link_header}
-use Rattle.host_machine.specs.Sending.Dispatch.{Outcome, Emits, SendsOver, destination_of}
+use Rattle.host_machine.specs.Context.Note.{Note}
+use Rattle.host_machine.specs.Context.Host.{Host, SocketSet}
+use Rattle.host_machine.specs.Packet.Packet.{Packet}
+use Rattle.host_machine.specs.Packet.Frame.{link_header}
+use Rattle.host_machine.specs.Send.Outcome.{Outcome}
+use Rattle.host_machine.specs.Send.Dispatch.{Emits, SendsOver, destination_of}
 use Rattle.host_machine.specs.declared.results.DispatchError.{DispatchError}
-use Rattle.iface_send.specs.declared.context.Context.{Context}
-use Rattle.iface_send.specs.Refines.{RefinesBuilding}
-use Rattle.iface_send.specs.Stands.{host_in}
+use Rattle.iface_context.specs.declared.context.Context.{Context}
+use Rattle.iface_context.specs.Refines.{RefinesBuilding}
+use Rattle.iface_context.specs.Stands.{host_in}
 
 -- the EtherType of frames that carry packets for an address
 abbrev pub ethertype_to : IpAddress → EthernetProtocol

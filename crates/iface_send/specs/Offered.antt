@@ -2,14 +2,15 @@
 use Rattle.std.specs.Prelude.{◌≡◌, ℕ, Bool, true, false, List, [], ◌∷◌, Option, Some, None}
 use Rattle.net_base.specs.Device.{Event, Asked}
 use Rattle.fragmentation.specs.Slots.{Slots}
-use Rattle.host_machine.specs.State.Note.{Note}
-use Rattle.host_machine.specs.State.Host.{Host, SocketSet}
-use Rattle.host_machine.specs.Sending.Packet.{Packet}
-use Rattle.host_machine.specs.Sending.Frame.{sends}
-use Rattle.host_machine.specs.Sending.Dispatch.{Outcome, Dispatches}
-use Rattle.host_machine.specs.Sending.Parts.{Part}
-use Rattle.iface_send.specs.declared.context.Context.{Context}
-use Rattle.iface_send.specs.Stands.{host_in}
+use Rattle.host_machine.specs.Context.Note.{Note}
+use Rattle.host_machine.specs.Context.Host.{Host, SocketSet}
+use Rattle.host_machine.specs.Packet.Packet.{Packet}
+use Rattle.host_machine.specs.Packet.Frame.{sends}
+use Rattle.host_machine.specs.Send.Outcome.{Outcome}
+use Rattle.host_machine.specs.Send.Dispatch.{Dispatches}
+use Rattle.host_machine.specs.Interface.Parts.{Part}
+use Rattle.iface_context.specs.declared.context.Context.{Context}
+use Rattle.iface_context.specs.Stands.{host_in}
 
 -- a part of a round, whatever the slots and the sockets are
 abbrev pub HasPart : Part → Context → List Event → List Note → Context → Type 0

@@ -2,12 +2,12 @@
 ghost use Rattle.std.specs.Prelude.{◌≡◌, true, false, None, IfSome};
 ghost use Rattle.ip_address.specs.Ip.{is_unicast, is_unspecified};
 ghost use Rattle.fragmentation.specs.Slots.{Slots};
-ghost use Rattle.host_machine.specs.State.Host.{SocketSet, in_same_network, no_sockets};
-ghost use Rattle.host_machine.specs.Sending.Dispatch as spec;
-ghost use Rattle.iface_send.specs.Stands.{host_in, host_of};
+ghost use Rattle.host_machine.specs.Context.Host.{SocketSet, in_same_network, no_sockets};
+ghost use Rattle.host_machine.specs.Send.Hops as spec;
+ghost use Rattle.iface_context.specs.Stands.{host_in, host_of};
 
-use crate::context::Context;
-use crate::neighbors::lookup;
+use iface_context::context::Context;
+use iface_context::neighbors::lookup;
 use ip_wire::{EthernetAddress, IpAddress, Ipv4Address, Ipv6Address};
 use sockets::SocketContext;
 

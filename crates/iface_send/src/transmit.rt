@@ -1,15 +1,15 @@
 //! Hands frames to a device, and packets where the device grants a transmit token.
 ghost use Rattle.std.specs.Prelude.{◌≡◌, Some, true};
-ghost use Rattle.host_machine.specs.Sending.Frame.{frames_in, sends};
-ghost use Rattle.host_machine.specs.State.Host.{no_sockets};
-ghost use Rattle.host_machine.specs.Sending.Packet.{IsWritable};
+ghost use Rattle.host_machine.specs.Packet.Frame.{frames_in, sends};
+ghost use Rattle.host_machine.specs.Context.Host.{no_sockets};
+ghost use Rattle.host_machine.specs.Packet.Packet.{IsWritable};
 ghost use Rattle.iface_packet.specs.PacketValues as value_of;
-ghost use Rattle.iface_send.specs.Stands.{host_of};
+ghost use Rattle.iface_context.specs.Stands.{host_of};
 ghost use Rattle.iface_send.specs.Offered.{HasPart, IsOffered};
-ghost use Rattle.iface_send.specs.Refines.{RefinesTelling};
+ghost use Rattle.iface_context.specs.Refines.{RefinesTelling};
 
-use crate::context::Context;
 use crate::dispatch::dispatch;
+use iface_context::context::Context;
 use iface_packet::Packet;
 use ip_wire::emit::FrameBuffer;
 use net_base::phy::{Device, PacketMeta};

@@ -5,9 +5,10 @@ use Rattle.std.specs.Prelude.{ℤ}
 use Rattle.std.specs.Option.{option_and_then}
 use Rattle.socket_set.specs.Busy.{IsIdle}
 use Rattle.socket_set.specs.SocketSet.{socket_at}
-use Rattle.host_machine.specs.State.Host.{Host}
-use Rattle.host_machine.specs.Polling.Due.{SocketDue, IsLeast}
-use Rattle.host_machine.proofs.Polling.EarliestInstant.{DueBelow, least_same}
+use Rattle.host_machine.specs.Context.Host.{Host}
+use Rattle.host_machine.specs.Sockets.Polling.{SocketDue}
+use Rattle.host_machine.specs.Interface.Due.{IsLeast}
+use Rattle.host_machine.proofs.Interface.EarliestInstant.{DueBelow, least_same}
 
 -- an idle socket has no instant
 idle_not_due : (H : Host) (i : ℕ) (x : ℤ) → IsIdle H.sockets i → SocketDue H i x → ⊥

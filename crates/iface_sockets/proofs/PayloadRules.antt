@@ -7,17 +7,17 @@ use Rattle.ip_wire.specs.declared.ip_packet.IpRepr.{IpRepr}
 use Rattle.ip_wire.specs.IpPacket.{src_addr, dst_addr}
 use Rattle.ip_wire.specs.declared.udp.UdpRepr.{UdpRepr}
 use Rattle.ip_wire.specs.Udp.{IsUdp, udp_in}
-use Rattle.host_machine.specs.State.Host.{Host, Storage, with_places}
-use Rattle.host_machine.specs.Receiving.Reply.{Reply}
-use Rattle.host_machine.specs.Receiving.Delivery.{DeliversFirst, NoneAccepts}
-use Rattle.host_machine.specs.Receiving.Udp as udp
-use Rattle.host_machine.specs.Receiving.Udp.{ProcessesUdp, Delivered, NotAccepted}
-use Rattle.host_machine.specs.Receiving.Unreachable.{port_unreachable}
-use Rattle.host_machine.specs.Receiving.Tcp as tcp
+use Rattle.host_machine.specs.Context.Host.{Host, Storage, with_places}
+use Rattle.host_machine.specs.Receive.Reply.{Reply}
+use Rattle.host_machine.specs.Sockets.Delivery.{DeliversFirst, NoneAccepts}
+use Rattle.host_machine.specs.Sockets.Udp as udp
+use Rattle.host_machine.specs.Sockets.Udp.{ProcessesUdp, Delivered, NotAccepted}
+use Rattle.host_machine.specs.Icmp.Unreachable.{port_unreachable}
+use Rattle.host_machine.specs.Sockets.Tcp as tcp
 use Rattle.ip_wire.specs.Tcp.{IsTcp, tcp_in}
 use Rattle.ip_wire.specs.declared.tcp.TcpRepr.{TcpRepr}
 use Rattle.iface_sockets.specs.Segment.{IsTaken}
-use Rattle.iface_send.proofs.Processing.{dropped}
+use Rattle.iface_context.proofs.Processing.{dropped}
 use Rattle.iface_icmp.proofs.SocketIteration.{at_place}
 
 -- a datagram is given to the first socket that accepts it

@@ -10,25 +10,27 @@ use Rattle.fragmentation.specs.Slots.{Slots}
 use Rattle.sockets.specs.Kinds.{Offered, socket_after_told}
 use Rattle.sockets.specs.Kinds as kinds
 use Rattle.socket_base.specs.declared.poll_at.PollAt.TheVariants.{Ingress}
-use Rattle.host_machine.proofs.Sending.QuietSockets.{socket_quiet}
+use Rattle.host_machine.proofs.Sockets.QuietSockets.{socket_quiet}
 use Rattle.ip_address.specs.declared.ip.IpAddress.{IpAddress}
 use Rattle.socket_set.specs.Busy.{IsIdle}
 use Rattle.socket_set.specs.SocketMeta.{Wait, IsAnswerFor, is_permitted, after_asking}
 use Rattle.socket_set.specs.SocketSet.{socket_at, wait_at, with_place, with_wait}
 use Rattle.host_machine.specs.declared.results.Turn.{Turn}
 use Rattle.host_machine.specs.declared.results.Turn.TheVariants.{Idle, Done, Deferred, Exhausted}
-use Rattle.host_machine.specs.State.Note.{Note}
-use Rattle.host_machine.specs.State.Host.{Host, Socket, SocketSet, Storage, no_sockets}
-use Rattle.host_machine.specs.State.Addresses.{source_for}
-use Rattle.host_machine.specs.Sending.Packet as value
-use Rattle.host_machine.specs.Sending.Frame.{frames_in, sends}
-use Rattle.host_machine.specs.Sending.Dispatch.{Outcome, Dispatches, HasNeighbor, destination_of}
-use Rattle.host_machine.specs.Sending.Egress.{SocketTurn, packet_of, packet_from, socket_after_asking, turn_of, is_done}
-use Rattle.host_machine.specs.Sending.Egress.{is_exhausted, Silent, Refused, Sent, Free, Waits, Served, wait_after}
-use Rattle.host_machine.specs.Sending.Egress.{Begins, Goes, Stops, Stopped, Whole, Serves, Walks, SocketEgress}
-use Rattle.iface_send.specs.declared.context.Context.{Context}
-use Rattle.iface_send.specs.Refines.{RefinesBuilding, RefinesTelling}
-use Rattle.iface_send.specs.Stands.{host_in, host_of}
+use Rattle.host_machine.specs.Context.Note.{Note}
+use Rattle.host_machine.specs.Context.Host.{Host, Socket, SocketSet, Storage, no_sockets}
+use Rattle.host_machine.specs.Context.Addresses.{source_for}
+use Rattle.host_machine.specs.Packet.Packet as value
+use Rattle.host_machine.specs.Packet.Frame.{frames_in, sends}
+use Rattle.host_machine.specs.Send.Outcome.{Outcome}
+use Rattle.host_machine.specs.Send.Dispatch.{Dispatches, destination_of}
+use Rattle.host_machine.specs.Send.Hops.{HasNeighbor}
+use Rattle.host_machine.specs.Sockets.Turns.{SocketTurn, turn_of, is_done, is_exhausted, Silent, Refused, Sent, Free, Waits, Served, wait_after}
+use Rattle.host_machine.specs.Sockets.Offers.{packet_of, packet_from, socket_after_asking}
+use Rattle.host_machine.specs.Sockets.Turns.{Begins, Goes, Stops, Stopped, Whole, Serves, Walks, SocketEgress}
+use Rattle.iface_context.specs.declared.context.Context.{Context}
+use Rattle.iface_context.specs.Refines.{RefinesBuilding, RefinesTelling}
+use Rattle.iface_context.specs.Stands.{host_in, host_of}
 use Rattle.iface_sockets.specs.Turns.{HasTurn, OfferTurn, OfferHasTurn, NoPacket, NotGiven, Given, IsPermitted, NoSocket, OfSocket, outcome_of}
 
 -- of an offer of some kind

@@ -7,8 +7,8 @@ use Rattle.ip_wire.specs.declared.ip_packet.IpRepr.{IpRepr}
 use Rattle.ip_wire.specs.declared.udp.UdpRepr.{UdpRepr}
 use Rattle.sockets.specs.declared.socket.SocketOf.TheVariants.{Raw, Icmp, Udp, Tcp}
 use Rattle.socket_set.specs.Datagrams.{is_udp}
-use Rattle.host_machine.specs.State.Host.{Storage}
-use Rattle.host_machine.specs.Receiving.Udp.{accepts}
+use Rattle.host_machine.specs.Context.Host.{Storage}
+use Rattle.host_machine.specs.Sockets.Udp.{accepts}
 use Rattle.iface_icmp.proofs.SocketIteration.{at_place}
 
 -- what accepts a datagram is a UDP socket

@@ -2,9 +2,9 @@
 use Rattle.std.specs.Prelude.{◌≡◌, ℕ, List, slice_set, Option}
 use Rattle.ip_wire.specs.declared.ip_packet.IpRepr.{IpRepr}
 use Rattle.ip_wire.specs.declared.tcp.TcpRepr.{TcpRepr}
-use Rattle.host_machine.specs.State.Host.{Storage}
-use Rattle.host_machine.specs.Receiving.Delivery.{IsFirst}
-use Rattle.host_machine.specs.Receiving.Tcp.{accepts, storage_after_delivery, socket_reply}
+use Rattle.host_machine.specs.Context.Host.{Storage}
+use Rattle.host_machine.specs.Sockets.Delivery.{IsFirst}
+use Rattle.host_machine.specs.Sockets.Tcp.{accepts, storage_after_delivery, socket_reply}
 
 -- the first socket that accepts it got it, and gave this answer
 pub record IsTaken (r : IpRepr) (t : TcpRepr) (payload : List ℕ) (old new : List Storage)

@@ -3,17 +3,19 @@ use Rattle.std.specs.Prelude.{◌≡◌, ℕ, Bool, true, false, List, [], ◌�
 use Rattle.net_base.specs.Device.{Event, Asked}
 use Rattle.host_machine.specs.declared.results.Turn.{Turn}
 use Rattle.host_machine.specs.declared.results.Turn.TheVariants.{Idle, Done, Deferred, Exhausted}
-use Rattle.host_machine.specs.State.Note.{Note}
+use Rattle.host_machine.specs.Context.Note.{Note}
 use Rattle.fragmentation.specs.Slots.{Slots}
 use Rattle.socket_set.specs.SocketMeta.{IsAnswerFor, is_permitted, after_asking}
 use Rattle.socket_set.specs.SocketSet.{socket_at, wait_at, with_wait}
-use Rattle.host_machine.specs.State.Host.{Host, Socket, SocketSet}
-use Rattle.host_machine.specs.Sending.Packet.{Packet}
-use Rattle.host_machine.specs.Sending.Frame.{sends}
-use Rattle.host_machine.specs.Sending.Dispatch.{Outcome, Dispatches, HasNeighbor}
-use Rattle.host_machine.specs.Sending.Egress.{SocketTurn, turn_of}
-use Rattle.iface_send.specs.declared.context.Context.{Context}
-use Rattle.iface_send.specs.Stands.{host_in}
+use Rattle.host_machine.specs.Context.Host.{Host, Socket, SocketSet}
+use Rattle.host_machine.specs.Packet.Packet.{Packet}
+use Rattle.host_machine.specs.Packet.Frame.{sends}
+use Rattle.host_machine.specs.Send.Outcome.{Outcome}
+use Rattle.host_machine.specs.Send.Dispatch.{Dispatches}
+use Rattle.host_machine.specs.Send.Hops.{HasNeighbor}
+use Rattle.host_machine.specs.Sockets.Turns.{SocketTurn, turn_of}
+use Rattle.iface_context.specs.declared.context.Context.{Context}
+use Rattle.iface_context.specs.Stands.{host_in}
 
 -- a socket's turn, whatever the slots and the other sockets are
 abbrev pub HasTurn : Socket → Turn → Socket → Context → List Event → List Note → Context → Type 0

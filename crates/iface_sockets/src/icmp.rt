@@ -3,19 +3,20 @@ ghost use Rattle.std.specs.Prelude.{◌≡◌, ◌<◌, Some, IfSome};
 ghost use Rattle.std.specs.Option.{option_map};
 ghost use Rattle.sockets.specs.Kinds as kinds;
 ghost use Rattle.network_sockets.specs.Icmp as icmp;
-ghost use Rattle.host_machine.specs.State.Host.{Socket};
-ghost use Rattle.host_machine.specs.Sending.Egress as egress;
-ghost use Rattle.host_machine.specs.Sending.Packet.{IsWritable, IsWritablePayload};
+ghost use Rattle.host_machine.specs.Context.Host.{Socket};
+ghost use Rattle.host_machine.specs.Sockets.Icmp as icmp_rules;
+ghost use Rattle.host_machine.specs.Sockets.Offers as offers_rules;
+ghost use Rattle.host_machine.specs.Packet.Packet.{IsWritable, IsWritablePayload};
 ghost use Rattle.iface_packet.specs.PacketValues as value_of;
-ghost use Rattle.iface_send.specs.Refines.{RefinesTelling};
+ghost use Rattle.iface_context.specs.Refines.{RefinesTelling};
 ghost use Rattle.iface_sockets.specs.Turns.{HasTurn};
 
 use crate::offers::{outcome, packet_between, send_if};
 use control_wire::{IcmpRepr, Icmpv4Repr};
 use host_machine::Turn;
 use icmpv6_wire::Icmpv6Repr;
+use iface_context::Context;
 use iface_packet::{IpPayload, Packet};
-use iface_send::Context;
 use ip_wire::emit::FrameBuffer;
 use net_base::phy::Device;
 use sockets::{SocketContext, icmp};
@@ -44,7 +45,8 @@ pub(crate) fn give_icmp_turn<D: Device>(
 
 /// The packet of an ICMP socket's message; `None` unless it is an echo message.
 fn icmp_packet<'p>(packet: &icmp::Packet<'p>) -> Option<Packet<'p>>
-    ensures value { option_map value_of.packet result ≡ egress.packet_of (kinds.IcmpOffer (icmp.value_of packet.now)) }
+    ensures value { option_map value_of.packet result
+        ≡ offers_rules.packet_of (kinds.IcmpOffer (icmp.value_of packet.now)) }
     ensures writable { IfSome result (λ p. IsWritable (value_of.packet p)) }
 {
     let payload = echo_payload(&packet.repr, packet.payload)?;
@@ -58,7 +60,7 @@ fn icmp_packet<'p>(packet: &icmp::Packet<'p>) -> Option<Packet<'p>>
 
 /// A message as a payload; `None` unless it is an echo message.
 fn echo_payload<'p>(repr: &IcmpRepr, octets: &'p [u8]) -> Option<IpPayload<'p>>
-    ensures value { option_map value_of.payload result ≡ egress.echo_payload repr.now octets.now }
+    ensures value { option_map value_of.payload result ≡ icmp_rules.echo_payload repr.now octets.now }
     ensures writable { IfSome result (λ p. IsWritablePayload (value_of.payload p)) }
 {
     match repr {

@@ -1,13 +1,14 @@
 //! When the sockets of an interface have to be polled again.
 ghost use Rattle.std.specs.Prelude.{◌≡◌};
 ghost use Rattle.fragmentation.specs.Slots.{Slots};
-ghost use Rattle.host_machine.specs.State.Host.{SocketSet};
-ghost use Rattle.host_machine.specs.Sending.Dispatch.{HasNeighbor};
-ghost use Rattle.host_machine.specs.Polling.Due as spec;
-ghost use Rattle.host_machine.specs.Polling.Due.{IsLeast, SocketsDue};
-ghost use Rattle.iface_send.specs.Stands.{host_in};
+ghost use Rattle.host_machine.specs.Context.Host.{SocketSet};
+ghost use Rattle.host_machine.specs.Send.Hops.{HasNeighbor};
+ghost use Rattle.host_machine.specs.Sockets.Polling as spec;
+ghost use Rattle.host_machine.specs.Interface.Due.{IsLeast};
+ghost use Rattle.host_machine.specs.Sockets.Polling.{SocketsDue};
+ghost use Rattle.iface_context.specs.Stands.{host_in};
 
-use iface_send::Context;
+use iface_context::Context;
 use iface_send::hops::has_neighbor;
 use ip_wire::IpAddress;
 use net_base::time::Instant;

@@ -7,15 +7,18 @@ use Rattle.fragmentation.specs.Assembly.{Assembly}
 use Rattle.fragmentation.specs.Slots.{Slots}
 use Rattle.fragmentation.specs.Stands.{StandForSlots}
 use Rattle.host_machine.specs.declared.results.PollResult.{PollResult}
-use Rattle.host_machine.specs.State.Host.{Host, SocketSet, at}
-use Rattle.host_machine.specs.Sending.Parts.{Part, Both}
-use Rattle.host_machine.specs.Sending.Multicast.{JoinsEgress, LeavesEgress}
-use Rattle.host_machine.specs.Sending.Reports.{IgmpEgress, MldEgress}
-use Rattle.host_machine.specs.Sending.Slaac.{NdiscRsEgress}
-use Rattle.host_machine.specs.Sending.Egress.{Ipv4Egress, SocketEgress, Round, Egress, answer_of}
-use Rattle.iface_send.specs.declared.context.Context.{Context}
-use Rattle.iface_send.specs.Stands.{host_in}
-use Rattle.iface_send.specs.Refines.{StandsFor, RefinesTelling}
+use Rattle.host_machine.specs.Context.Host.{Host, SocketSet, at}
+use Rattle.host_machine.specs.Interface.Parts.{Part, Both}
+use Rattle.host_machine.specs.Multicast.Joins.{JoinsEgress, LeavesEgress}
+use Rattle.host_machine.specs.Multicast.Igmp.{IgmpEgress}
+use Rattle.host_machine.specs.Multicast.Mld.{MldEgress}
+use Rattle.host_machine.specs.Discovery.RouterSolicitation.{NdiscRsEgress}
+use Rattle.host_machine.specs.Send.Fragments.{Ipv4Egress}
+use Rattle.host_machine.specs.Sockets.Turns.{SocketEgress}
+use Rattle.host_machine.specs.Interface.Egress.{Round, Egress, answer_of}
+use Rattle.iface_context.specs.declared.context.Context.{Context}
+use Rattle.iface_context.specs.Stands.{host_in}
+use Rattle.iface_context.specs.Refines.{StandsFor, RefinesTelling}
 use Rattle.iface_send.specs.Offered.{HasPart}
 use Rattle.interface.specs.Refines.{RefinementTelling}
 

@@ -4,14 +4,14 @@ use Rattle.std.specs.Prelude.{ℤ}
 use Rattle.net_base.specs.Device.{Event, Received, Frame, Nothing, Withheld, HandsNone, WasEmpty, WasWithheld}
 use Rattle.host_machine.specs.declared.results.PollIngressSingleResult.{PollIngressSingleResult}
 use Rattle.host_machine.specs.declared.results.PollIngressSingleResult.TheVariants as result
-use Rattle.host_machine.specs.State.Host.{Host, without_expired}
-use Rattle.host_machine.specs.State.Note.{Note}
-use Rattle.host_machine.specs.Receiving.Reply.{Reply}
-use Rattle.host_machine.specs.Sending.Frame.{frames_in, sends}
-use Rattle.host_machine.specs.Receiving.Ethernet.{ProcessesFrame}
-use Rattle.host_machine.specs.Receiving.Response.{Response}
-use Rattle.host_machine.specs.Polling.Ingress.{Ingress, Takes, answer_to}
-use Rattle.iface_send.specs.Refines.{HostRefinesReplying, RefinementReplying}
+use Rattle.host_machine.specs.Context.Host.{Host, without_expired}
+use Rattle.host_machine.specs.Context.Note.{Note}
+use Rattle.host_machine.specs.Receive.Reply.{Reply}
+use Rattle.host_machine.specs.Packet.Frame.{frames_in, sends}
+use Rattle.host_machine.specs.Receive.Ethernet.{ProcessesFrame}
+use Rattle.host_machine.specs.Receive.Response.{Response}
+use Rattle.host_machine.specs.Interface.Ingress.{Ingress, Takes, answer_to}
+use Rattle.iface_context.specs.Refines.{HostRefinesReplying, RefinementReplying}
 use Rattle.interface.specs.Refines.{RefinementTelling}
 use Rattle.interface.specs.Receives.{RefinementReceiving, frames_shown}
 

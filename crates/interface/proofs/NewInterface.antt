@@ -13,13 +13,13 @@ use Rattle.ip_address.specs.Hardware.{medium_of, is_unicast}
 use Rattle.fragmentation.specs.declared.key.FragKey.{FragKey}
 use Rattle.fragmentation.specs.Assembly.{Assembly}
 use Rattle.fragmentation.specs.Stands.{StandForSlots}
-use Rattle.host_machine.specs.State.Host.{SocketSet, with_slots}
-use Rattle.iface_send.specs.declared.context.Context.{Context}
-use Rattle.iface_send.specs.Stands.{host_of}
-use Rattle.iface_send.specs.Refines.{StandsFor}
+use Rattle.host_machine.specs.Context.Host.{SocketSet, with_slots}
+use Rattle.iface_context.specs.declared.context.Context.{Context}
+use Rattle.iface_context.specs.Stands.{host_of}
+use Rattle.iface_context.specs.Refines.{StandsFor}
 use Rattle.slaac.specs.Slaac.{initial_state}
 use Rattle.iface_tables.specs.Neighbor.{first_neighbors}
-use Rattle.host_machine.specs.State.Config.{refusal_of, same_medium, first_host, first_id}
+use Rattle.host_machine.specs.Interface.Config.{refusal_of, same_medium, first_host, first_id}
 
 -- no reason to refuse holds
 pub not_refused : (c : DeviceCapabilities) (h : HardwareAddress) →

@@ -8,10 +8,10 @@ use Rattle.std.specs.declared.cmp.Ordering.TheVariants.{Less, Equal, Greater}
 use Rattle.std.specs.Ordering.{int_cmp, is_le, MatchOrdering}
 use Rattle.net_base.specs.Device.{Event}
 use Rattle.host_machine.specs.declared.results.PollResult.{PollResult}
-use Rattle.host_machine.specs.State.Host.{Host, at}
-use Rattle.host_machine.specs.State.Note.{Note}
-use Rattle.host_machine.specs.Sending.Egress.{answer_of}
-use Rattle.host_machine.specs.Polling.Polling.{Repeats, Begins, Again, Until, Spent, Done, Receives, Sends, Polls, after_maintenance}
+use Rattle.host_machine.specs.Context.Host.{Host, at}
+use Rattle.host_machine.specs.Context.Note.{Note}
+use Rattle.host_machine.specs.Interface.Egress.{answer_of}
+use Rattle.host_machine.specs.Interface.Polling.{Repeats, Begins, Again, Until, Spent, Done, Receives, Sends, Polls, after_maintenance}
 use Rattle.interface.specs.Refines.{RefinementTelling, HostRefinesTelling}
 
 le_ranked : (x t : ℤ) (o : Ordering) → MatchOrdering o (x <ℤ t) (x ≡ t) (t <ℤ x) → is_le o ≡ true → x ≤ℤ t

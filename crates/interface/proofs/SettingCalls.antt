@@ -8,10 +8,10 @@ use Rattle.group_table.specs.Groups.{done_or_full, is_refused}
 use Rattle.fragmentation.specs.declared.key.FragKey.{FragKey}
 use Rattle.fragmentation.specs.Assembly.{Assembly}
 use Rattle.fragmentation.specs.Slots.{Slots}
-use Rattle.host_machine.specs.State.Host.{Host, SocketSet, with_slots}
-use Rattle.iface_send.specs.declared.context.Context.{Context}
-use Rattle.iface_send.specs.Stands.{host_of}
-use Rattle.iface_send.specs.Refines.{StandsFor}
+use Rattle.host_machine.specs.Context.Host.{Host, SocketSet, with_slots}
+use Rattle.iface_context.specs.declared.context.Context.{Context}
+use Rattle.iface_context.specs.Stands.{host_of}
+use Rattle.iface_context.specs.Refines.{StandsFor}
 use Rattle.interface.specs.Stands.{Refinement}
 
 module _ (c c' : Context) (places : List (Assembly FragKey)) (sockets : SocketSet) (H : Host) (h : StandsFor c places sockets H) where

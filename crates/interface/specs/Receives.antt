@@ -1,10 +1,10 @@
 -- A call that gets a frame from its user, and returns the frame to send.
 use Rattle.std.specs.Prelude.{ℕ, ℤ, List, [], ◌∷◌, Option, Some, None}
 use Rattle.net_base.specs.Device.{Received, Frame}
-use Rattle.host_machine.specs.State.Note.{Note}
-use Rattle.host_machine.specs.State.Host.{Host}
-use Rattle.host_machine.specs.Sending.Frame.{sends}
-use Rattle.host_machine.specs.Polling.Ingress.{Ingress, answer_to}
+use Rattle.host_machine.specs.Context.Note.{Note}
+use Rattle.host_machine.specs.Context.Host.{Host}
+use Rattle.host_machine.specs.Packet.Frame.{sends}
+use Rattle.host_machine.specs.Interface.Ingress.{Ingress, answer_to}
 
 -- the returned frame, if there is one
 abbrev pub frames_shown : Option (List ℕ) → List (List ℕ)

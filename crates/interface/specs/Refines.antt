@@ -1,8 +1,8 @@
 -- A call of an interface as one step of the host machine.
 use Rattle.std.specs.Prelude.{List}
 use Rattle.net_base.specs.Device.{Event}
-use Rattle.host_machine.specs.State.Host.{Host}
-use Rattle.host_machine.specs.State.Note.{Note}
+use Rattle.host_machine.specs.Context.Host.{Host}
+use Rattle.host_machine.specs.Context.Note.{Note}
 
 -- what a call did: these are the device's events and the notes, and this is the host afterwards
 pub record RefinementTelling {D : Type 0} (tells : D → List Event → D → Type 0) (device device' : D)

@@ -2,12 +2,12 @@
 use Rattle.std.specs.Prelude.{List}
 use Rattle.std.specs.Borrow.{Bor}
 use Rattle.socket_set.specs.SocketSet.{Sockets}
-use Rattle.host_machine.specs.State.Host.{Host, SocketSet}
+use Rattle.host_machine.specs.Context.Host.{Host, SocketSet}
 use Rattle.iface_tables.specs.declared.route.Route.{Route}
-use Rattle.iface_send.specs.declared.context.Context.{Context}
-use Rattle.iface_send.specs.Stands.{host_of}
-use Rattle.iface_send.specs.Stands as context
-use Rattle.iface_send.specs.Refines as processed
+use Rattle.iface_context.specs.declared.context.Context.{Context}
+use Rattle.iface_context.specs.Stands.{host_of}
+use Rattle.iface_context.specs.Stands as context
+use Rattle.iface_context.specs.Refines as processed
 use Rattle.interface.specs.declared.interface.Interface.{Interface}
 
 -- the host of an interface's context with these sockets, without the contents of its slots: its buffers have no meaning

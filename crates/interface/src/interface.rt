@@ -2,14 +2,14 @@
 ghost use Rattle.std.specs.Prelude.{◌≡◌, ◌≤◌, None, false, true, not, length};
 ghost use Rattle.fragmentation.specs.Pending.{is_nil};
 ghost use Rattle.ip_address.specs.Hardware.{IsOf};
-ghost use Rattle.host_machine.specs.State.Config as config;
-ghost use Rattle.host_machine.specs.State.Config.{same_medium, hardware_refusal_of};
-ghost use Rattle.host_machine.specs.State.Host.{SocketSet, are_assignable};
-ghost use Rattle.host_machine.specs.Polling.Ingress.{Takes};
+ghost use Rattle.host_machine.specs.Interface.Config as config;
+ghost use Rattle.host_machine.specs.Interface.Config.{same_medium, hardware_refusal_of};
+ghost use Rattle.host_machine.specs.Context.Host.{SocketSet, are_assignable};
+ghost use Rattle.host_machine.specs.Interface.Ingress.{Takes};
 ghost use Rattle.net_base.specs.Device.{Frame};
 ghost use Rattle.net_base.specs.Rand.{next};
-ghost use Rattle.iface_send.specs.Refines.{HostRefinesReplying};
-ghost use Rattle.iface_send.specs.Refines as processed;
+ghost use Rattle.iface_context.specs.Refines.{HostRefinesReplying};
+ghost use Rattle.iface_context.specs.Refines as processed;
 
 use crate::polling::{poll_at, poll_result};
 use arrayvec::ArrayVec;
@@ -18,22 +18,22 @@ use host_machine::{
     AddrError, HardwareError, MulticastError, NewError, PollIngressSingleResult, PollResult,
     TimeoutError,
 };
+use iface_context::autoconfiguration::sync_slaac;
+use iface_context::context::IFACE_MAX_ADDR_COUNT;
+use iface_context::multicast::{join_group, leave_group};
+use iface_context::settings::{
+    routes_mut, set_any_ip, set_hardware_addr, set_ip_addrs, set_moment, set_neighbor_storage,
+    set_reassembly_timeout,
+};
+use iface_context::{Context, settings};
 use iface_discovery::router_solicitation::ndisc_rs_egress;
 use iface_multicast::igmp::igmp_egress;
 use iface_multicast::joins::{joins_egress, leaves_egress};
 use iface_multicast::mld::mld_egress;
 use iface_receive::ethernet::process_frame;
-use iface_send::autoconfiguration::sync_slaac;
-use iface_send::context::IFACE_MAX_ADDR_COUNT;
 use iface_send::fragments::ipv4_egress;
 use iface_send::hops::has_neighbor;
-use iface_send::multicast::{join_group, leave_group};
-use iface_send::settings::{
-    routes_mut, set_any_ip, set_hardware_addr, set_ip_addrs, set_moment, set_neighbor_storage,
-    set_reassembly_timeout,
-};
 use iface_send::transmit::send_frame;
-use iface_send::{Context, settings};
 use iface_sockets::turns::socket_egress;
 use iface_tables::neighbor::{Cache, Hints, Neighbor};
 use iface_tables::route::Routes;
@@ -86,25 +86,25 @@ impl Interface {
     ghost use Rattle.std.specs.Io.BufRead.{Rests};
     ghost use Rattle.interface.specs.Receives.{HostRefinesReceiving};
     ghost use Rattle.net_base.specs.Time.{IsMoment};
-    ghost use Rattle.host_machine.specs.State.Host.{Storage};
-    ghost use Rattle.host_machine.specs.State.Host as host;
-    ghost use Rattle.host_machine.specs.State.Addresses as addresses;
+    ghost use Rattle.host_machine.specs.Context.Host.{Storage};
+    ghost use Rattle.host_machine.specs.Context.Host as host;
+    ghost use Rattle.host_machine.specs.Context.Addresses as addresses;
     ghost use Rattle.address_selection.specs.Ipv6 as selection;
-    ghost use Rattle.host_machine.specs.State.Config.{refusal_of, first_host};
-    ghost use Rattle.host_machine.specs.Polling.Ingress.{Ingress};
+    ghost use Rattle.host_machine.specs.Interface.Config.{refusal_of, first_host};
+    ghost use Rattle.host_machine.specs.Interface.Ingress.{Ingress};
     ghost use Rattle.std.specs.Prelude.{ℤ};
     ghost use Rattle.std.specs.Borrow.{Bor};
     ghost use Rattle.socket_set.specs.SocketSet.{Sockets};
     ghost use Rattle.host_machine.specs.Laws.Real.{IsRegular};
-    ghost use Rattle.host_machine.specs.State.Host.{Host, at, without_expired};
-    ghost use Rattle.host_machine.specs.Sending.Egress.{Egress};
-    ghost use Rattle.host_machine.specs.Sending.Dispatch.{HasNeighbor};
-    ghost use Rattle.host_machine.specs.Sending.Multicast.{JoinsGroup, LeavesGroup};
-    ghost use Rattle.host_machine.specs.Polling.Polling.{Polls, Receives, Sends, after_maintenance};
-    ghost use Rattle.host_machine.specs.Polling.Due.{Due, IsLeast, IsRest};
-    ghost use Rattle.host_machine.specs.Polling.Step.{UpdatesIpAddrs, SetsHardwareAddr, SetsReassemblyTimeout};
-    ghost use Rattle.iface_send.specs.contracts.context.Context.{the_row as context_row};
-    ghost use Rattle.iface_send.specs.Stands.{Addresses, host_of};
+    ghost use Rattle.host_machine.specs.Context.Host.{Host, at, without_expired};
+    ghost use Rattle.host_machine.specs.Interface.Egress.{Egress};
+    ghost use Rattle.host_machine.specs.Send.Hops.{HasNeighbor};
+    ghost use Rattle.host_machine.specs.Multicast.Joins.{JoinsGroup, LeavesGroup};
+    ghost use Rattle.host_machine.specs.Interface.Polling.{Polls, Receives, Sends, after_maintenance};
+    ghost use Rattle.host_machine.specs.Interface.Due.{Due, IsLeast, IsRest};
+    ghost use Rattle.host_machine.specs.Interface.Step.{UpdatesIpAddrs, SetsHardwareAddr, SetsReassemblyTimeout};
+    ghost use Rattle.iface_context.specs.contracts.context.Context.{the_row as context_row};
+    ghost use Rattle.iface_context.specs.Stands.{Addresses, host_of};
     ghost use Rattle.std.specs.Borrow.{sem, Lends};
     ghost use Rattle.iface_tables.specs.contracts.route.Routes.{the_row as routes_row};
     ghost use Rattle.interface.specs.contracts.interface.Interface.{the_row};

@@ -1,14 +1,14 @@
 //! When an interface has to be polled again.
 ghost use Rattle.std.specs.Prelude.{◌≡◌};
 ghost use Rattle.fragmentation.specs.Slots.{Slots};
-ghost use Rattle.host_machine.specs.Polling.Due.{Due, IsLeast};
-ghost use Rattle.host_machine.specs.Sending.Egress.{answer_of};
-ghost use Rattle.iface_send.specs.Stands.{host_in};
+ghost use Rattle.host_machine.specs.Interface.Due.{Due, IsLeast};
+ghost use Rattle.host_machine.specs.Interface.Egress.{answer_of};
+ghost use Rattle.iface_context.specs.Stands.{host_in};
 
 use host_machine::PollResult;
+use iface_context::Context;
 use iface_discovery::polling::routers_poll_at;
 use iface_multicast::polling::groups_poll_at;
-use iface_send::Context;
 use iface_send::fragments::piece_poll_at;
 use iface_sockets::polling::sockets_poll_at;
 use net_base::time::Instant;

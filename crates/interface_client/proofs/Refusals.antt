@@ -8,9 +8,9 @@ use Rattle.host_machine.specs.declared.results.AddrError.{AddrError}
 use Rattle.host_machine.specs.declared.results.AddrError.TheVariants as addr_error
 use Rattle.host_machine.specs.declared.results.MulticastError.{MulticastError}
 use Rattle.host_machine.specs.declared.results.MulticastError.TheVariants as multicast_error
-use Rattle.host_machine.specs.State.Host.{Host, are_assignable}
-use Rattle.host_machine.specs.Polling.Step.{UpdatesIpAddrs, Accepted, Refused}
-use Rattle.host_machine.specs.Sending.Multicast.{JoinsGroup, NoGroup, NoPlace, JoinTaken}
+use Rattle.host_machine.specs.Context.Host.{Host, are_assignable}
+use Rattle.host_machine.specs.Interface.Step.{UpdatesIpAddrs, Accepted, Refused}
+use Rattle.host_machine.specs.Multicast.Joins.{JoinsGroup, NoGroup, NoPlace, JoinTaken}
 
 not_both : true ≡ false → ⊥
 not_both e = cc

@@ -8,11 +8,11 @@
 pub mod traced;
 
 ghost use Rattle.std.specs.Prelude.{◌≡◌, false, true, Err};
-ghost use Rattle.host_machine.specs.State.Host.{SocketSet, are_assignable};
+ghost use Rattle.host_machine.specs.Context.Host.{SocketSet, are_assignable};
 ghost use Rattle.ip_address.specs.Ip.{is_multicast};
 ghost use Rattle.host_machine.specs.declared.results.AddrError.TheVariants as addr_error;
 ghost use Rattle.host_machine.specs.declared.results.MulticastError.TheVariants as multicast_error;
-ghost use Rattle.host_machine.specs.Polling.Step.{UpdatesIpAddrs};
+ghost use Rattle.host_machine.specs.Interface.Step.{UpdatesIpAddrs};
 ghost use Rattle.interface.specs.Stands.{host_with, HostRefines};
 
 use arrayvec::ArrayVec;

@@ -5,13 +5,13 @@ use Rattle.std.specs.List.{AllByRecursion, slice_get}
 use Rattle.net_base.specs.Device.{handed_frames, sent_frames}
 use Rattle.net_base.proofs.KeptFrames.{frames_are_kept}
 use Rattle.host_machine.specs.Laws.Real.{IsRegular}
-use Rattle.host_machine.specs.State.Host.{Host}
-use Rattle.host_machine.specs.Polling.Step.{Step}
-use Rattle.host_machine.specs.Polling.Run.{Transition, Run, Ends, Then, events_in}
+use Rattle.host_machine.specs.Context.Host.{Host}
+use Rattle.host_machine.specs.Interface.Step.{Step}
+use Rattle.host_machine.specs.Interface.Run.{Transition, Run, Ends, Then, events_in}
 use Rattle.host_machine.proofs.Runs.Walk.{sent_frames-append}
-use Rattle.host_machine.proofs.Receiving.SlotEffects.{handed_frames-append}
-use Rattle.host_machine.proofs.Receiving.Pieces.{IsIn, contains_in, in_left, in_right}
-use Rattle.host_machine.proofs.Polling.RunConcatenation.{run_laws}
+use Rattle.host_machine.proofs.Receive.SlotEffects.{handed_frames-append}
+use Rattle.host_machine.proofs.Receive.Pieces.{IsIn, contains_in, in_left, in_right}
+use Rattle.host_machine.proofs.Interface.RunConcatenation.{run_laws}
 use Rattle.host_laws.specs.Network.{IsHost, SendsBySockets, SentBySome, WereSentBySome}
 use Rattle.interface.specs.Stands.{StandsFor}
 use Rattle.host.specs.declared.link.Host.{Host as Linked}

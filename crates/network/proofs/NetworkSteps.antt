@@ -10,8 +10,8 @@ use Rattle.net_base.specs.MemoryDevice.{Tells}
 use Rattle.host_machine.specs.declared.command.Command.{Command}
 use Rattle.host_machine.specs.declared.command.Command.TheVariants.{PollIngressSingle}
 use Rattle.host_machine.specs.declared.command.Answer.{Answer}
-use Rattle.host_machine.specs.State.Host.{Host}
-use Rattle.host_machine.specs.Polling.Run.{Transition}
+use Rattle.host_machine.specs.Context.Host.{Host}
+use Rattle.host_machine.specs.Interface.Run.{Transition}
 use Rattle.interface.specs.Stands.{StandsFor}
 use Rattle.host.specs.Commands.{HostRefinesCommand}
 use Rattle.host.specs.declared.link.Host.{Host as Linked}

@@ -4,7 +4,7 @@ ghost use Rattle.std.specs.Prelude.{Some, None, Err, IfOk, OnOk, OnErr, IfErr, M
 ghost use Rattle.std.specs.Result.{IsErrOf};
 ghost use Rattle.std.specs.VecDeque.{deque_len, deque_capacity};
 ghost use Rattle.net_base.specs.Time.{IsMoment};
-ghost use Rattle.host_machine.specs.Polling.Step.{IsTimely};
+ghost use Rattle.host_machine.specs.Interface.Step.{IsTimely};
 ghost use Rattle.network.specs.Network.{Acted, Runs, HandsOver, TakesIn, Forgets, NetworkGoes, NetworksJoin, host_taken};
 ghost use Rattle.network.specs.Kept.{sent_of, wire_of};
 ghost use Rattle.network.specs.Network.{frame_at, host_with_frame, network_of, transmission_at};

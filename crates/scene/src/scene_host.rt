@@ -1,7 +1,7 @@
 //! A host over a device in memory. What is refused for want of memory is asked for again, so that each
 //! script runs where any one request for memory is refused.
 ghost use Rattle.std.specs.Prelude.{◌≡◌, length, All};
-ghost use Rattle.host_machine.specs.Polling.Step.{IsTimely};
+ghost use Rattle.host_machine.specs.Interface.Step.{IsTimely};
 
 use host::drive::{Owner, drive};
 use interface::{
@@ -81,7 +81,7 @@ pub struct Host {
 
 impl Host {
     ghost use Rattle.std.specs.Prelude.{◌≡◌, length, All};
-    ghost use Rattle.host_machine.specs.Polling.Step.{IsTimely};
+    ghost use Rattle.host_machine.specs.Interface.Step.{IsTimely};
 
     /// A host without addresses and sockets. The first packet that it sends has identification 7.
     pub fn new(

@@ -39,7 +39,7 @@
 //! - `receive T FRAME` `= FRAME`, `none`: a frame is handed over, and this one is shown
 //! - `udp PORT`, `icmp IDENT`, `raw PROTOCOL`, `tcp PORT` ..: a socket: see `kinds`
 
-ghost use Rattle.host_machine.specs.Polling.Step.{IsTimely};
+ghost use Rattle.host_machine.specs.Interface.Step.{IsTimely};
 
 use crate::frames::{Octets, frame};
 use crate::scene_host::{ETHERNET, Host, IP, OWN};

@@ -2,7 +2,7 @@
 use Rattle.std.specs.Prelude.{ℕ, ◌≡◌, [], ◌∷◌}
 use Rattle.net_base.specs.MemoryDevice.{Tells}
 use Rattle.interface.specs.Stands as interface
-use Rattle.host_machine.specs.State.Host.{Host as Machine, SocketSet}
+use Rattle.host_machine.specs.Context.Host.{Host as Machine, SocketSet}
 use Rattle.host_machine.specs.declared.command.Answer.{Answer}
 use Rattle.host.specs.Driven.{Driven}
 use Rattle.script.specs.Commands.{command_of, moment_after}

@@ -4,7 +4,7 @@ ghost use Rattle.std.specs.Prelude.{Ok, Some, IfNone, IfSome, IsSome, MatchOptio
 ghost use Rattle.std.specs.List.{before_first, after_first, position_or_len};
 ghost use Rattle.hex.specs.Hex.{decode_of};
 ghost use Rattle.net_base.specs.Time.{IsMoment};
-ghost use Rattle.host_machine.specs.Polling.Step.{IsTimely};
+ghost use Rattle.host_machine.specs.Interface.Step.{IsTimely};
 ghost use Rattle.script.specs.Commands.{IsTimelyLine};
 ghost use Rattle.script.specs.Commands as commands;
 ghost use Rattle.script.specs.Hex.{IsHexUpTo};
@@ -55,7 +55,7 @@ pub enum Call {
 impl Call {
     ghost use Rattle.std.specs.Prelude.{◌≡◌};
     ghost use Rattle.net_base.specs.Time.{IsMoment};
-    ghost use Rattle.host_machine.specs.Polling.Step.{IsTimely};
+    ghost use Rattle.host_machine.specs.Interface.Step.{IsTimely};
     ghost use Rattle.script.specs.Commands.{IsTimelyCall, command_of, moment_after};
 
     /// The moment last given after the call: its own, if it gives one, otherwise the one before.

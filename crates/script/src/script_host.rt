@@ -1,6 +1,6 @@
 //! The host that a script runs.
 ghost use Rattle.std.specs.Prelude.{◌≡◌, OnOk, OnErr, Some, IfErr};
-ghost use Rattle.host_machine.specs.State.Config.{refusal_of};
+ghost use Rattle.host_machine.specs.Interface.Config.{refusal_of};
 ghost use Rattle.net_base.specs.Time.{IsMoment};
 ghost use Rattle.socket_set.specs.SocketSet.{set_after_add};
 ghost use Rattle.sockets.specs.declared.socket.SocketOf.TheVariants.{Udp};

@@ -10,8 +10,8 @@ use Rattle.net_base.specs.declared.phy.Medium.{Medium}
 use Rattle.ip_address.specs.Protocol.{number_of}
 use Rattle.ip_wire.specs.IpPacket.{next_header}
 use Rattle.network_sockets.specs.Raw.{RawSocket, Sent, packet_in, if_spoken}
-use Rattle.host_machine.specs.State.Host.{Host}
-use Rattle.host_machine.specs.Polling.Run.{Transition}
+use Rattle.host_machine.specs.Context.Host.{Host}
+use Rattle.host_machine.specs.Interface.Run.{Transition}
 use Rattle.host_laws.specs.Network.{Runs}
 use Rattle.host_laws.specs.RawArrivals.{RawArrival}
 use Rattle.host_laws.specs.RawPackets.{IsLeftToSockets, SendsByRaw, GetsRaw, WasSentIf, WasSentRawBySome}

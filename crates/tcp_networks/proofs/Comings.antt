@@ -1,7 +1,7 @@
 -- What comes to a connection on a network was sent in a life.
 use Rattle.std.proofs.Common.{◌∙◌, ℕ, Bool, List, sym, ap}
 use Rattle.ip_address.specs.declared.cidr.IpCidr.{IpCidr}
-use Rattle.host_machine.specs.State.Host.{Host, SocketSet}
+use Rattle.host_machine.specs.Context.Host.{Host, SocketSet}
 use Rattle.tcp_machine.specs.Segments as machine
 use Rattle.tcp_host.specs.declared.iss.Endpoints.{Endpoints}
 use Rattle.tcp_packets.specs.Again.{reversed}

@@ -11,16 +11,16 @@ use Rattle.net_base.specs.declared.phy.Medium.{Medium}
 use Rattle.ip_address.specs.Protocol.{number_of}
 use Rattle.ip_wire.specs.IpPacket.{next_header}
 use Rattle.network_sockets.specs.Raw.{Sent as Packet, packet_in}
-use Rattle.host_machine.specs.State.Host.{Host, SocketSet}
-use Rattle.host_machine.specs.Polling.Run.{Transition, Run, Ends, Then, events_in}
-use Rattle.host_machine.proofs.Polling.SingleCalls.{events_in-append}
-use Rattle.host_machine.proofs.Receiving.SlotEffects.{handed_frames-append}
+use Rattle.host_machine.specs.Context.Host.{Host, SocketSet}
+use Rattle.host_machine.specs.Interface.Run.{Transition, Run, Ends, Then, events_in}
+use Rattle.host_machine.proofs.Interface.SingleCalls.{events_in-append}
+use Rattle.host_machine.proofs.Receive.SlotEffects.{handed_frames-append}
 use Rattle.host_laws.specs.Network.{SentBySome, WereSentBySome}
 use Rattle.host_laws.specs.RawPackets.{SendsByRaw}
 use Rattle.host_laws.specs.RawTcp.{SendsTcpByRaw, SpeaksTcpByRaw}
 use Rattle.host_laws.proofs.DatagramOrigin.{all_parted}
 use Rattle.host_laws.proofs.RawTcp.{networks_speak_tcp_by_raw}
-use Rattle.host_machine.proofs.Sending.GrantedEgress.{sent_frames-append}
+use Rattle.host_machine.proofs.Interface.GrantedEgress.{sent_frames-append}
 use Rattle.tcp_packets.specs.Again.{AreEnds}
 use Rattle.tcp_runs.specs.Lives.{Life, Event as Happens, after_event, after_events}
 use Rattle.tcp_runs.specs.Turns.{WasSent}

@@ -7,8 +7,8 @@ use Rattle.ip_address.specs.Protocol.{number_of}
 use Rattle.ip_address.specs.declared.protocol.IpProtocol.{IpProtocol}
 use Rattle.ip_wire.specs.IpPacket.{version_of, next_header}
 use Rattle.network_sockets.specs.Raw.{RawSocket, accepts, socket_after_delivery}
-use Rattle.host_machine.specs.State.Host.{Host, SocketSet}
-use Rattle.host_machine.specs.Polling.Run.{Transition, Run, Ends, Then}
+use Rattle.host_machine.specs.Context.Host.{Host, SocketSet}
+use Rattle.host_machine.specs.Interface.Run.{Transition, Run, Ends, Then}
 use Rattle.host_laws.specs.Network.{Runs}
 use Rattle.host_laws.specs.RawArrivals.{RawArrival, raw_at, receiver_at, without_sending, with_arrivals, socket_after_arrival}
 use Rattle.host_laws.specs.RawPackets.{GetsRaw}

@@ -18,13 +18,13 @@ use Rattle.ip_wire.specs.Ipv4Packet.{front, back, header_with}
 use Rattle.ipv6_wire.specs.declared.ipv6_packet.Ipv6Repr.{Ipv6Repr}
 use Rattle.ipv6_wire.specs.Ipv6Packet as ipv6
 use Rattle.network_sockets.specs.Raw as raw
-use Rattle.host_machine.proofs.Receiving.FrameReading.{number_again}
+use Rattle.host_machine.proofs.Receive.FrameReading.{number_again}
 use Rattle.network_sockets.specs.Raw.{RawSocket, Sent as Packet, packet_in, stored_packet, accepts, is_same_version, socket_after_delivery}
 use Rattle.socket_base.specs.Queue.{is_room}
 use Rattle.fragmentation.specs.Reassembly.{SlotNote}
-use Rattle.host_machine.specs.State.Host.{Host, SocketSet}
-use Rattle.host_machine.specs.State.Note.{slot_notes}
-use Rattle.host_machine.specs.Polling.Run.{Transition, Run, Ends, Then}
+use Rattle.host_machine.specs.Context.Host.{Host, SocketSet}
+use Rattle.host_machine.specs.Context.Note.{slot_notes}
+use Rattle.host_machine.specs.Interface.Run.{Transition, Run, Ends, Then}
 use Rattle.host_laws.specs.Datagrams.{host_at_command}
 use Rattle.host_laws.specs.Network.{Runs}
 use Rattle.host_laws.specs.RawArrivals.{RawArrival, raw_at, receiver_at, without_sending, with_arrivals, socket_after_arrival}

@@ -5,7 +5,7 @@ use Rattle.net_base.specs.Checksum.{is_tx}
 use Rattle.ip_address.specs.Protocol.{number_of}
 use Rattle.ip_wire.specs.IpPacket.{next_header}
 use Rattle.network_sockets.specs.Raw.{RawSocket, Sent as Packet, packet_in}
-use Rattle.host_machine.specs.State.Host.{SocketSet}
+use Rattle.host_machine.specs.Context.Host.{SocketSet}
 use Rattle.host_laws.specs.RawArrivals.{raw_at}
 use Rattle.tcp_runs.specs.Lives.{Tells}
 use Rattle.tcp_networks.specs.Stations.{Station}

@@ -4,8 +4,8 @@ use Rattle.std.specs.List.{AllByRecursion, Contains, slice_get}
 use Rattle.net_base.specs.Device.{handed_frames}
 use Rattle.net_base.specs.declared.phy.Medium.{Medium}
 use Rattle.ip_address.specs.declared.cidr.IpCidr.{IpCidr}
-use Rattle.host_machine.specs.State.Host.{Host}
-use Rattle.host_machine.specs.Polling.Run.{Transition}
+use Rattle.host_machine.specs.Context.Host.{Host}
+use Rattle.host_machine.specs.Interface.Run.{Transition}
 use Rattle.host_laws.specs.Network.{SentBySome, IsHost}
 use Rattle.host_laws.specs.RawTcp.{SendsTcpByRaw}
 use Rattle.tcp_host.specs.declared.iss.Endpoints.{Endpoints}

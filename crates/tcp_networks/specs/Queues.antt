@@ -4,8 +4,8 @@ use Rattle.std.specs.List.{AllByRecursion}
 use Rattle.net_base.specs.Checksum.{is_tx}
 use Rattle.ip_address.specs.Protocol.{number_of}
 use Rattle.network_sockets.specs.Raw.{RawSocket}
-use Rattle.host_machine.specs.State.Host.{Host, SocketSet}
-use Rattle.host_machine.specs.Polling.Run.{Transition, Run}
+use Rattle.host_machine.specs.Context.Host.{Host, SocketSet}
+use Rattle.host_machine.specs.Interface.Run.{Transition, Run}
 use Rattle.host_laws.specs.Network.{Runs}
 use Rattle.host_laws.specs.RawArrivals.{raw_at}
 use Rattle.host_laws.specs.RawPackets.{GetsRaw}

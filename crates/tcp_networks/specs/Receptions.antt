@@ -10,8 +10,8 @@ use Rattle.ip_wire.specs.Ipv4Packet.{IsIpv4, ipv4_in, is_fragment}
 use Rattle.network_sockets.specs.Raw.{RawSocket, Sent as Packet, packet_in}
 use Rattle.host_machine.specs.Laws.Frames.{Carries}
 use Rattle.host_machine.specs.Laws.Real.{IsReal}
-use Rattle.host_machine.specs.Polling.Run.{Transition, Run}
-use Rattle.host_machine.specs.State.Host.{Host, SocketSet}
+use Rattle.host_machine.specs.Interface.Run.{Transition, Run}
+use Rattle.host_machine.specs.Context.Host.{Host, SocketSet}
 use Rattle.host_laws.specs.Datagrams.{host_at_command}
 use Rattle.host_laws.specs.Network.{Runs, IsHost, WereSentBySome}
 use Rattle.host_laws.specs.RawArrivals.{raw_at}

@@ -1,9 +1,9 @@
 -- A host with its connections, in its run.
 use Rattle.std.specs.Prelude.{◌≡◌, List, [], ◌∷◌}
 use Rattle.ip_address.specs.declared.cidr.IpCidr.{IpCidr}
-use Rattle.host_machine.specs.State.Host.{SocketSet}
-use Rattle.host_machine.specs.Polling.Run.{Transition}
-use Rattle.host_machine.specs.Polling.Step.{Act}
+use Rattle.host_machine.specs.Context.Host.{SocketSet}
+use Rattle.host_machine.specs.Interface.Run.{Transition}
+use Rattle.host_machine.specs.Interface.Step.{Act}
 use Rattle.tcp_streams.specs.Host.{Host as Connections}
 use Rattle.tcp_sockets.specs.Polls.{Carrier, state}
 use Rattle.tcp_runs.specs.Lives.{Life, Event, after_events}

@@ -2,9 +2,9 @@
 use Rattle.std.proofs.Common.{[], ◌∷◌, drop, refl, inl, arith, Some, None, false, lit≤}
 use Rattle.std.specs.Prelude.{pos}
 use Rattle.ip_wire.specs.Arp.{ipv4_over_ethernet, arp_in}
-use Rattle.host_machine.specs.Receiving.Reply.{Arp}
-use Rattle.host_machine.specs.Receiving.Arp.{Learnt, reply_to}
-use Rattle.host_machine.specs.Receiving.Ethernet.{Accepted}
+use Rattle.host_machine.specs.Receive.Reply.{Arp}
+use Rattle.host_machine.specs.Discovery.Arp.{Learnt, reply_to}
+use Rattle.host_machine.specs.Receive.Ethernet.{Accepted}
 use Rattle.std.specs.FinMap.{len-empty}
 use Rattle.net_base.specs.Device.{Frame, Nothing, Received}
 use Rattle.ip_address.specs.Ip.{address_cmp}
@@ -12,11 +12,12 @@ use Rattle.iface_tables.specs.declared.neighbor.Neighbor.{Neighbor}
 use Rattle.host_machine.specs.Examples.ArpAndEcho as example
 use Rattle.host_machine.specs.declared.results.PollIngressSingleResult.TheVariants as ingress
 use Rattle.host_machine.specs.declared.results.PollResult.TheVariants as poll
-use Rattle.host_machine.specs.Polling.Ingress.{Ingress}
-use Rattle.host_machine.specs.Sending.Egress.{Egress, Begins, Whole}
+use Rattle.host_machine.specs.Interface.Ingress.{Ingress}
+use Rattle.host_machine.specs.Interface.Egress.{Egress}
+use Rattle.host_machine.specs.Sockets.Turns.{Begins, Whole}
 use Rattle.host_machine.specs.Examples.ArpAndEcho.{RequestIsAnswered}
 use Rattle.host_machine.proofs.Examples.Exchange.{no_slots}
-use Rattle.host_machine.proofs.Sending.RoundWithoutPieces.{no_piece}
+use Rattle.host_machine.proofs.Interface.RoundWithoutPieces.{no_piece}
 
 pub request_answered : RequestIsAnswered
 unfolding ipv4_over_ethernet

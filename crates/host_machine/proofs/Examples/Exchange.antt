@@ -9,7 +9,7 @@ use Rattle.iface_tables.specs.declared.neighbor.Answer.TheVariants.{Found, NotFo
 use Rattle.iface_tables.specs.Neighbor.{answer_of, after_renewal}
 use Rattle.iface_tables.proofs.NeighborLemmas.{address_total}
 use Rattle.fragmentation.specs.Slots.{live_at}
-use Rattle.host_machine.proofs.State.Keys.{get-live_at, key_exact, key_total}
+use Rattle.host_machine.proofs.Receive.Keys.{get-live_at, key_exact, key_total}
 use Rattle.host_machine.specs.Examples.ArpAndEcho.{sender, sender_hardware, neighbors_with_sender, neighbors_after_renewal, no_neighbors}
 use Rattle.host_machine.specs.Examples.Ipv6 as ipv6
 

@@ -12,19 +12,19 @@ use Rattle.icmpv6_wire.specs.Icmpv6.{Neighbor as Message}
 use Rattle.icmpv6_wire.specs.NdiscOption.{IsOption, last_of, options_from}
 use Rattle.control_wire.specs.Icmpv4.{Reply as EchoReplied}
 use Rattle.fragmentation.specs.Slots.{live_at}
-use Rattle.host_machine.specs.State.Host.{Host, with_slots, without_expired}
-use Rattle.host_machine.specs.Receiving.Reply.{IsDropped}
-use Rattle.host_machine.specs.Polling.Ingress.{Takes, answer_to}
+use Rattle.host_machine.specs.Context.Host.{Host, with_slots, without_expired}
+use Rattle.host_machine.specs.Receive.Reply.{IsDropped}
+use Rattle.host_machine.specs.Interface.Ingress.{Takes, answer_to}
 use Rattle.host_machine.specs.declared.results.PollIngressSingleResult.TheVariants as result
-use Rattle.host_machine.specs.Receiving.Ethernet as ethernet
-use Rattle.host_machine.specs.Receiving.Arp as arp
-use Rattle.host_machine.specs.Receiving.Ipv4 as ipv4
-use Rattle.host_machine.specs.Receiving.Icmpv4 as icmpv4
-use Rattle.host_machine.specs.Receiving.Icmpv6 as icmpv6
-use Rattle.host_machine.specs.Receiving.Ipv6 as ipv6
-use Rattle.host_machine.specs.Receiving.Ndisc as ndisc
-use Rattle.host_machine.specs.Receiving.Tcp as tcp
-use Rattle.host_machine.specs.Receiving.Udp as udp
+use Rattle.host_machine.specs.Receive.Ethernet as ethernet
+use Rattle.host_machine.specs.Discovery.Arp as arp
+use Rattle.host_machine.specs.Receive.Ipv4 as ipv4
+use Rattle.host_machine.specs.Icmp.Icmpv4 as icmpv4
+use Rattle.host_machine.specs.Icmp.Icmpv6 as icmpv6
+use Rattle.host_machine.specs.Receive.Ipv6 as ipv6
+use Rattle.host_machine.specs.Discovery.Ndisc as ndisc
+use Rattle.host_machine.specs.Sockets.Tcp as tcp
+use Rattle.host_machine.specs.Sockets.Udp as udp
 use Rattle.host_machine.specs.Examples.Fragments.{waiting_host}
 use Rattle.host_machine.specs.Examples.Ignored as turned
 use Rattle.host_machine.specs.Examples.Ignored.{IsIgnored, TurnedFramesAreIgnored}

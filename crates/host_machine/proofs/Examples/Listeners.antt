@@ -1,7 +1,7 @@
 -- Who takes what in the worked examples with sockets.
 use Rattle.std.proofs.Common.{◌≡◌, ℕ, zero, suc, ◌<◌, Bool, false, List, [], ◌∷◌, slice_get, Some, None, arith}
-use Rattle.host_machine.specs.State.Host.{Storage}
-use Rattle.host_machine.specs.Receiving.Delivery.{NoneAccepts}
+use Rattle.host_machine.specs.Context.Host.{Storage}
+use Rattle.host_machine.specs.Sockets.Delivery.{NoneAccepts}
 
 -- a place before the second one is the first
 pub first_is_free : (test : Storage → Bool) (places : List Storage) → test None ≡ false → (k : ℕ) (other : Storage) →

@@ -10,9 +10,9 @@ use Rattle.fragmentation.specs.Slots.{Slot, Slots, has_ended, live_at}
 use Rattle.fragmentation.specs.Cuts.{piece_at}
 use Rattle.host_machine.specs.Examples.ArpAndEcho.{host, no_neighbors}
 use Rattle.host_machine.specs.Examples.Fragments.{key, ten, one, two, waiting_slot}
-use Rattle.host_machine.proofs.Receiving.FewFragments.{few_kept}
-use Rattle.host_machine.proofs.State.Keys.{get-live_at, key_exact, key_total}
-use Rattle.host_machine.proofs.Receiving.Pieces.{IsIn, all_got, parts_of, complete}
+use Rattle.host_machine.proofs.Receive.FewFragments.{few_kept}
+use Rattle.host_machine.proofs.Receive.Keys.{get-live_at, key_exact, key_total}
+use Rattle.host_machine.proofs.Receive.Pieces.{IsIn, all_got, parts_of, complete}
 
 pub first_got : with_one no_fragments one ≡ waiting_slot.got
 first_got = rw (few_kept [] one (lit≤ tt)) refl

@@ -7,49 +7,49 @@ use Rattle.host_machine.specs.declared.command.Command.{Command}
 use Rattle.host_machine.specs.declared.command.Answer.{Answer}
 use Rattle.host_machine.specs.declared.results.PollIngressSingleResult.{PollIngressSingleResult}
 use Rattle.host_machine.specs.declared.results.PollResult.{PollResult}
-use Rattle.host_machine.specs.State.Note.{Note}
-use Rattle.host_machine.specs.State.Host.{Host}
-use Rattle.host_machine.specs.Sending.Egress.{Egress}
-use Rattle.host_machine.specs.Polling.Ingress.{Ingress}
-use Rattle.host_machine.specs.Polling.Step.{Act, Step}
-use Rattle.host_machine.specs.Polling.Step as step
-use Rattle.host_machine.specs.Polling.Run.{Transition, Run, Ends, Then}
+use Rattle.host_machine.specs.Context.Note.{Note}
+use Rattle.host_machine.specs.Context.Host.{Host}
+use Rattle.host_machine.specs.Interface.Egress.{Egress}
+use Rattle.host_machine.specs.Interface.Ingress.{Ingress}
+use Rattle.host_machine.specs.Interface.Step.{Act, Step}
+use Rattle.host_machine.specs.Interface.Step as step
+use Rattle.host_machine.specs.Interface.Run.{Transition, Run, Ends, Then}
 use Rattle.host_machine.specs.Laws.Calls.{IsCallOf, IsEgress, IsIngress, IsMadeOfCalls, KeepsCallLaws}
 use Rattle.host_machine.specs.Laws.Restraint.Readings.{Receives}
 use Rattle.host_machine.specs.Laws.Calls.{IsRestrained}
-use Rattle.host_machine.proofs.Receiving.ClosedTcpPorts.{ports_reset}
-use Rattle.host_machine.proofs.Receiving.DatagramDelivery.{datagrams_queued, ports_told}
-use Rattle.host_machine.proofs.Receiving.DatagramDeliveryV6.{datagrams_v6_queued, ports_v6_told}
-use Rattle.host_machine.proofs.Receiving.EchoReplies.{replies_queued, replies_v6_queued}
-use Rattle.host_machine.proofs.Receiving.ForeignFrames.{foreign_dropped, foreign_v6_dropped, frames_for_others_dropped}
-use Rattle.host_machine.proofs.Receiving.ForeignFrames.{unheard, unheard_v6}
-use Rattle.host_machine.proofs.Receiving.FrameReplies.{arp_served, arp_teaches, pings_served}
-use Rattle.host_machine.proofs.Receiving.FrameRepliesV6.{advertisers_learnt, pings_v6_served, solicitations_served}
-use Rattle.host_machine.proofs.Receiving.LearntNeighbors.{neighbors_came}
-use Rattle.host_machine.proofs.Receiving.ManyDelivery.{many_queued}
-use Rattle.host_machine.proofs.Receiving.RebuiltDelivery.{rebuilt_queued}
-use Rattle.host_machine.proofs.Receiving.RebuiltPings.{long_pings_served, rebuilt_pings_served}
-use Rattle.host_machine.proofs.Receiving.Advertisements.{advertisements_learnt}
-use Rattle.host_machine.proofs.Receiving.HeardQueries.{queries_heard}
-use Rattle.host_machine.proofs.Receiving.UnknownProtocols.{options_told, unknown_told}
-use Rattle.host_machine.proofs.Receiving.ReplyLaws.{advert_told, arp_told, echoes_caused, echoes_v6_caused, errors_caused, errors_v6_caused}
-use Rattle.host_machine.proofs.Receiving.ReplyLaws.{kinds_of_replies, resets_caused}
-use Rattle.host_machine.proofs.Receiving.SettingChanges.{frames_keep, reports_asked}
-use Rattle.host_machine.proofs.Receiving.SocketDelivery.{raw_packets_queued, segments_queued}
-use Rattle.host_machine.proofs.Receiving.WrongRebuilt.{rebuilt_dropped}
-use Rattle.host_machine.proofs.Receiving.WrongSums.{headers_dropped, payloads_dropped, payloads_v6_dropped}
+use Rattle.host_machine.proofs.Sockets.ClosedTcpPorts.{ports_reset}
+use Rattle.host_machine.proofs.Sockets.DatagramDelivery.{datagrams_queued, ports_told}
+use Rattle.host_machine.proofs.Sockets.DatagramDeliveryV6.{datagrams_v6_queued, ports_v6_told}
+use Rattle.host_machine.proofs.Icmp.EchoReplies.{replies_queued, replies_v6_queued}
+use Rattle.host_machine.proofs.Receive.ForeignFrames.{foreign_dropped, foreign_v6_dropped, frames_for_others_dropped}
+use Rattle.host_machine.proofs.Receive.ForeignFrames.{unheard, unheard_v6}
+use Rattle.host_machine.proofs.Receive.FrameReplies.{arp_served, arp_teaches, pings_served}
+use Rattle.host_machine.proofs.Receive.FrameRepliesV6.{advertisers_learnt, pings_v6_served, solicitations_served}
+use Rattle.host_machine.proofs.Discovery.LearntNeighbors.{neighbors_came}
+use Rattle.host_machine.proofs.Sockets.ManyDelivery.{many_queued}
+use Rattle.host_machine.proofs.Sockets.RebuiltDelivery.{rebuilt_queued}
+use Rattle.host_machine.proofs.Icmp.RebuiltPings.{long_pings_served, rebuilt_pings_served}
+use Rattle.host_machine.proofs.Discovery.Advertisements.{advertisements_learnt}
+use Rattle.host_machine.proofs.Multicast.HeardQueries.{queries_heard}
+use Rattle.host_machine.proofs.Receive.UnknownProtocols.{options_told, unknown_told}
+use Rattle.host_machine.proofs.Receive.ReplyLaws.{advert_told, arp_told, echoes_caused, echoes_v6_caused, errors_caused, errors_v6_caused}
+use Rattle.host_machine.proofs.Receive.ReplyLaws.{kinds_of_replies, resets_caused}
+use Rattle.host_machine.proofs.Receive.SettingChanges.{frames_keep, reports_asked}
+use Rattle.host_machine.proofs.Sockets.SocketDelivery.{raw_packets_queued, segments_queued}
+use Rattle.host_machine.proofs.Receive.WrongRebuilt.{rebuilt_dropped}
+use Rattle.host_machine.proofs.Receive.WrongSums.{headers_dropped, payloads_dropped, payloads_v6_dropped}
 use Rattle.host_machine.proofs.Runs.DueReports.{due_reports_go}
 use Rattle.host_machine.proofs.Runs.OwnSources.{sources_own}
 use Rattle.host_machine.proofs.Runs.FramesOfCalls.{ingress_frames, sends_in_order}
 use Rattle.host_machine.proofs.Runs.RequestsWhileWaiting.{requests_go}
-use Rattle.host_machine.proofs.Sending.DueWork.{due_done, pieces_go}
-use Rattle.host_machine.proofs.Sending.FirstPackets.{first_echoes_go, first_packets_go}
-use Rattle.host_machine.proofs.Sending.GrantedEgress.{firsts_go}
-use Rattle.host_machine.proofs.Sending.ManyPackets.{many_go}
-use Rattle.host_machine.proofs.Sending.OtherSteps.{keep_settings, learn_nobody}
-use Rattle.host_machine.proofs.Sending.SettledFields.{sending_settled}
-use Rattle.host_machine.proofs.Polling.OneFrameCalls.{single}
-use Rattle.host_machine.proofs.Polling.SingleCalls.{run_unfolds}
+use Rattle.host_machine.proofs.Interface.DueWork.{due_done, pieces_go}
+use Rattle.host_machine.proofs.Sockets.FirstPackets.{first_echoes_go, first_packets_go}
+use Rattle.host_machine.proofs.Interface.GrantedEgress.{firsts_go}
+use Rattle.host_machine.proofs.Sockets.ManyPackets.{many_go}
+use Rattle.host_machine.proofs.Interface.OtherSteps.{keep_settings, learn_nobody}
+use Rattle.host_machine.proofs.Interface.SettledFields.{sending_settled}
+use Rattle.host_machine.proofs.Interface.OneFrameCalls.{single}
+use Rattle.host_machine.proofs.Interface.SingleCalls.{run_unfolds}
 
 restrained : (t : ℤ) (frame : List ℕ) (old new : Host) (told : List Event) (notes : List Note) (w : Receives t frame old told notes new) →
     IsRestrained t frame w.call.response.reply old told notes new

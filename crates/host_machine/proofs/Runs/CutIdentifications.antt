@@ -12,23 +12,25 @@ use Rattle.fragmentation.specs.declared.key.FragKey.{FragKey}
 use Rattle.fragmentation.specs.Keys.{same_key}
 use Rattle.fragmentation.specs.Cuts.{Datagram}
 use Rattle.host_machine.specs.declared.results.PollIngressSingleResult.{PollIngressSingleResult}
-use Rattle.host_machine.specs.State.Note.{Note, CutNote, Cut, PieceSent, cut_notes, identifications}
-use Rattle.host_machine.specs.State.Host.{Host}
-use Rattle.host_machine.specs.Sending.Packet.{Packet}
-use Rattle.host_machine.specs.Receiving.Reply.{Reply, Arp, Ip}
-use Rattle.host_machine.specs.Sending.Dispatch.{Outcome, IsUnsent, Emits, Discovers, DispatchesByHop}
-use Rattle.host_machine.specs.Sending.Dispatch.{DispatchesEthernet, SendsOver, Dispatches, with_next_id}
-use Rattle.host_machine.specs.Sending.Dispatch as dispatch
-use Rattle.host_machine.specs.Receiving.Reassembly.{TakesFragment}
-use Rattle.host_machine.specs.Receiving.Response.{Responds}
-use Rattle.host_machine.specs.Polling.Ingress.{Ingress}
+use Rattle.host_machine.specs.Context.Note.{Note, CutNote, Cut, PieceSent, cut_notes, identifications}
+use Rattle.host_machine.specs.Context.Host.{Host, with_next_id}
+use Rattle.host_machine.specs.Packet.Packet.{Packet}
+use Rattle.host_machine.specs.Receive.Reply.{Reply, Arp, Ip}
+use Rattle.host_machine.specs.Send.Outcome.{Outcome, IsUnsent}
+use Rattle.host_machine.specs.Send.Dispatch.{Emits, DispatchesByHop, DispatchesEthernet, SendsOver, Dispatches}
+use Rattle.host_machine.specs.Send.Requests.{Discovers}
+use Rattle.host_machine.specs.Send.Dispatch as dispatch
+use Rattle.host_machine.specs.Send.Requests as requests
+use Rattle.host_machine.specs.Receive.Reassembly.{TakesFragment}
+use Rattle.host_machine.specs.Receive.Response.{Responds}
+use Rattle.host_machine.specs.Interface.Ingress.{Ingress}
 use Rattle.host_machine.specs.Laws.Order.{cut_identifications, IsAmong, NoneOfNone, OneOf, NotThis, HasNone, AreDistinct}
-use Rattle.host_machine.specs.Sending.Parts.{Part}
+use Rattle.host_machine.specs.Interface.Parts.{Part}
 use Rattle.host_machine.specs.Laws.TwoHosts.{HaveOwnKeys, cuts, key_of_cut}
-use Rattle.host_machine.specs.Polling.Run.{Transition, Run, Ends, Then, notes_in}
-use Rattle.host_machine.proofs.State.Keys.{same_is}
-use Rattle.host_machine.proofs.State.NotesBySubject.{cut_notes-append, cut_notes-slots, identifications-append, identifications-slots}
-use Rattle.host_machine.proofs.Sending.Turns.{stepped}
+use Rattle.host_machine.specs.Interface.Run.{Transition, Run, Ends, Then, notes_in}
+use Rattle.host_machine.proofs.Receive.Keys.{same_is}
+use Rattle.host_machine.proofs.Context.NotesBySubject.{cut_notes-append, cut_notes-slots, identifications-append, identifications-slots}
+use Rattle.host_machine.proofs.Interface.Turns.{stepped}
 use Rattle.host_machine.proofs.Runs.Walk.{taken}
 
 -- the law
@@ -70,9 +72,9 @@ module _ (id : ℕ) where
 
   discovered : {own : EthernetAddress} {hop : IpAddress} {outcome : Outcome} {H new : Host} {frames : List (List ℕ)} {more : List Note} →
       Discovers own hop outcome H frames more new → Behind more
-  discovered (dispatch.Asked target source h s o f n e) = rw n (NotThis id NoneOfNone)
-  discovered (dispatch.NoSource target h s o u) = unsent u
-  discovered (dispatch.Solicited target h o f n e) = rw n (NotThis id (NotThis _ NoneOfNone))
+  discovered (requests.Asked target source h s o f n e) = rw n (NotThis id NoneOfNone)
+  discovered (requests.NoSource target h s o u) = unsent u
+  discovered (requests.Solicited target h o f n e) = rw n (NotThis id (NotThis _ NoneOfNone))
 
   by_hop : {own : EthernetAddress} {p : Packet} {hop : IpAddress} {outcome : Outcome} {H new : Host} {frames : List (List ℕ)} {more : List Note} →
       DispatchesByHop id own p hop outcome H frames more new → Behind more

@@ -11,15 +11,15 @@ use Rattle.ip_address.specs.declared.ip.IpAddress.{IpAddress}
 use Rattle.iface_tables.specs.declared.neighbor.Neighbor.{Neighbor}
 use Rattle.iface_tables.specs.declared.neighbor.Answer.TheVariants.{Found, NotFound, RateLimited}
 use Rattle.iface_tables.specs.Neighbor.{answer_of, answer_from, answer_without_entry}
-use Rattle.host_machine.specs.Sending.Dispatch.{with_silence}
-use Rattle.host_machine.specs.State.Host.{Host, with_neighbors}
+use Rattle.host_machine.specs.Send.Requests.{with_silence}
+use Rattle.host_machine.specs.Context.Host.{Host, with_neighbors}
 use Rattle.fragmentation.specs.Fragments.{Fragment}
 use Rattle.fragmentation.specs.declared.key.FragKey.{FragKey}
-use Rattle.host_machine.specs.Receiving.Reassembly.{TakesFragment}
-use Rattle.host_machine.specs.State.Note.{Note, OfDiscovery, Ask, asks}
-use Rattle.host_machine.specs.Polling.Run.{AreSpaced, Transition, Run, notes_in}
-use Rattle.host_machine.proofs.State.NotesBySubject.{asks-append, asks-slots}
-use Rattle.host_machine.proofs.State.UnchangedFields.{Keeps}
+use Rattle.host_machine.specs.Receive.Reassembly.{TakesFragment}
+use Rattle.host_machine.specs.Context.Note.{Note, OfDiscovery, Ask, asks}
+use Rattle.host_machine.specs.Interface.Run.{AreSpaced, Transition, Run, notes_in}
+use Rattle.host_machine.proofs.Context.NotesBySubject.{asks-append, asks-slots}
+use Rattle.host_machine.proofs.Context.UnchangedFields.{Keeps}
 use Rattle.host_machine.proofs.Runs.Walk.{walk}
 
 -- the silence after requests at these moments

@@ -14,26 +14,28 @@ use Rattle.group_table.specs.declared.report.IgmpReportState.TheVariants as igmp
 use Rattle.group_table.specs.declared.report.MldReportState.{MldReportState}
 use Rattle.group_table.specs.declared.report.MldReportState.TheVariants as mld
 use Rattle.host_machine.specs.declared.results.PollResult.{PollResult}
-use Rattle.host_machine.specs.State.Note.{Note}
-use Rattle.host_machine.specs.State.Host.{Host, at, no_sockets}
-use Rattle.host_machine.specs.Sending.Dispatch.{Dispatches, destination_of}
-use Rattle.host_machine.specs.Sending.Egress.{Egress}
-use Rattle.host_machine.specs.Sending.Frame.{ip_frame}
-use Rattle.host_machine.specs.Sending.Multicast.{igmp_report, mld_report}
-use Rattle.host_machine.specs.Sending.Packet.{Packet, total_len}
-use Rattle.host_machine.specs.Sending.Packet as packet
-use Rattle.host_machine.specs.Sending.Reports.{IgmpEgress, MldEgress, has_passed, igmp_report_after, igmp_timeout_of, mld_timeout_of, next_group, next_report, reported_groups}
-use Rattle.host_machine.specs.Sending.Reports as reports
+use Rattle.host_machine.specs.Context.Note.{Note}
+use Rattle.host_machine.specs.Context.Host.{Host, at, no_sockets}
+use Rattle.host_machine.specs.Send.Dispatch.{Dispatches, destination_of}
+use Rattle.host_machine.specs.Interface.Egress.{Egress}
+use Rattle.host_machine.specs.Packet.Frame.{ip_frame}
+use Rattle.host_machine.specs.Multicast.Igmp.{igmp_report, IgmpEgress, igmp_report_after, igmp_timeout_of, next_group, next_report}
+use Rattle.host_machine.specs.Multicast.Mld.{mld_report, MldEgress, mld_timeout_of, reported_groups}
+use Rattle.host_machine.specs.Packet.Packet.{Packet, total_len}
+use Rattle.host_machine.specs.Packet.Packet as packet
+use Rattle.host_machine.specs.Multicast.Timeout.{has_passed}
+use Rattle.host_machine.specs.Multicast.Igmp as igmp_rules
+use Rattle.host_machine.specs.Multicast.Mld as mld_rules
 use Rattle.host_machine.specs.Laws.DueReports.{DueReportsGo, SendsDueReport, SendsDueReportV6, WentToMany}
 use Rattle.host_machine.specs.Laws.Many.{IsToMany}
 use Rattle.host_machine.specs.Laws.Service.{all_granted}
-use Rattle.host_machine.proofs.Receiving.FrameReplies.{clash}
-use Rattle.host_machine.proofs.Receiving.Malformed.{sent_frames-sends}
+use Rattle.host_machine.proofs.Receive.FrameReplies.{clash}
+use Rattle.host_machine.proofs.Receive.Malformed.{sent_frames-sends}
 use Rattle.host_machine.proofs.Runs.FramesOfCalls.{igmp_leaves, mld_leaves, piece_leaves, reports_leave, routers_leave, sockets_leave}
-use Rattle.host_machine.proofs.Sending.DueWork.{has_come_by}
-use Rattle.host_machine.proofs.Sending.GrantedEgress.{IsAfter, given_parts, groups_way, igmp_way, piece_way, routers_way, sans}
-use Rattle.host_machine.proofs.Sending.GrantedEgress.{sent_frames-append, then_after, way_of}
-use Rattle.host_machine.proofs.Sending.ManyPackets.{Goes, address_as, goes_to_many, many_as, many_specified}
+use Rattle.host_machine.proofs.Interface.DueWork.{has_come_by}
+use Rattle.host_machine.proofs.Interface.GrantedEgress.{IsAfter, given_parts, groups_way, igmp_way, piece_way, routers_way, sans}
+use Rattle.host_machine.proofs.Interface.GrantedEgress.{sent_frames-append, then_after, way_of}
+use Rattle.host_machine.proofs.Sockets.ManyPackets.{Goes, address_as, goes_to_many, many_as, many_specified}
 
 -- The part of a call that answers
 
@@ -48,14 +50,14 @@ record WentAlone (H : Host) (p : Packet) (go : Goes p H) (told : List Event) : T
 igmp_sends : {H new : Host} {told : List Event} {notes : List Note} (version : IgmpVersion) (moment : ℤ) (group : Ipv4Address) (p : Packet)
     (go : Goes p H) → IgmpEgress H told notes new → all_granted told ≡ true → H.igmp_report ≡ igmp.ToSpecificQuery version moment group →
     moment ≤ℤ H.moment → igmp_report H.ip_addrs version group ≡ Some p → WentAlone H p go told × (new.igmp_report ≡ igmp.Inactive)
-igmp_sends {H} version moment group p go (reports.NotDue d e m y) all is le from =
+igmp_sends {H} version moment group p go (igmp_rules.NotDue d e m y) all is le from =
     absurd (clash (ap (λ r. has_passed (igmp_timeout_of r) H.moment) is ∙ has_come_by moment H.moment le) d)
-igmp_sends {H} version moment group p go (reports.NoFurtherGroup d g e m y) all is le from =
+igmp_sends {H} version moment group p go (igmp_rules.NoFurtherGroup d g e m y) all is le from =
     absurd (let bad : Some (version, group) ≡ None = sym (ap (next_group H) is) ∙ g in cc)
-igmp_sends {H} version moment group p go (reports.NoAddress next d g none e m y) all is le from =
+igmp_sends {H} version moment group p go (igmp_rules.NoAddress next d g none e m y) all is le from =
     absurd (let bad : None ≡ Some p = sym (ap (option_map (report_from version group)) none) ∙ from in cc)
-igmp_sends {H} version moment group p go (reports.NotGranted q d r e m y) all is le from = absurd (clash all (ap all_granted e))
-igmp_sends {H} {new} {told} {notes} version moment group p go (reports.Sent q o f mid d r s e y) all is le from =
+igmp_sends {H} version moment group p go (igmp_rules.NotGranted q d r e m y) all is le from = absurd (clash all (ap all_granted e))
+igmp_sends {H} {new} {told} {notes} version moment group p go (igmp_rules.Sent q o f mid d r s e y) all is le from =
     let reports_it : next_report H ≡ igmp_report H.ip_addrs version group =
     ap (λ x. option_and_then (λ n. igmp_report H.ip_addrs n.0 n.1) (next_group H x)) is in
     let both : Some q ≡ Some p = sym r ∙ reports_it ∙ from in
@@ -69,10 +71,10 @@ mld_sends : {H new : Host} {told : List Event} {notes : List Note} (moment : ℤ
     (go : Goes (mld_report H.ip_addrs ModeIsExclude (group ∷ [])) H) → MldEgress H told notes new → all_granted told ≡ true →
     H.mld_report ≡ mld.ToSpecificQuery group moment → moment ≤ℤ H.moment →
     WentAlone H (mld_report H.ip_addrs ModeIsExclude (group ∷ [])) go told × (new.mld_report ≡ mld.Inactive)
-mld_sends {H} moment group go (reports.NotYet d e m y) all is le =
+mld_sends {H} moment group go (mld_rules.NotYet d e m y) all is le =
     absurd (clash (ap (λ r. has_passed (mld_timeout_of r) H.moment) is ∙ has_come_by moment H.moment le) d)
-mld_sends {H} moment group go (reports.GivenUp d e m y) all is le = absurd (clash all (ap all_granted e))
-mld_sends {H} {new} {told} {notes} moment group go (reports.ReportGoes o f mid d s e y) all is le =
+mld_sends {H} moment group go (mld_rules.GivenUp d e m y) all is le = absurd (clash all (ap all_granted e))
+mld_sends {H} {new} {told} {notes} moment group go (mld_rules.ReportGoes o f mid d s e y) all is le =
     let names : mld_report H.ip_addrs ModeIsExclude (reported_groups H H.mld_report) ≡ mld_report H.ip_addrs ModeIsExclude (group ∷ []) =
     ap (λ r. mld_report H.ip_addrs ModeIsExclude (reported_groups H r)) is in
     let went = go.goes o f notes mid (subst (λ x. Dispatches x o H f notes mid) names s) in (

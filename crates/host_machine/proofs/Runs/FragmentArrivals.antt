@@ -18,30 +18,30 @@ use Rattle.fragmentation.specs.Keys.{same_key}
 use Rattle.fragmentation.specs.Slots.{Slot, Slots, live_at}
 use Rattle.fragmentation.specs.Reassembly.{SlotNote, Take, Arrival, Rebuild, Enters, Stood, Taken, Reassembles, NoSlot, Unfit, Waits, Rebuilt}
 use Rattle.fragmentation.specs.Cuts.{piece_at, count, cut}
-use Rattle.host_machine.specs.State.Note.{Note, slot_notes}
-use Rattle.host_machine.specs.State.Host.{Host, without_expired}
+use Rattle.host_machine.specs.Context.Note.{Note, slot_notes}
+use Rattle.host_machine.specs.Context.Host.{Host, without_expired}
 use Rattle.slaac.specs.Slaac.{sync_required}
-use Rattle.host_machine.specs.Sending.Slaac.{with_slaac_applied}
-use Rattle.host_machine.specs.Sending.Frame.{sends}
-use Rattle.host_machine.specs.Polling.Ingress.{Ingress}
-use Rattle.host_machine.specs.Sending.Egress.{Egress}
-use Rattle.host_machine.specs.Receiving.Reassembly.{TakesFragment, slot_end}
-use Rattle.host_machine.specs.Polling.Step.{Act, Step}
-use Rattle.host_machine.specs.Polling.Step as step
-use Rattle.host_machine.specs.Polling.Run.{Transition, Run, Ends, Then, notes_in}
+use Rattle.host_machine.specs.Context.Autoconfiguration.{with_slaac_applied}
+use Rattle.host_machine.specs.Packet.Frame.{sends}
+use Rattle.host_machine.specs.Interface.Ingress.{Ingress}
+use Rattle.host_machine.specs.Interface.Egress.{Egress}
+use Rattle.host_machine.specs.Receive.Reassembly.{TakesFragment, slot_end}
+use Rattle.host_machine.specs.Interface.Step.{Act, Step}
+use Rattle.host_machine.specs.Interface.Step as step
+use Rattle.host_machine.specs.Interface.Run.{Transition, Run, Ends, Then, notes_in}
 use Rattle.host_machine.specs.Laws.Arrivals.{arrivals_under, rebuilt, slot_notes_in, slots_then, IsServed, KeepFew, PiecesAreRebuilt}
 use Rattle.host_machine.specs.Laws.Frames.{Brings, Bring, NoFrame, OneBrings, NoneBrings, all_arrivals, receiving_host, ArrivesInFrames}
-use Rattle.host_machine.proofs.State.Keys.{key_total, same_is}
+use Rattle.host_machine.proofs.Receive.Keys.{key_total, same_is}
 use Rattle.host_machine.proofs.Runs.ReassemblyOrigin.{test_same}
-use Rattle.host_machine.proofs.Receiving.Pieces.{IsIn, is_in, contains_in, in_left, IsPiece, piece_in, in_cut, count_below}
-use Rattle.host_machine.proofs.Receiving.Pieces.{IsPartOf, part_of, AreParts, parts_of, IsTotal, total_is, total_from}
-use Rattle.host_machine.proofs.Receiving.Pieces.{total_from-append, all_got, rebuilds_payload, complete, incomplete}
-use Rattle.host_machine.proofs.Receiving.SlotEffects.{StepView, NoPart, APart, step_view, ingress_view}
-use Rattle.host_machine.proofs.Receiving.SlotEffects.{egress_still, egress_hands_none, handed_frames-append}
-use Rattle.host_machine.proofs.State.NotesBySubject.{slot_notes-append}
-use Rattle.host_machine.proofs.Receiving.Malformed.{handed_frames-sends, handed_frames-received}
-use Rattle.host_machine.proofs.Polling.PollCalls.{worked}
-use Rattle.host_machine.proofs.State.UnchangedFields.{rest_of}
+use Rattle.host_machine.proofs.Receive.Pieces.{IsIn, is_in, contains_in, in_left, IsPiece, piece_in, in_cut, count_below}
+use Rattle.host_machine.proofs.Receive.Pieces.{IsPartOf, part_of, AreParts, parts_of, IsTotal, total_is, total_from}
+use Rattle.host_machine.proofs.Receive.Pieces.{total_from-append, all_got, rebuilds_payload, complete, incomplete}
+use Rattle.host_machine.proofs.Receive.SlotEffects.{StepView, NoPart, APart, step_view, ingress_view}
+use Rattle.host_machine.proofs.Receive.SlotEffects.{egress_still, egress_hands_none, handed_frames-append}
+use Rattle.host_machine.proofs.Context.NotesBySubject.{slot_notes-append}
+use Rattle.host_machine.proofs.Receive.Malformed.{handed_frames-sends, handed_frames-received}
+use Rattle.host_machine.proofs.Interface.PollCalls.{worked}
+use Rattle.host_machine.proofs.Context.UnchangedFields.{rest_of}
 use Rattle.host_machine.proofs.Runs.Walk.{ingress, egressed}
 
 pub arrivals_under-append : (key : FragKey) (xs ys : List SlotNote) → arrivals_under key (xs ++ ys) ≡ arrivals_under key xs ++ arrivals_under key ys

@@ -26,8 +26,8 @@ use Rattle.ip_wire.specs.declared.tcp.TcpRepr.{TcpRepr}
 use Rattle.ip_wire.specs.IpPacket.{next_header}
 use Rattle.ip_address.specs.Ipv6.{solicited_node}
 use Rattle.address_selection.specs.Ipv6.{source_v6}
-use Rattle.host_machine.specs.Receiving.Arp.{request_for}
-use Rattle.host_machine.specs.Receiving.Ndisc.{solicitation_for}
+use Rattle.host_machine.specs.Discovery.Arp.{request_for}
+use Rattle.host_machine.specs.Discovery.Ndisc.{solicitation_for}
 use Rattle.ip_address.specs.declared.protocol.IpProtocol.{IpProtocol}
 use Rattle.control_wire.specs.declared.icmp.IcmpRepr.{IcmpRepr}
 use Rattle.control_wire.specs.declared.icmp.IcmpRepr.TheVariants as icmp_repr
@@ -51,42 +51,51 @@ use Rattle.host_machine.specs.declared.command.Command.TheVariants.{Poll, PollEg
 use Rattle.host_machine.specs.declared.command.Answer.{Answer}
 use Rattle.host_machine.specs.declared.results.PollIngressSingleResult.{PollIngressSingleResult}
 use Rattle.host_machine.specs.declared.results.PollResult.{PollResult}
-use Rattle.host_machine.specs.State.Note.{Note, Cut, OfCuts, PieceSent}
-use Rattle.host_machine.specs.State.Host.{Host, Socket, at, with_left, without_expired}
-use Rattle.host_machine.specs.State.Addresses.{ipv4_addr, link_local_addr, source_for}
-use Rattle.host_machine.specs.Receiving.Reply.{Reply, Arp, Ip}
-use Rattle.host_machine.specs.Sending.Dispatch.{Discovers, Dispatches, DispatchesByHop, DispatchesEthernet, Emits, Outcome, SendsOver}
-use Rattle.host_machine.specs.Sending.Dispatch.{datagram_of, destination_of, group_address_v6, with_next_id}
-use Rattle.host_machine.specs.Sending.Dispatch as dispatch
-use Rattle.host_machine.specs.Sending.Egress.{Egress, echo_payload, if_echo_v4, if_echo_v6, packet_between, packet_from, packet_of}
-use Rattle.host_machine.specs.Sending.Frame.{ip_frame, payload_text, piece_frame}
-use Rattle.host_machine.specs.Sending.Multicast.{igmp_packet, join_packet, leave_packet, mld_report}
-use Rattle.host_machine.specs.Sending.Packet.{IpPayload, Packet, PacketV4, PacketV6, header_of, payload_len, payload_of}
-use Rattle.host_machine.specs.Sending.Packet as packet
-use Rattle.host_machine.specs.Sending.Slaac.{due_solicitation, router_solicitation, solicitation_by, solicitation_from, with_slaac_applied}
-use Rattle.host_machine.specs.Polling.Ingress.{Ingress}
-use Rattle.host_machine.specs.Polling.Run.{Transition, Run, Ends, Then, events_in}
-use Rattle.host_machine.specs.Polling.Step.{Act, Step}
-use Rattle.host_machine.specs.Polling.Step as step
+use Rattle.host_machine.specs.Context.Note.{Note, Cut, OfCuts, PieceSent}
+use Rattle.host_machine.specs.Context.Host.{Host, Socket, at, with_left, without_expired, with_next_id}
+use Rattle.host_machine.specs.Context.Addresses.{ipv4_addr, link_local_addr, source_for}
+use Rattle.host_machine.specs.Receive.Reply.{Reply, Arp, Ip}
+use Rattle.host_machine.specs.Send.Requests.{Discovers}
+use Rattle.host_machine.specs.Send.Dispatch.{Dispatches, DispatchesByHop, DispatchesEthernet, Emits, SendsOver, destination_of}
+use Rattle.host_machine.specs.Send.Outcome.{Outcome}
+use Rattle.host_machine.specs.Context.Pieces.{datagram_of}
+use Rattle.host_machine.specs.Send.Hops.{group_address_v6}
+use Rattle.host_machine.specs.Send.Dispatch as dispatch
+use Rattle.host_machine.specs.Send.Requests as requests
+use Rattle.host_machine.specs.Interface.Egress.{Egress}
+use Rattle.host_machine.specs.Sockets.Icmp.{echo_payload, if_echo_v4, if_echo_v6}
+use Rattle.host_machine.specs.Sockets.Offers.{packet_between, packet_from, packet_of}
+use Rattle.host_machine.specs.Packet.Frame.{ip_frame, payload_text, piece_frame}
+use Rattle.host_machine.specs.Multicast.Igmp.{igmp_packet}
+use Rattle.host_machine.specs.Multicast.Joins.{join_packet, leave_packet}
+use Rattle.host_machine.specs.Multicast.Mld.{mld_report}
+use Rattle.host_machine.specs.Packet.Packet.{IpPayload, Packet, PacketV4, PacketV6, header_of, payload_len, payload_of}
+use Rattle.host_machine.specs.Packet.Packet as packet
+use Rattle.host_machine.specs.Discovery.RouterSolicitation.{due_solicitation, router_solicitation, solicitation_by, solicitation_from}
+use Rattle.host_machine.specs.Context.Autoconfiguration.{with_slaac_applied}
+use Rattle.host_machine.specs.Interface.Ingress.{Ingress}
+use Rattle.host_machine.specs.Interface.Run.{Transition, Run, Ends, Then, events_in}
+use Rattle.host_machine.specs.Interface.Step.{Act, Step}
+use Rattle.host_machine.specs.Interface.Step as step
 use Rattle.host_machine.specs.Laws.Lengths.{Fits, FramesOfRunsFit, PiecesFit}
 use Rattle.host_machine.specs.Laws.Real.{IsPart, IsReal, IsRegular}
 use Rattle.host_machine.specs.Laws.Restraint.SentFrames.{IsNextPiece, IsOfPacket, IsOfReply, IsOfSocket, SendsInOrder, replying}
 use Rattle.host_machine.specs.Laws.Restraint.SentFrames as law
 use Rattle.host_machine.specs.Laws.Unfolded.{IsSingle}
-use Rattle.host_machine.proofs.Polling.SingleCalls.{run_unfolds}
-use Rattle.host_machine.specs.Polling.Ingress.{Takes}
+use Rattle.host_machine.proofs.Interface.SingleCalls.{run_unfolds}
+use Rattle.host_machine.specs.Interface.Ingress.{Takes}
 use Rattle.net_base.specs.Device.{Reception, Nothing, Withheld, Frame}
-use Rattle.host_machine.proofs.Receiving.ReplyOrigins.{Origin, Silent, ByArp, ByAdvertisement, ByEcho, ByError}
-use Rattle.host_machine.proofs.Receiving.ReplyOrigins.{ByEchoV6, ByErrorV6, BySegment, frame_origin}
+use Rattle.host_machine.proofs.Receive.ReplyOrigins.{Origin, Silent, ByArp, ByAdvertisement, ByEcho, ByError}
+use Rattle.host_machine.proofs.Receive.ReplyOrigins.{ByEchoV6, ByErrorV6, BySegment, frame_origin}
 use Rattle.host_machine.proofs.Runs.FramesOfCalls.{ingress_frames, sends_in_order}
 use Rattle.host_machine.proofs.Runs.SentPieces.{reached_of, run_real}
 use Rattle.host_machine.proofs.Runs.Walk.{Reached, ByGroup, ByNeighbor, WithoutAddresses, egressed, ingress, sent_frames-append}
-use Rattle.host_machine.proofs.Sending.GroupChanges.{join_groups, leave_groups}
-use Rattle.host_machine.proofs.Sending.FrameLengths.{IsSized, arp_fits, cuts_fit, icmpv4_len, icmpv6_len, igmp_len, mld_len, ndisc_body, packet_fits}
-use Rattle.host_machine.proofs.Sending.FrameLengths.{piece_fits, router_body, tcp_len, udp_len, v6_quoted}
-use Rattle.host_machine.proofs.Sending.NotedRequests.{pieces_go}
-use Rattle.host_machine.proofs.State.MediumAddresses.{arp_source_six, of_six}
-use Rattle.host_machine.proofs.State.UnchangedFields.{Keeps}
+use Rattle.host_machine.proofs.Multicast.GroupChanges.{join_groups, leave_groups}
+use Rattle.host_machine.proofs.Packet.FrameLengths.{IsSized, arp_fits, cuts_fit, icmpv4_len, icmpv6_len, igmp_len, mld_len, ndisc_body, packet_fits}
+use Rattle.host_machine.proofs.Packet.FrameLengths.{piece_fits, router_body, tcp_len, udp_len, v6_quoted}
+use Rattle.host_machine.proofs.Discovery.NotedRequests.{pieces_go}
+use Rattle.host_machine.proofs.Context.MediumAddresses.{arp_source_six, of_six}
+use Rattle.host_machine.proofs.Context.UnchangedFields.{Keeps}
 
 -- A host whose hardware addresses are of its medium, and whose pending fragments are for such addresses and fit
 record IsGood (H : Host) : Type 0 where
@@ -204,11 +213,11 @@ module _ (K new : Host) (frame : List ℕ) (real : IsReal K) (big : 576 ≤ ip_m
 
   discovered : {own : EthernetAddress} {hop : IpAddress} {outcome : Outcome} {notes : List Note} → K.hardware_addr ≡ hardware.Ethernet own →
       Discovers own hop outcome (with_next_id K) (frame ∷ []) notes new → Within
-  discovered {own} mine (dispatch.Asked target source h s o f n e) =
+  discovered {own} mine (requests.Asked target source h s o f n e) =
       subst (λ x. length x ≤ K.capabilities.max_transmission_unit) (sym (one_frame f))
       (arp_fits K.capabilities (request_for own source target) (six K.capabilities.medium own (rw mine at real.own)) refl big)
-  discovered mine (dispatch.NoSource target h s o u) = some_sent u.silent
-  discovered {own} mine (dispatch.Solicited target h o f n e) =
+  discovered mine (requests.NoSource target h s o u) = some_sent u.silent
+  discovered {own} mine (requests.Solicited target h o f n e) =
       let o6 = six K.capabilities.medium own (rw mine at real.own) in
       let of : IsOf K.capabilities.medium (hardware.Ethernet (group_address_v6 (solicited_node target))) = of_six K.capabilities.medium own (group_address_v6 (solicited_node target)) (rw mine at real.own) refl in
       subst (λ x. length x ≤ K.capabilities.max_transmission_unit) (sym (one_frame f))

@@ -33,26 +33,33 @@ use Rattle.sockets.specs.Kinds.{offered_packet}
 use Rattle.host_machine.specs.declared.results.PollIngressSingleResult.{PollIngressSingleResult}
 use Rattle.host_machine.specs.declared.results.PollResult.{PollResult}
 use Rattle.host_machine.specs.declared.results.Turn.{Turn}
-use Rattle.host_machine.specs.State.Note.{Note}
-use Rattle.host_machine.specs.State.Host.{Host, Socket, at, with_groups, with_left, with_neighbors, without_expired}
-use Rattle.host_machine.specs.State.Addresses.{source_for}
-use Rattle.host_machine.specs.Receiving.Reply.{Reply, Arp, Ip}
-use Rattle.host_machine.specs.Receiving.Response.{Responds}
-use Rattle.host_machine.specs.Sending.Packet.{Packet}
-use Rattle.host_machine.specs.Sending.Frame.{arp_frame, sends}
-use Rattle.host_machine.specs.Sending.Dispatch.{Outcome, Dispatches, with_next_id, with_silence}
-use Rattle.host_machine.specs.Sending.Egress.{SocketTurn, Serves, Walks, SocketEgress, Ipv4Egress, Egress}
-use Rattle.host_machine.specs.Sending.Egress.{packet_from, packet_of, with_socket}
-use Rattle.host_machine.specs.Sending.Egress as egress
-use Rattle.host_machine.specs.Sending.Multicast.{ReportsEach, ReportsAll, igmp_report, mld_report}
-use Rattle.host_machine.specs.Sending.Multicast as multicast
-use Rattle.host_machine.specs.Sending.Reports.{IgmpEgress, MldEgress, has_passed, igmp_report_after, igmp_timeout_of, later_of}
-use Rattle.host_machine.specs.Sending.Reports.{mld_timeout_of, next_group, next_report, reported_groups}
-use Rattle.host_machine.specs.Sending.Reports.{with_igmp_report, with_mld_report}
-use Rattle.host_machine.specs.Sending.Reports as reports
-use Rattle.host_machine.specs.Sending.Slaac.{NdiscRsEgress, due_solicitation, with_slaac}
-use Rattle.host_machine.specs.Sending.Slaac as slaac
-use Rattle.host_machine.specs.Polling.Ingress.{Takes, Ingress}
+use Rattle.host_machine.specs.Context.Note.{Note}
+use Rattle.host_machine.specs.Context.Host.{Host, Socket, at, with_groups, with_left, with_neighbors, without_expired, with_next_id, with_slaac}
+use Rattle.host_machine.specs.Context.Addresses.{source_for}
+use Rattle.host_machine.specs.Receive.Reply.{Reply, Arp, Ip}
+use Rattle.host_machine.specs.Receive.Response.{Responds}
+use Rattle.host_machine.specs.Packet.Packet.{Packet}
+use Rattle.host_machine.specs.Packet.Frame.{arp_frame, sends}
+use Rattle.host_machine.specs.Send.Outcome.{Outcome}
+use Rattle.host_machine.specs.Send.Dispatch.{Dispatches}
+use Rattle.host_machine.specs.Send.Requests.{with_silence}
+use Rattle.host_machine.specs.Sockets.Turns.{SocketTurn, Serves, Walks, SocketEgress, with_socket}
+use Rattle.host_machine.specs.Send.Fragments.{Ipv4Egress}
+use Rattle.host_machine.specs.Interface.Egress.{Egress}
+use Rattle.host_machine.specs.Sockets.Offers.{packet_from, packet_of}
+use Rattle.host_machine.specs.Sockets.Turns as turns_rules
+use Rattle.host_machine.specs.Send.Fragments as fragments
+use Rattle.host_machine.specs.Multicast.Joins.{ReportsEach, ReportsAll}
+use Rattle.host_machine.specs.Multicast.Igmp.{igmp_report, IgmpEgress, igmp_report_after, igmp_timeout_of, next_group, next_report}
+use Rattle.host_machine.specs.Multicast.Mld.{mld_report, MldEgress, mld_timeout_of, reported_groups}
+use Rattle.host_machine.specs.Multicast.Joins as multicast
+use Rattle.host_machine.specs.Multicast.Timeout.{has_passed, later_of}
+use Rattle.host_machine.specs.Context.Host.{with_igmp_report, with_mld_report}
+use Rattle.host_machine.specs.Multicast.Igmp as igmp_rules
+use Rattle.host_machine.specs.Multicast.Mld as mld_rules
+use Rattle.host_machine.specs.Discovery.RouterSolicitation.{NdiscRsEgress, due_solicitation}
+use Rattle.host_machine.specs.Discovery.RouterSolicitation as slaac
+use Rattle.host_machine.specs.Interface.Ingress.{Takes, Ingress}
 use Rattle.host_machine.specs.Laws.Restraint.Queries.{HasGroup, IgmpGoesOn, IsMldPendingUntil, IsPendingUntil, MakesNonePending}
 use Rattle.host_machine.specs.Laws.Restraint.Queries.{MldGoesOn}
 use Rattle.host_machine.specs.Laws.Restraint.Queries as queries
@@ -61,22 +68,22 @@ use Rattle.host_machine.specs.Laws.Restraint.SentFrames.{SendsAs, IsOfPacket, Is
 use Rattle.host_machine.specs.Laws.Restraint.SentFrames.{IsListed, MayReport, MayReportV6}
 use Rattle.host_machine.specs.Laws.Restraint.SentFrames.{IsIgmpAnswer, IsMldAnswer, IsNextPiece, IsOfSocket, IsReport, IsSolicitation}
 use Rattle.host_machine.specs.Laws.Restraint.SentFrames as law
-use Rattle.host_machine.proofs.Polling.OneFrameCalls.{dispatched}
-use Rattle.host_machine.proofs.Receiving.Malformed.{handed_frames-sends, sent_frames-sends}
-use Rattle.host_machine.proofs.Receiving.ReplyLaws.{arp_told, reply_origin}
-use Rattle.host_machine.proofs.Receiving.ReplyOrigins.{Origin, Silent, ByArp, ByAdvertisement, ByEcho, ByError}
-use Rattle.host_machine.proofs.Receiving.ReplyOrigins.{ByEchoV6, ByErrorV6, BySegment}
-use Rattle.host_machine.proofs.Receiving.SettingChanges.{Lists, reception_lists}
+use Rattle.host_machine.proofs.Interface.OneFrameCalls.{dispatched}
+use Rattle.host_machine.proofs.Receive.Malformed.{handed_frames-sends, sent_frames-sends}
+use Rattle.host_machine.proofs.Receive.ReplyLaws.{arp_told, reply_origin}
+use Rattle.host_machine.proofs.Receive.ReplyOrigins.{Origin, Silent, ByArp, ByAdvertisement, ByEcho, ByError}
+use Rattle.host_machine.proofs.Receive.ReplyOrigins.{ByEchoV6, ByErrorV6, BySegment}
+use Rattle.host_machine.proofs.Receive.SettingChanges.{Lists, reception_lists}
 use Rattle.host_machine.proofs.Runs.FragmentArrivals.{all_push}
 use Rattle.host_machine.proofs.Runs.FramesOfPackets.{Ways, as_after, as_itself, as_kept, all_by, of_packets, ways_same}
 use Rattle.host_machine.proofs.Runs.Walk.{sent_frames-append, taken}
-use Rattle.host_machine.proofs.Sending.DueWork.{le_not_lt}
-use Rattle.host_machine.proofs.Sending.GrantedEgress.{untouched}
-use Rattle.host_machine.proofs.Sending.GroupReports.{Came, Was, came_by_join, came_by_leave, came_itself, came_v4, came_v6}
-use Rattle.host_machine.proofs.Sending.GroupReports.{fewer_after_join, fewer_after_leave, first_one, reports_carry}
-use Rattle.host_machine.proofs.Sending.GroupReports.{was_before_joins, was_before_leaves, was_itself, was_pending}
-use Rattle.host_machine.proofs.Sending.ReportTimes.{joins_told_once, leaves_told_once}
-use Rattle.host_machine.proofs.Sending.SettledFields.{Settings, dispatch_leaves, response_settled}
+use Rattle.host_machine.proofs.Interface.DueWork.{le_not_lt}
+use Rattle.host_machine.proofs.Interface.GrantedEgress.{untouched}
+use Rattle.host_machine.proofs.Multicast.GroupReports.{Came, Was, came_by_join, came_by_leave, came_itself, came_v4, came_v6}
+use Rattle.host_machine.proofs.Multicast.GroupReports.{fewer_after_join, fewer_after_leave, first_one, reports_carry}
+use Rattle.host_machine.proofs.Multicast.GroupReports.{was_before_joins, was_before_leaves, was_itself, was_pending}
+use Rattle.host_machine.proofs.Multicast.ReportTimes.{joins_told_once, leaves_told_once}
+use Rattle.host_machine.proofs.Interface.SettledFields.{Settings, dispatch_leaves, response_settled}
 
 -- What a part leaves that it doesn't change
 
@@ -88,9 +95,9 @@ module _ {X : Type 0} (read : Host → X) (same_id : (H : Host) → read (with_n
   sent_leaves d = dispatch_leaves read same_id same_silence same_left d
 
   pub piece_leaves : {H new : Host} {told : List Event} {notes : List Note} → Ipv4Egress H told notes new → read new ≡ read H
-  piece_leaves (egress.NoPiece l t n e) = ap read e
-  piece_leaves (egress.NotGranted piece rest l t n e) = ap read e
-  piece_leaves {H = H} (egress.PieceGoes piece rest l t n e) = ap read e ∙ same_left H rest
+  piece_leaves (fragments.NoPiece l t n e) = ap read e
+  piece_leaves (fragments.NotGranted piece rest l t n e) = ap read e
+  piece_leaves {H = H} (fragments.PieceGoes piece rest l t n e) = ap read e ∙ same_left H rest
 
   module _ (same_slaac : (H : Host) (s : SlaacState) → read (with_slaac H s) ≡ read H) where
     pub routers_leave : {H new : Host} {told : List Event} {notes : List Note} → NdiscRsEgress H told notes new → read new ≡ read H
@@ -114,41 +121,41 @@ module _ {X : Type 0} (read : Host → X) (same_id : (H : Host) → read (with_n
 
   module _ (same_igmp : (H : Host) (r : IgmpReportState) → read (with_igmp_report H r) ≡ read H) where
     pub igmp_leaves : {H new : Host} {told : List Event} {notes : List Note} → IgmpEgress H told notes new → read new ≡ read H
-    igmp_leaves (reports.NotDue h t n e) = ap read e
-    igmp_leaves {H = H} (reports.NoFurtherGroup h g t n e) = ap read e ∙ same_igmp H _
-    igmp_leaves (reports.NoAddress next h g a t n e) = ap read e
-    igmp_leaves (reports.NotGranted p h r t n e) = ap read e
-    igmp_leaves (reports.Sent p outcome frames mid h r d t e) = ap read e ∙ same_igmp mid _ ∙ sent_leaves d
+    igmp_leaves (igmp_rules.NotDue h t n e) = ap read e
+    igmp_leaves {H = H} (igmp_rules.NoFurtherGroup h g t n e) = ap read e ∙ same_igmp H _
+    igmp_leaves (igmp_rules.NoAddress next h g a t n e) = ap read e
+    igmp_leaves (igmp_rules.NotGranted p h r t n e) = ap read e
+    igmp_leaves (igmp_rules.Sent p outcome frames mid h r d t e) = ap read e ∙ same_igmp mid _ ∙ sent_leaves d
 
   module _ (same_mld : (H : Host) (r : MldReportState) → read (with_mld_report H r) ≡ read H) where
     pub mld_leaves : {H new : Host} {told : List Event} {notes : List Note} → MldEgress H told notes new → read new ≡ read H
-    mld_leaves (reports.NotYet h t n e) = ap read e
-    mld_leaves {H = H} (reports.GivenUp h t n e) = ap read e ∙ same_mld H _
-    mld_leaves (reports.ReportGoes outcome frames mid h d t e) = ap read e ∙ same_mld mid _ ∙ sent_leaves d
+    mld_leaves (mld_rules.NotYet h t n e) = ap read e
+    mld_leaves {H = H} (mld_rules.GivenUp h t n e) = ap read e ∙ same_mld H _
+    mld_leaves (mld_rules.ReportGoes outcome frames mid h d t e) = ap read e ∙ same_mld mid _ ∙ sent_leaves d
 
   module _ (same_sockets : (H : Host) (i : ℕ) (s : Socket) (wait : Wait) → read (with_socket H i s wait) ≡ read H) where
     turn_leaves : {s s' : Socket} {turn : Turn} {H new : Host} {told : List Event} {notes : List Note} →
         SocketTurn s turn s' H told notes new → read new ≡ read H
-    turn_leaves (egress.Silent p t o n e r) = ap read e
-    turn_leaves (egress.Refused p q t o n e r) = ap read e
-    turn_leaves (egress.Sent p outcome frames q d t o r) = sent_leaves d
+    turn_leaves (turns_rules.Silent p t o n e r) = ap read e
+    turn_leaves (turns_rules.Refused p q t o n e r) = ap read e
+    turn_leaves (turns_rules.Sent p outcome frames q d t o r) = sent_leaves d
 
     served_leaves : {i : ℕ} {turn : Turn} {H new : Host} {told : List Event} {notes : List Note} → Serves i turn H told notes new →
         read new ≡ read H
-    served_leaves (egress.Free s t o n e) = ap read e
-    served_leaves (egress.Waits s known h k p t o n e) = ap read e
-    served_leaves {i = i} (egress.Served s s' known mid h k p t e) = ap read e ∙ same_sockets mid i s' _ ∙ turn_leaves t
+    served_leaves (turns_rules.Free s t o n e) = ap read e
+    served_leaves (turns_rules.Waits s known h k p t o n e) = ap read e
+    served_leaves {i = i} (turns_rules.Served s s' known mid h k p t e) = ap read e ∙ same_sockets mid i s' _ ∙ turn_leaves t
 
     walk_leaves : {old new : Host} {n : ℕ} {granted changed : Bool} {told : List Event} {notes : List Note} →
         Walks old n granted changed told notes new → read new ≡ read old
-    walk_leaves egress.Begins = refl
-    walk_leaves (egress.Goes turn told notes _ w s t) = served_leaves s ∙ walk_leaves w
-    walk_leaves (egress.Stops turn told notes _ w s t) = served_leaves s ∙ walk_leaves w
+    walk_leaves turns_rules.Begins = refl
+    walk_leaves (turns_rules.Goes turn told notes _ w s t) = served_leaves s ∙ walk_leaves w
+    walk_leaves (turns_rules.Stops turn told notes _ w s t) = served_leaves s ∙ walk_leaves w
 
     pub sockets_leave : {old new : Host} {changed : Bool} {told : List Event} {notes : List Note} →
         SocketEgress old changed told notes new → read new ≡ read old
-    sockets_leave (egress.Whole w) = walk_leaves w
-    sockets_leave (egress.Stopped n w) = walk_leaves w
+    sockets_leave (turns_rules.Whole w) = walk_leaves w
+    sockets_leave (turns_rules.Stopped n w) = walk_leaves w
 
 -- Moments of answers
 
@@ -178,12 +185,12 @@ later_fits a b = by_lt_z a b
     (λ more. rw (le_not_lt b a more) (omega (arith, ints), more))
 
 igmp_goes : {K L : Host} {told : List Event} {notes : List Note} → IgmpEgress K told notes L → IgmpGoesOn K.moment K.igmp_report L.igmp_report
-igmp_goes (reports.NotDue h t n e) = queries.AsBefore (ap (λ (K : Host). K.igmp_report) e)
-igmp_goes {K} (reports.NoFurtherGroup h g t n e) =
+igmp_goes (igmp_rules.NotDue h t n e) = queries.AsBefore (ap (λ (K : Host). K.igmp_report) e)
+igmp_goes {K} (igmp_rules.NoFurtherGroup h g t n e) =
     let due = igmp_due K.igmp_report K.moment h in queries.Over due.end due.pending due.come (ap (λ (K : Host). K.igmp_report) e)
-igmp_goes (reports.NoAddress next h g a t n e) = queries.AsBefore (ap (λ (K : Host). K.igmp_report) e)
-igmp_goes (reports.NotGranted p h r t n e) = queries.AsBefore (ap (λ (K : Host). K.igmp_report) e)
-igmp_goes {K} {L} (reports.Sent p outcome frames mid h r d t e) = by K.igmp_report h (ap (λ (K : Host). K.igmp_report) e) where
+igmp_goes (igmp_rules.NoAddress next h g a t n e) = queries.AsBefore (ap (λ (K : Host). K.igmp_report) e)
+igmp_goes (igmp_rules.NotGranted p h r t n e) = queries.AsBefore (ap (λ (K : Host). K.igmp_report) e)
+igmp_goes {K} {L} (igmp_rules.Sent p outcome frames mid h r d t e) = by K.igmp_report h (ap (λ (K : Host). K.igmp_report) e) where
   by : (report : IgmpReportState) → has_passed (igmp_timeout_of report) K.moment ≡ true → L.igmp_report ≡ igmp_report_after report K.moment →
       IgmpGoesOn K.moment report L.igmp_report
   by igmp.Inactive off is = absurd cc
@@ -194,10 +201,10 @@ igmp_goes {K} {L} (reports.Sent p outcome frames mid h r d t e) = by K.igmp_repo
   by (igmp.ToSpecificQuery version timeout group) off is = queries.Over timeout refl (passed timeout K.moment off) is
 
 mld_goes : {K L : Host} {told : List Event} {notes : List Note} → MldEgress K told notes L → MldGoesOn K.moment K.mld_report L.mld_report
-mld_goes (reports.NotYet h t n e) = queries.AsBefore (ap (λ (K : Host). K.mld_report) e)
-mld_goes {K} (reports.GivenUp h t n e) =
+mld_goes (mld_rules.NotYet h t n e) = queries.AsBefore (ap (λ (K : Host). K.mld_report) e)
+mld_goes {K} (mld_rules.GivenUp h t n e) =
     let due = mld_due K.mld_report K.moment h in queries.Over due.end due.pending due.come (ap (λ (K : Host). K.mld_report) e)
-mld_goes {K} (reports.ReportGoes outcome frames mid h d t e) =
+mld_goes {K} (mld_rules.ReportGoes outcome frames mid h d t e) =
     let due = mld_due K.mld_report K.moment h in queries.Over due.end due.pending due.come (ap (λ (K : Host). K.mld_report) e)
 
 -- The parts of a call that sends
@@ -220,9 +227,9 @@ none_sent most a e s = record { still = rw e a; why = rw s tt; few = rw s (omega
 
 module _ (H : Host) where
   piece_sent : {new : Host} {told : List Event} {notes : List Note} → Ipv4Egress H told notes new → Sends H (IsNextPiece H) told 1 new
-  piece_sent (egress.NoPiece l t n e) = none_sent 1 (as_itself H) e (ap sent_frames t)
-  piece_sent (egress.NotGranted piece rest l t n e) = none_sent 1 (as_itself H) e (ap sent_frames t)
-  piece_sent (egress.PieceGoes piece rest l t n e) = record {
+  piece_sent (fragments.NoPiece l t n e) = none_sent 1 (as_itself H) e (ap sent_frames t)
+  piece_sent (fragments.NotGranted piece rest l t n e) = none_sent 1 (as_itself H) e (ap sent_frames t)
+  piece_sent (fragments.PieceGoes piece rest l t n e) = record {
     still = rw e (as_kept refl refl (as_itself H));
     why = rw t (record { piece = piece; rest = rest; next = l; is = refl }, tt);
     few = rw t (lit≤ tt);
@@ -314,12 +321,12 @@ module _ (H : Host) where
 
   igmp_sent : {old new : Host} {told : List Event} {notes : List Note} → SendsAs H old → old.igmp_report ≡ H.igmp_report →
       AllByRecursion (Came H.groups) old.groups → IgmpEgress old told notes new → Sends H (IsIgmpAnswer H) told 1 new
-  igmp_sent a s came (reports.NotDue h t n e) = none_sent 1 a e (ap sent_frames t)
-  igmp_sent a s came (reports.NoFurtherGroup h g t n e) =
+  igmp_sent a s came (igmp_rules.NotDue h t n e) = none_sent 1 a e (ap sent_frames t)
+  igmp_sent a s came (igmp_rules.NoFurtherGroup h g t n e) =
       record { still = rw e (as_kept refl refl a); why = rw t tt; few = rw t (lit≤ tt) }
-  igmp_sent a s came (reports.NoAddress next h g none t n e) = none_sent 1 a e (ap sent_frames t)
-  igmp_sent a s came (reports.NotGranted p h r t n e) = none_sent 1 a e (ap sent_frames t)
-  igmp_sent {old} a s came (reports.Sent p outcome frames mid h r d t e) =
+  igmp_sent a s came (igmp_rules.NoAddress next h g none t n e) = none_sent 1 a e (ap sent_frames t)
+  igmp_sent a s came (igmp_rules.NotGranted p h r t n e) = none_sent 1 a e (ap sent_frames t)
+  igmp_sent {old} a s came (igmp_rules.Sent p outcome frames mid h r d t e) =
       let due = igmp_due old.igmp_report old.moment h in
       let next = reported_next old p r in
       let pending : IsPendingUntil H.igmp_report due.end = subst (λ x. IsPendingUntil x due.end) s due.pending in
@@ -341,9 +348,9 @@ module _ (H : Host) where
 
   mld_sent : {old new : Host} {told : List Event} {notes : List Note} → SendsAs H old → old.mld_report ≡ H.mld_report →
       AllByRecursion (Came H.groups) old.groups → MldEgress old told notes new → Sends H (IsMldAnswer H) told 1 new
-  mld_sent a s came (reports.NotYet h t n e) = none_sent 1 a e (ap sent_frames t)
-  mld_sent a s came (reports.GivenUp h t n e) = record { still = rw e (as_kept refl refl a); why = rw t tt; few = rw t (lit≤ tt) }
-  mld_sent {old} a s came (reports.ReportGoes outcome frames mid h d t e) =
+  mld_sent a s came (mld_rules.NotYet h t n e) = none_sent 1 a e (ap sent_frames t)
+  mld_sent a s came (mld_rules.GivenUp h t n e) = record { still = rw e (as_kept refl refl a); why = rw t tt; few = rw t (lit≤ tt) }
+  mld_sent {old} a s came (mld_rules.ReportGoes outcome frames mid h d t e) =
       let due = mld_due old.mld_report old.moment h in
       let pending : IsMldPendingUntil H.mld_report due.end = subst (λ x. IsMldPendingUntil x due.end) s due.pending in
       let asked : MayReportV6 H.groups H.mld_report (reported_groups old old.mld_report) =
@@ -365,13 +372,13 @@ module _ (H : Host) where
 
   served : {i : ℕ} {turn : Turn} {old new : Host} {told : List Event} {notes : List Note} → SendsAs H old →
       slice_get old.sockets.places i ≡ slice_get H.sockets.places i → Serves i turn old told notes new → Sends H (IsOfSocket H) told 1 new
-  served a same (egress.Free s t o n e) = none_sent 1 a e (ap sent_frames o)
-  served a same (egress.Waits s known h k p t o n e) = none_sent 1 a e (ap sent_frames o)
-  served {i} {turn} {old} {new} {told} a same (egress.Served s s' known mid h k p t e) = by t (λ b. rw e (as_kept refl refl b)) where
+  served a same (turns_rules.Free s t o n e) = none_sent 1 a e (ap sent_frames o)
+  served a same (turns_rules.Waits s known h k p t o n e) = none_sent 1 a e (ap sent_frames o)
+  served {i} {turn} {old} {new} {told} a same (turns_rules.Served s s' known mid h k p t e) = by t (λ b. rw e (as_kept refl refl b)) where
     by : {notes : List Note} → SocketTurn s turn s' old told notes mid → (SendsAs H mid → SendsAs H new) → Sends H (IsOfSocket H) told 1 new
-    by (egress.Silent q u o n f r) on = record { still = on (rw f a); why = rw o tt; few = rw o (lit≤ tt) }
-    by (egress.Refused q x u o n f r) on = record { still = on (rw f a); why = rw o tt; few = rw o (lit≤ tt) }
-    by (egress.Sent q outcome frames x d u o r) on =
+    by (turns_rules.Silent q u o n f r) on = record { still = on (rw f a); why = rw o tt; few = rw o (lit≤ tt) }
+    by (turns_rules.Refused q x u o n f r) on = record { still = on (rw f a); why = rw o tt; few = rw o (lit≤ tt) }
+    by (turns_rules.Sent q outcome frames x d u o r) on =
         let here : slice_get H.sockets.places i ≡ Some (Some s) = sym same ∙ h in
         let offered = offered_as s q a x in
         packet_sent a d (ap sent_frames o ∙ sent_frames-sends frames) on
@@ -391,27 +398,27 @@ module _ (H : Host) where
 
   walked : {old new : Host} {n : ℕ} {granted changed : Bool} {told : List Event} {notes : List Note} → SendsAs H old →
       old.sockets ≡ H.sockets → Walks old n granted changed told notes new → Sends H (IsOfSocket H) told n new
-  walked a same egress.Begins = none_sent 0 a refl refl
-  walked a same (egress.Goes {n = n} turn told notes _ w s t) =
+  walked a same turns_rules.Begins = none_sent 0 a refl refl
+  walked a same (turns_rules.Goes {n = n} turn told notes _ w s t) =
       let x = walked a same w in
       sends_on x (served x.still (((untouched w).later n (omega arith)).place ∙ ap (λ s. slice_get s.places n) same) s)
-  walked a same (egress.Stops {n = n} turn told notes _ w s t) =
+  walked a same (turns_rules.Stops {n = n} turn told notes _ w s t) =
       let x = walked a same w in
       sends_on x (served x.still (((untouched w).later n (omega arith)).place ∙ ap (λ s. slice_get s.places n) same) s)
 
   -- a turn is that of an index
   turn_within : {i : ℕ} {turn : Turn} {old new : Host} {told : List Event} {notes : List Note} → Serves i turn old told notes new →
       i < length old.sockets.places
-  turn_within {i} {old = old} (egress.Free s t o n e) = slice_get_within old.sockets.places i None s
-  turn_within {i} {old = old} (egress.Waits s known h k p t o n e) = slice_get_within old.sockets.places i (Some s) h
-  turn_within {i} {old = old} (egress.Served s s' known mid h k p t e) = slice_get_within old.sockets.places i (Some s) h
+  turn_within {i} {old = old} (turns_rules.Free s t o n e) = slice_get_within old.sockets.places i None s
+  turn_within {i} {old = old} (turns_rules.Waits s known h k p t o n e) = slice_get_within old.sockets.places i (Some s) h
+  turn_within {i} {old = old} (turns_rules.Served s s' known mid h k p t e) = slice_get_within old.sockets.places i (Some s) h
 
   walk_within : {old new : Host} {n : ℕ} {granted changed : Bool} {told : List Event} {notes : List Note} →
       Walks old n granted changed told notes new → n ≤ length old.sockets.places
-  walk_within egress.Begins = omega arith
-  walk_within (egress.Goes {n = n} turn told notes _ w s t) =
+  walk_within turns_rules.Begins = omega arith
+  walk_within (turns_rules.Goes {n = n} turn told notes _ w s t) =
       let less = turn_within s in let same = (untouched w).places in omega (arith, less, same)
-  walk_within (egress.Stops {n = n} turn told notes _ w s t) =
+  walk_within (turns_rules.Stops {n = n} turn told notes _ w s t) =
       let less = turn_within s in let same = (untouched w).places in omega (arith, less, same)
 
   at_most : {new : Host} {Why : List ℕ → Type 0} {told : List Event} {n m : ℕ} → n ≤ m → Sends H Why told n new → Sends H Why told m new
@@ -419,9 +426,9 @@ module _ (H : Host) where
 
   sockets_sent : {old new : Host} {changed : Bool} {told : List Event} {notes : List Note} → SendsAs H old → old.sockets ≡ H.sockets →
       SocketEgress old changed told notes new → Sends H (IsOfSocket H) told (length H.sockets.places) new
-  sockets_sent a same (egress.Whole w) =
+  sockets_sent a same (turns_rules.Whole w) =
       let less = walk_within w in let e = ap (λ s. length s.places) same in at_most (omega (arith, less, e)) (walked a same w)
-  sockets_sent a same (egress.Stopped n w) =
+  sockets_sent a same (turns_rules.Stopped n w) =
       let less = walk_within w in let e = ap (λ s. length s.places) same in at_most (omega (arith, less, e)) (walked a same w)
 
 -- a call that sends, by its parts

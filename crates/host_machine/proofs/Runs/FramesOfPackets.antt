@@ -24,24 +24,27 @@ use Rattle.iface_tables.specs.declared.neighbor.Answer.TheVariants.{Found, NotFo
 use Rattle.iface_tables.specs.declared.neighbor.Neighbor.{Neighbor}
 use Rattle.iface_tables.specs.declared.route.Route.{Route}
 use Rattle.iface_tables.specs.Neighbor.{answer_from, answer_of, answer_without_entry, is_before}
-use Rattle.host_machine.specs.State.Note.{Note}
-use Rattle.host_machine.specs.State.Host.{Host}
-use Rattle.host_machine.specs.Sending.Packet.{Packet, Icmpv6}
-use Rattle.host_machine.specs.Sending.Packet as packet
-use Rattle.host_machine.specs.Sending.Frame.{ip_frame, link_header, packet_text, ethertype_of, piece_text}
-use Rattle.host_machine.specs.Sending.Dispatch.{Outcome, IsUnsent, Emits, Discovers, DispatchesByHop}
-use Rattle.host_machine.specs.Sending.Dispatch.{DispatchesEthernet, SendsOver, Dispatches, datagram_of, destination_of, with_next_id}
-use Rattle.host_machine.specs.Sending.Dispatch as dispatch
+use Rattle.host_machine.specs.Context.Note.{Note}
+use Rattle.host_machine.specs.Context.Host.{Host, with_next_id}
+use Rattle.host_machine.specs.Packet.Packet.{Packet, Icmpv6}
+use Rattle.host_machine.specs.Packet.Packet as packet
+use Rattle.host_machine.specs.Packet.Frame.{ip_frame, link_header, packet_text, ethertype_of, piece_text}
+use Rattle.host_machine.specs.Send.Outcome.{Outcome, IsUnsent}
+use Rattle.host_machine.specs.Send.Dispatch.{Emits, DispatchesByHop, DispatchesEthernet, SendsOver, Dispatches, destination_of}
+use Rattle.host_machine.specs.Send.Requests.{Discovers}
+use Rattle.host_machine.specs.Context.Pieces.{datagram_of}
+use Rattle.host_machine.specs.Send.Dispatch as dispatch
+use Rattle.host_machine.specs.Send.Requests as requests
 use Rattle.host_machine.specs.Laws.Restraint.Chosen.{IsChosenFor}
 use Rattle.host_machine.specs.Laws.Restraint.NextHop.{AreApart, AsksFor, GoesByHop, HopIs, IsLive, IsLongest, IsOneHost}
 use Rattle.host_machine.specs.Laws.Restraint.NextHop.{IsSentTo, IsSourceFor, IsToAll, MayBeUsed}
 use Rattle.host_machine.specs.Laws.Restraint.NextHop as law
 use Rattle.host_machine.specs.Laws.Restraint.Neighbors.{IsNear}
 use Rattle.host_machine.specs.Laws.Restraint.SentFrames.{SendsAs, IsOfPacket}
-use Rattle.host_machine.proofs.Polling.OneFrameCalls.{dispatched}
+use Rattle.host_machine.proofs.Interface.OneFrameCalls.{dispatched}
 use Rattle.host_machine.proofs.Runs.DiscoverySpacing.{silence_passed}
-use Rattle.host_machine.proofs.Sending.HopsByLists.{all_reached, go_by_hops, groups_reached, ip_reached}
-use Rattle.host_machine.proofs.Sending.SettledFields.{dispatch_leaves}
+use Rattle.host_machine.proofs.Send.HopsByLists.{all_reached, go_by_hops, groups_reached, ip_reached}
+use Rattle.host_machine.proofs.Interface.SettledFields.{dispatch_leaves}
 
 -- what sending reads of a host
 pub record Ways : Type 0 where
@@ -107,9 +110,9 @@ emitted (dispatch.TooLong long longer o u) = unsent u
 
 discovered : {own : EthernetAddress} {hop : IpAddress} {outcome : Outcome} {H new : Host} {frames : List (List ℕ)} {notes : List Note} →
     Discovers own hop outcome H frames notes new → Silenced H new
-discovered (dispatch.Asked target source h s o f n e) = inr (ap (λ (K : Host). K.neighbors.silent_until) e)
-discovered (dispatch.NoSource target h s o u) = unsent u
-discovered (dispatch.Solicited target h o f n e) = inr (ap (λ (K : Host). K.neighbors.silent_until) e)
+discovered (requests.Asked target source h s o f n e) = inr (ap (λ (K : Host). K.neighbors.silent_until) e)
+discovered (requests.NoSource target h s o u) = unsent u
+discovered (requests.Solicited target h o f n e) = inr (ap (λ (K : Host). K.neighbors.silent_until) e)
 
 by_hop : {id : ℕ} {own : EthernetAddress} {p : Packet} {hop : IpAddress} {outcome : Outcome} {H new : Host}
     {frames : List (List ℕ)} {notes : List Note} → DispatchesByHop id own p hop outcome H frames notes new → Silenced H new

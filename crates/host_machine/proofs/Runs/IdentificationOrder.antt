@@ -3,12 +3,12 @@ use Rattle.std.proofs.Common.{◌≡◌, ◌≢◌, ℕ, ◌+◌, ◌%◌, ◌^�
 use Rattle.std.specs.Prelude.{Option}
 use Rattle.fragmentation.specs.Fragments.{Fragment}
 use Rattle.fragmentation.specs.declared.key.FragKey.{FragKey}
-use Rattle.host_machine.specs.State.Note.{Note, identifications}
-use Rattle.host_machine.specs.State.Host.{Host}
-use Rattle.host_machine.specs.Receiving.Reassembly.{TakesFragment}
+use Rattle.host_machine.specs.Context.Note.{Note, identifications}
+use Rattle.host_machine.specs.Context.Host.{Host}
+use Rattle.host_machine.specs.Receive.Reassembly.{TakesFragment}
 use Rattle.host_machine.specs.Laws.Order.{AreCounted, HasNone, AreDistinct}
-use Rattle.host_machine.specs.Polling.Run.{Transition, Run, notes_in}
-use Rattle.host_machine.proofs.State.NotesBySubject.{identifications-append, identifications-slots}
+use Rattle.host_machine.specs.Interface.Run.{Transition, Run, notes_in}
+use Rattle.host_machine.proofs.Context.NotesBySubject.{identifications-append, identifications-slots}
 use Rattle.host_machine.proofs.Runs.Walk.{walk}
 
 -- the identification behind these

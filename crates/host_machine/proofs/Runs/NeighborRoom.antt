@@ -2,9 +2,9 @@
 use Rattle.std.proofs.Common.{◌≡◌, ℕ, List, [], ◌++◌, refl, ap, ◌∙◌, Option}
 use Rattle.fragmentation.specs.Fragments.{Fragment}
 use Rattle.fragmentation.specs.declared.key.FragKey.{FragKey}
-use Rattle.host_machine.specs.State.Note.{Note}
-use Rattle.host_machine.specs.State.Host.{Host}
-use Rattle.host_machine.specs.Receiving.Reassembly.{TakesFragment}
+use Rattle.host_machine.specs.Context.Note.{Note}
+use Rattle.host_machine.specs.Context.Host.{Host}
+use Rattle.host_machine.specs.Receive.Reassembly.{TakesFragment}
 use Rattle.host_machine.specs.Laws.Restraint.Settings.{NeighborRoomStays}
 use Rattle.host_machine.proofs.Runs.Walk.{walk}
 

@@ -35,16 +35,19 @@ use Rattle.transport_sockets.specs.Tcp as tcp
 use Rattle.transport_sockets.specs.Udp as udp
 use Rattle.sockets.specs.Kinds.{Offered, IcmpOffer, TcpOffer, UdpOffer, offered_packet}
 use Rattle.sockets.specs.declared.socket.SocketOf.TheVariants.{Raw, Icmp, Udp, Tcp}
-use Rattle.host_machine.specs.State.Note.{Note}
-use Rattle.host_machine.specs.State.Host.{Host, Socket, at, without_expired}
-use Rattle.host_machine.specs.State.Addresses.{ipv4_addr, link_local_addr, source_for}
-use Rattle.host_machine.specs.Receiving.Reply.{Reply, Arp, Ip}
-use Rattle.host_machine.specs.Sending.Dispatch.{destination_of}
-use Rattle.host_machine.specs.Sending.Egress.{echo_payload, packet_between, packet_from, packet_of}
-use Rattle.host_machine.specs.Sending.Multicast.{all_routers, igmp_packet, igmp_report, join_packet, leave_packet, mld_report, mld_routers, or_unspecified, records_of}
-use Rattle.host_machine.specs.Sending.Packet.{IpPayload, Packet, PacketV4, payload_of}
-use Rattle.host_machine.specs.Sending.Packet as packet
-use Rattle.host_machine.specs.Sending.Slaac.{due_solicitation, router_solicitation, solicitation_by, solicitation_from}
+use Rattle.host_machine.specs.Context.Note.{Note}
+use Rattle.host_machine.specs.Context.Host.{Host, Socket, at, without_expired}
+use Rattle.host_machine.specs.Context.Addresses.{ipv4_addr, link_local_addr, source_for}
+use Rattle.host_machine.specs.Receive.Reply.{Reply, Arp, Ip}
+use Rattle.host_machine.specs.Send.Dispatch.{destination_of}
+use Rattle.host_machine.specs.Sockets.Icmp.{echo_payload}
+use Rattle.host_machine.specs.Sockets.Offers.{packet_between, packet_from, packet_of}
+use Rattle.host_machine.specs.Multicast.Igmp.{all_routers, igmp_packet, igmp_report}
+use Rattle.host_machine.specs.Multicast.Joins.{join_packet, leave_packet}
+use Rattle.host_machine.specs.Multicast.Mld.{mld_report, mld_routers, or_unspecified, records_of}
+use Rattle.host_machine.specs.Packet.Packet.{IpPayload, Packet, PacketV4, payload_of}
+use Rattle.host_machine.specs.Packet.Packet as packet
+use Rattle.host_machine.specs.Discovery.RouterSolicitation.{due_solicitation, router_solicitation, solicitation_by, solicitation_from}
 use Rattle.slaac.specs.Slaac.{rs_required}
 use Rattle.host_machine.specs.Laws.Restraint.Chosen.{IsChosenFor, Given}
 use Rattle.host_machine.specs.Laws.Restraint.Neighbors.{IsOwn}
@@ -56,11 +59,11 @@ use Rattle.host_machine.specs.Laws.Restraint.SentFrames.{IsIgmpAnswer, IsMldAnsw
 use Rattle.host_machine.specs.Laws.Restraint.Sources.{IsBoundTo, IsFromNobody, IsFromOwn, IsReceiver, IsReplyFrom, RepliesFromOwn, SendsFromOwn}
 use Rattle.host_machine.specs.Laws.Restraint.Sources.{SourcesAreOwn, source_of}
 use Rattle.host_machine.specs.Laws.Restraint.Sources as law
-use Rattle.host_machine.proofs.Receiving.ReplyLaws.{own_before, reply_origin}
-use Rattle.host_machine.proofs.Receiving.ReplyOrigins.{Origin, Silent, ByArp, ByAdvertisement, ByEcho, ByError}
-use Rattle.host_machine.proofs.Receiving.ReplyOrigins.{ByEchoV6, ByErrorV6, BySegment}
+use Rattle.host_machine.proofs.Receive.ReplyLaws.{own_before, reply_origin}
+use Rattle.host_machine.proofs.Receive.ReplyOrigins.{Origin, Silent, ByArp, ByAdvertisement, ByEcho, ByError}
+use Rattle.host_machine.proofs.Receive.ReplyOrigins.{ByEchoV6, ByErrorV6, BySegment}
 use Rattle.host_machine.proofs.Runs.FramesOfCalls.{sends_in_order}
-use Rattle.host_machine.proofs.Sending.ChosenSources.{chosen_for, first_assigned, link_local_assigned}
+use Rattle.host_machine.proofs.Context.ChosenSources.{chosen_for, first_assigned, link_local_assigned}
 
 -- Lists
 

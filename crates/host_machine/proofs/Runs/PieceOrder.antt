@@ -4,15 +4,15 @@ use Rattle.net_base.specs.declared.phy.DeviceCapabilities.{DeviceCapabilities}
 use Rattle.fragmentation.specs.Fragments.{Fragment}
 use Rattle.fragmentation.specs.declared.key.FragKey.{FragKey}
 use Rattle.fragmentation.specs.Cuts.{Piece, pieces_of, HasForm}
-use Rattle.host_machine.specs.State.Note.{Note, CutNote, Cut, PieceSent, cut_notes}
-use Rattle.host_machine.specs.State.Host.{Host}
-use Rattle.host_machine.specs.Sending.Packet.{PacketV4}
-use Rattle.host_machine.specs.Sending.Dispatch.{datagram_of, piece_size}
+use Rattle.host_machine.specs.Context.Note.{Note, CutNote, Cut, PieceSent, cut_notes}
+use Rattle.host_machine.specs.Context.Host.{Host}
+use Rattle.host_machine.specs.Packet.Packet.{PacketV4}
+use Rattle.host_machine.specs.Context.Pieces.{datagram_of, piece_size}
 use Rattle.ip_address.specs.declared.hardware.HardwareAddress.{HardwareAddress}
-use Rattle.host_machine.specs.Receiving.Reassembly.{TakesFragment}
+use Rattle.host_machine.specs.Receive.Reassembly.{TakesFragment}
 use Rattle.host_machine.specs.Laws.Order.{sent_of_this, IsBeginning, AreBeginnings}
-use Rattle.host_machine.specs.Polling.Run.{Transition, Run, notes_in}
-use Rattle.host_machine.proofs.State.NotesBySubject.{cut_notes-append, cut_notes-slots}
+use Rattle.host_machine.specs.Interface.Run.{Transition, Run, notes_in}
+use Rattle.host_machine.proofs.Context.NotesBySubject.{cut_notes-append, cut_notes-slots}
 use Rattle.host_machine.proofs.Runs.Walk.{Reached, walk}
 
 -- the next of what is left

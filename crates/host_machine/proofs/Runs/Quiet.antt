@@ -24,44 +24,54 @@ use Rattle.host_machine.specs.declared.results.PollResult.{PollResult}
 use Rattle.host_machine.specs.declared.results.PollResult.TheVariants as result
 use Rattle.host_machine.specs.declared.results.Turn.{Turn}
 use Rattle.host_machine.specs.declared.results.Turn.TheVariants.{Idle}
-use Rattle.host_machine.specs.State.Note.{Note}
+use Rattle.host_machine.specs.Context.Note.{Note}
 use Rattle.fragmentation.specs.Slots.{Slots, live_at}
-use Rattle.host_machine.specs.State.Host.{Host, Socket, Storage, at, without_expired}
-use Rattle.host_machine.specs.State.Addresses.{source_for}
-use Rattle.host_machine.specs.Sending.Dispatch.{HasNeighbor, OfNoHost, OfHost, IsNextHop, OnLink, ByRouter}
-use Rattle.host_machine.specs.Receiving.Reply.{IsDropped}
-use Rattle.host_machine.specs.Polling.Ingress.{Ingress, Takes, answer_to}
-use Rattle.host_machine.specs.Sending.Parts.{Part, Both}
-use Rattle.host_machine.specs.Sending.Egress.{Round, Ipv4Egress, packet_of, packet_from, socket_after_asking, with_socket, wait_after, SocketTurn}
-use Rattle.host_machine.specs.Sending.Egress.{Silent, Refused, Serves, Free, Waits, Served, is_done, Walks, SocketEgress, Whole, Stopped, Egress}
-use Rattle.host_machine.specs.Sending.Egress as egress
-use Rattle.host_machine.specs.Polling.Polling.{after_maintenance, Repeats, Until, Spent, Done, Polls}
-use Rattle.host_machine.specs.Polling.Polling as polling
-use Rattle.host_machine.specs.Polling.Due.{Due, OfPiece, OfSync, OfSolicitation, OfPrefix, OfRouter, OfJoin, OfLeave, OfIgmpReport}
-use Rattle.host_machine.specs.Polling.Due.{OfMldReport, OfSocket, AtOnce, SocketDue, IsLeast, instant_of, group_poll_at}
+use Rattle.host_machine.specs.Context.Host.{Host, Socket, Storage, at, without_expired, with_igmp_report}
+use Rattle.host_machine.specs.Context.Addresses.{source_for}
+use Rattle.host_machine.specs.Send.Hops.{HasNeighbor, OfNoHost, OfHost, IsNextHop, OnLink, ByRouter}
+use Rattle.host_machine.specs.Receive.Reply.{IsDropped}
+use Rattle.host_machine.specs.Interface.Ingress.{Ingress, Takes, answer_to}
+use Rattle.host_machine.specs.Interface.Parts.{Part, Both}
+use Rattle.host_machine.specs.Interface.Egress.{Round, Egress}
+use Rattle.host_machine.specs.Send.Fragments.{Ipv4Egress}
+use Rattle.host_machine.specs.Sockets.Offers.{packet_of, packet_from, socket_after_asking}
+use Rattle.host_machine.specs.Sockets.Turns.{with_socket, wait_after, SocketTurn}
+use Rattle.host_machine.specs.Sockets.Turns.{Silent, Refused, Serves, Free, Waits, Served, is_done, Walks, SocketEgress, Whole, Stopped}
+use Rattle.host_machine.specs.Sockets.Turns as turns_rules
+use Rattle.host_machine.specs.Interface.Egress as egress
+use Rattle.host_machine.specs.Send.Fragments as fragments
+use Rattle.host_machine.specs.Interface.Polling.{after_maintenance, Repeats, Until, Spent, Done, Polls}
+use Rattle.host_machine.specs.Interface.Polling as polling
+use Rattle.host_machine.specs.Interface.Due.{Due, OfPiece, OfSync, OfSolicitation, OfPrefix, OfRouter, OfJoin, OfLeave, OfIgmpReport}
+use Rattle.host_machine.specs.Interface.Due.{OfMldReport, OfSocket, AtOnce, IsLeast}
+use Rattle.host_machine.specs.Sockets.Polling.{SocketDue, instant_of}
+use Rattle.host_machine.specs.Multicast.Polling.{group_poll_at}
 use Rattle.std.specs.Ordering.{int_cmp, is_le, is_lt}
 use Rattle.ip_address.specs.declared.cidr.IpCidr.{IpCidr}
 use Rattle.group_table.specs.declared.groups.Group.{Group}
 use Rattle.group_table.specs.declared.groups.GroupState.{GroupState}
 use Rattle.group_table.specs.declared.report.IgmpReportState.TheVariants as igmp
 use Rattle.group_table.specs.Groups.{first_in}
-use Rattle.host_machine.specs.Sending.Packet.{Packet}
-use Rattle.host_machine.specs.Sending.Multicast as multicast
-use Rattle.host_machine.specs.Sending.Reports as reports
-use Rattle.host_machine.specs.Sending.Reports.{IgmpEgress, MldEgress, igmp_poll_at, mld_timeout_of, igmp_timeout_of, has_passed, with_igmp_report}
+use Rattle.host_machine.specs.Packet.Packet.{Packet}
+use Rattle.host_machine.specs.Multicast.Joins as multicast
+use Rattle.host_machine.specs.Multicast.Igmp as igmp_rules
+use Rattle.host_machine.specs.Multicast.Mld as mld
+use Rattle.host_machine.specs.Multicast.Igmp.{IgmpEgress, igmp_poll_at, igmp_timeout_of}
+use Rattle.host_machine.specs.Multicast.Mld.{MldEgress, mld_timeout_of}
+use Rattle.host_machine.specs.Multicast.Timeout.{has_passed}
 use Rattle.std.specs.List.{list_any}
 use Rattle.slaac.specs.declared.slaac.Prefix.{Prefix}
 use Rattle.slaac.specs.declared.slaac.Route.{Route as Router}
 use Rattle.slaac.specs.Slaac.{has_ended, is_before, is_prefix_valid, is_route_valid, is_searching, retry_at, sync_required}
-use Rattle.host_machine.specs.Sending.Slaac as slaac
-use Rattle.host_machine.specs.Sending.Slaac.{NdiscRsEgress, due_solicitation, router_solicitation}
-use Rattle.host_machine.specs.Polling.Step.{Act, Step}
-use Rattle.host_machine.specs.Polling.Step as step
-use Rattle.host_machine.specs.Polling.Run.{Transition, Run, Ends, Then}
+use Rattle.host_machine.specs.Discovery.RouterSolicitation as slaac
+use Rattle.host_machine.specs.Discovery.RouterSolicitation.{NdiscRsEgress, due_solicitation, router_solicitation}
+use Rattle.host_machine.specs.Interface.Step.{Act, Step}
+use Rattle.host_machine.specs.Interface.Step as step
+use Rattle.host_machine.specs.Interface.Run.{Transition, Run, Ends, Then}
 use Rattle.host_machine.specs.Laws.Quiet.{IsBefore, RoutesLast, IsWithin, IsCalm, AnswersNone, QuietWhile, QuietAfter, AreQuiet}
-use Rattle.host_machine.proofs.Receiving.Malformed.{nothing_responded}
-use Rattle.host_machine.proofs.State.EarlierNeighbors.{Knew, knew}
-use Rattle.host_machine.proofs.Sending.QuietSockets.{socket_quiet}
+use Rattle.host_machine.proofs.Receive.Malformed.{nothing_responded}
+use Rattle.host_machine.proofs.Context.EarlierNeighbors.{Knew, knew}
+use Rattle.host_machine.proofs.Sockets.QuietSockets.{socket_quiet}
 
 -- the host with other waits for its sockets
 abbrev with_waits : Host → List Wait → Host
@@ -312,7 +322,7 @@ passes : {s s' : Socket} {turn : Turn} {H new : Host} {told : List Event} {notes
     packet_from H s ≡ None → socket_after_asking H s ≡ s → SocketTurn s turn s' H told notes new → Passes s turn s' H new told
 passes none same (Silent p t o n e r) = record { idle = t; untold = o; unchanged = e; same = r ∙ same }
 passes none same (Refused p some t o n e r) = absurd cc
-passes none same (egress.Sent p outcome frames some d t o r) = absurd cc
+passes none same (turns_rules.Sent p outcome frames some d t o r) = absurd cc
 
 serves_quiet : {H new : Host} {i : ℕ} {turn : Turn} {told : List Event} {notes : List Note} {t0 : ℤ} →
     Rests t0 H → Serves i turn H told notes new → Idles t0 turn H new told
@@ -342,12 +352,12 @@ record Walked (t0 : ℤ) (changed : Bool) (old new : Host) (told : List Event) :
 
 walked_quiet : {H new : Host} {n : ℕ} {granted changed : Bool} {told : List Event} {notes : List Note} {t0 : ℤ} →
     Rests t0 H → Walks H n granted changed told notes new → Walked t0 changed H new told
-walked_quiet {t0 = t0} r egress.Begins = record { unchanged = refl; stays = stays t0 refl refl }
-walked_quiet r (egress.Goes turn told notes new w s t) =
+walked_quiet {t0 = t0} r turns_rules.Begins = record { unchanged = refl; stays = stays t0 refl refl }
+walked_quiet r (turns_rules.Goes turn told notes new w s t) =
     let so_far = walked_quiet r w in
     let here = serves_quiet (rests_on so_far.stays r) s in
     record { unchanged = rw (so_far.unchanged, here.idle) refl; stays = stays_on so_far.stays here.stays }
-walked_quiet r (egress.Stops turn told notes new w s t) =
+walked_quiet r (turns_rules.Stops turn told notes new w s t) =
     let so_far = walked_quiet r w in
     let here = serves_quiet (rests_on so_far.stays r) s in
     record { unchanged = so_far.unchanged; stays = stays_on so_far.stays here.stays }
@@ -373,9 +383,9 @@ at_once : {t0 : ℤ} {H : Host} → Rests t0 H → Due (at H t0) (pos 0) → ⊥
 at_once {t0} {H} r d = let passed : H.moment <ℤ pos 0 = r.none (pos 0) d in absurd (omega (arith, ints, r.low, r.from))
 
 piece_still : (t0 : ℤ) → IsStill t0 Ipv4Egress
-piece_still t0 old new told notes r (egress.NoPiece l t n e) = stays t0 e (ap sent_frames t)
-piece_still t0 old new told notes r (egress.NotGranted piece rest l t n e) = absurd (at_once r (OfPiece (waits l)))
-piece_still t0 old new told notes r (egress.PieceGoes piece rest l t n e) = absurd (at_once r (OfPiece (waits l)))
+piece_still t0 old new told notes r (fragments.NoPiece l t n e) = stays t0 e (ap sent_frames t)
+piece_still t0 old new told notes r (fragments.NotGranted piece rest l t n e) = absurd (at_once r (OfPiece (waits l)))
+piece_still t0 old new told notes r (fragments.PieceGoes piece rest l t n e) = absurd (at_once r (OfPiece (waits l)))
 
 -- nobody is told of a group where none is in that state
 untold : {state : GroupState} {packet_for : List IpCidr → IpAddress → Option Packet} {after_report : List Group → IpAddress → List Group}
@@ -416,24 +426,24 @@ not_come None r due h = absurd cc
 not_come {t0} {H} (Some t) r due h = come t H.moment h (r.none t (due t refl))
 
 igmp_still : (t0 : ℤ) → IsStill t0 IgmpEgress
-igmp_still t0 old new told notes r (reports.NotDue h t n e) = stays t0 e (ap sent_frames t)
-igmp_still t0 old new told notes r (reports.NoFurtherGroup h g t n e) = rw (e, t) (record {
+igmp_still t0 old new told notes r (igmp_rules.NotDue h t n e) = stays t0 e (ap sent_frames t)
+igmp_still t0 old new told notes r (igmp_rules.NoFurtherGroup h g t n e) = rw (e, t) (record {
   moment = refl;
   routes = refl;
   places = refl;
   due = λ x d. due_altered old t0 x (with_igmp_report old igmp.Inactive) (λ j s. reported_still old t0 x j s) (λ i. absurd cc) d;
   silent = refl;
 })
-igmp_still t0 old new told notes r (reports.NoAddress next h g a t n e) = stays t0 e (ap sent_frames t)
-igmp_still t0 old new told notes r (reports.NotGranted p h q t n e) =
+igmp_still t0 old new told notes r (igmp_rules.NoAddress next h g a t n e) = stays t0 e (ap sent_frames t)
+igmp_still t0 old new told notes r (igmp_rules.NotGranted p h q t n e) =
     absurd (not_come (igmp_timeout_of old.igmp_report) r (λ x i. OfIgmpReport (rw q i)) h)
-igmp_still t0 old new told notes r (reports.Sent p outcome frames mid h q d t e) =
+igmp_still t0 old new told notes r (igmp_rules.Sent p outcome frames mid h q d t e) =
     absurd (not_come (igmp_timeout_of old.igmp_report) r (λ x i. OfIgmpReport (rw q i)) h)
 
 mld_still : (t0 : ℤ) → IsStill t0 MldEgress
-mld_still t0 old new told notes r (reports.NotYet h t n e) = stays t0 e (ap sent_frames t)
-mld_still t0 old new told notes r (reports.GivenUp h t n e) = absurd (not_come (mld_timeout_of old.mld_report) r (λ x i. OfMldReport i) h)
-mld_still t0 old new told notes r (reports.ReportGoes outcome frames mid h d t e) =
+mld_still t0 old new told notes r (mld.NotYet h t n e) = stays t0 e (ap sent_frames t)
+mld_still t0 old new told notes r (mld.GivenUp h t n e) = absurd (not_come (mld_timeout_of old.mld_report) r (λ x i. OfMldReport i) h)
+mld_still t0 old new told notes r (mld.ReportGoes outcome frames mid h d t e) =
     absurd (not_come (mld_timeout_of old.mld_report) r (λ x i. OfMldReport i) h)
 
 -- a solicitation that is due, whose moment has come

@@ -9,14 +9,14 @@ use Rattle.fragmentation.specs.declared.key.FragKey.{FragKey}
 use Rattle.fragmentation.specs.Keys.{same_key}
 use Rattle.fragmentation.specs.Slots.{Slot, Slots, has_ended}
 use Rattle.fragmentation.specs.Reassembly.{SlotNote, Take, Arrival, Rebuild, Enters, Stood, Taken, Reassembles, NoSlot, Unfit, Waits, Rebuilt}
-use Rattle.host_machine.specs.State.Note.{Note, slot_notes}
-use Rattle.host_machine.specs.State.Host.{Host}
-use Rattle.host_machine.specs.Receiving.Reassembly.{TakesFragment}
+use Rattle.host_machine.specs.Context.Note.{Note, slot_notes}
+use Rattle.host_machine.specs.Context.Host.{Host}
+use Rattle.host_machine.specs.Receive.Reassembly.{TakesFragment}
 use Rattle.host_machine.specs.Laws.Rebuilding.{History, first_history, put, history, AreRebuilt}
-use Rattle.host_machine.specs.Polling.Run.{Transition, Run, notes_in}
-use Rattle.host_machine.proofs.State.Keys.{key_total, same_is, get-live_at}
-use Rattle.host_machine.proofs.State.NotesBySubject.{slot_notes-append, slot_notes-slots}
-use Rattle.host_machine.proofs.State.UnchangedFields.{Keeps}
+use Rattle.host_machine.specs.Interface.Run.{Transition, Run, notes_in}
+use Rattle.host_machine.proofs.Receive.Keys.{key_total, same_is, get-live_at}
+use Rattle.host_machine.proofs.Context.NotesBySubject.{slot_notes-append, slot_notes-slots}
+use Rattle.host_machine.proofs.Context.UnchangedFields.{Keeps}
 use Rattle.host_machine.proofs.Runs.Walk.{walk}
 
 -- each slot that is taken has what the history says

@@ -22,27 +22,36 @@ use Rattle.group_table.specs.Groups.{join_reported, leave_reported}
 use Rattle.sockets.specs.declared.socket.SocketOf.TheVariants.{Udp}
 use Rattle.transport_sockets.specs.Udp.{UdpSocket}
 use Rattle.host_machine.specs.declared.results.Turn.{Turn}
-use Rattle.host_machine.specs.State.Note.{Note, OfIdentification, Identify, asks}
-use Rattle.host_machine.specs.State.Host.{Host, Socket, at, no_sockets}
-use Rattle.host_machine.specs.State.Addresses.{is_unicast, source_for}
-use Rattle.host_machine.specs.Sending.Packet.{Packet}
-use Rattle.host_machine.specs.Sending.Dispatch.{Outcome, IsNextHop, IsUnsent, Emits, Discovers, DispatchesByHop, DispatchesEthernet}
-use Rattle.host_machine.specs.Sending.Dispatch.{SendsOver, Dispatches, destination_of, with_next_id, multicast_hardware_addr}
-use Rattle.host_machine.specs.Sending.Dispatch as dispatch
-use Rattle.host_machine.specs.Sending.Multicast.{ReportsEach, ReportsAll, join_packet, leave_packet}
-use Rattle.host_machine.specs.Sending.Multicast as multicast
-use Rattle.host_machine.specs.Sending.Reports.{IgmpEgress, MldEgress}
-use Rattle.host_machine.specs.Sending.Reports as reports
-use Rattle.host_machine.specs.Sending.Slaac.{NdiscRsEgress}
-use Rattle.host_machine.specs.Sending.Slaac as slaac
-use Rattle.host_machine.specs.Sending.Egress.{SocketTurn, Serves, Walks, SocketEgress, Ipv4Egress, Egress, packet_from}
-use Rattle.host_machine.specs.Sending.Egress as egress
+use Rattle.host_machine.specs.Context.Note.{Note, OfIdentification, Identify, asks}
+use Rattle.host_machine.specs.Context.Host.{Host, Socket, at, no_sockets, with_next_id}
+use Rattle.host_machine.specs.Context.Addresses.{is_unicast, source_for}
+use Rattle.host_machine.specs.Packet.Packet.{Packet}
+use Rattle.host_machine.specs.Send.Outcome.{Outcome, IsUnsent}
+use Rattle.host_machine.specs.Send.Hops.{IsNextHop, multicast_hardware_addr}
+use Rattle.host_machine.specs.Send.Dispatch.{Emits, DispatchesByHop, DispatchesEthernet, SendsOver, Dispatches, destination_of}
+use Rattle.host_machine.specs.Send.Requests.{Discovers}
+use Rattle.host_machine.specs.Send.Dispatch as dispatch
+use Rattle.host_machine.specs.Send.Requests as requests_rules
+use Rattle.host_machine.specs.Multicast.Joins.{ReportsEach, ReportsAll, join_packet, leave_packet}
+use Rattle.host_machine.specs.Multicast.Joins as multicast
+use Rattle.host_machine.specs.Multicast.Igmp.{IgmpEgress}
+use Rattle.host_machine.specs.Multicast.Mld.{MldEgress}
+use Rattle.host_machine.specs.Multicast.Igmp as igmp
+use Rattle.host_machine.specs.Multicast.Mld as mld
+use Rattle.host_machine.specs.Discovery.RouterSolicitation.{NdiscRsEgress}
+use Rattle.host_machine.specs.Discovery.RouterSolicitation as slaac
+use Rattle.host_machine.specs.Sockets.Turns.{SocketTurn, Serves, Walks, SocketEgress}
+use Rattle.host_machine.specs.Send.Fragments.{Ipv4Egress}
+use Rattle.host_machine.specs.Interface.Egress.{Egress}
+use Rattle.host_machine.specs.Sockets.Offers.{packet_from}
+use Rattle.host_machine.specs.Sockets.Turns as turns
+use Rattle.host_machine.specs.Send.Fragments as fragments
 use Rattle.host_machine.specs.Laws.Service.{IsToBeAskedFor, MayBeAsked, RequestsGo, WasAsked, all_granted}
-use Rattle.host_machine.proofs.State.NotesBySubject.{asks-append}
-use Rattle.host_machine.proofs.Polling.EarliestInstant.{hop_is_one}
-use Rattle.host_machine.proofs.Receiving.FrameReplies.{clash, hop_as}
-use Rattle.host_machine.proofs.Sending.GrantedEgress.{SameAt, first_packet, given_parts, groups_way, igmp_way, may_as, mld_way, unicast_for}
-use Rattle.host_machine.proofs.Sending.GrantedEgress.{permitted, piece_way, routers_way, same_at, sans, stopped, tells_way, Untouched, untouched}
+use Rattle.host_machine.proofs.Context.NotesBySubject.{asks-append}
+use Rattle.host_machine.proofs.Interface.EarliestInstant.{hop_is_one}
+use Rattle.host_machine.proofs.Receive.FrameReplies.{clash, hop_as}
+use Rattle.host_machine.proofs.Interface.GrantedEgress.{SameAt, first_packet, given_parts, groups_way, igmp_way, may_as, mld_way, unicast_for}
+use Rattle.host_machine.proofs.Interface.GrantedEgress.{permitted, piece_way, routers_way, same_at, sans, stopped, tells_way, Untouched, untouched}
 
 -- what is known of neighbours stays, and so does the silence; or a request went
 data Asking (t : ℤ) (old : Host) (notes : List Note) (new : Host) : Type 0 where
@@ -94,10 +103,10 @@ emitted (dispatch.TooLong long longer o u) = unsent u
 
 discovered : {own : EthernetAddress} {hop : IpAddress} {outcome : Outcome} {H new : Host} {frames : List (List ℕ)} {notes : List Note} →
     Discovers own hop outcome H frames notes new → Asking H.moment H notes new
-discovered (dispatch.Asked target source h s o f n e) =
+discovered (requests_rules.Asked target source h s o f n e) =
     AskedNow (record { front = []; back = []; noted = ap asks n; silence = ap (λ (K : Host). K.neighbors.silent_until) e })
-discovered (dispatch.NoSource target h s o u) = unsent u
-discovered (dispatch.Solicited target h o f n e) =
+discovered (requests_rules.NoSource target h s o u) = unsent u
+discovered (requests_rules.Solicited target h o f n e) =
     AskedNow (record { front = []; back = []; noted = ap asks n; silence = ap (λ (K : Host). K.neighbors.silent_until) e })
 
 by_hop : {id : ℕ} {own : EthernetAddress} {p : Packet} {hop : IpAddress} {outcome : Outcome} {H new : Host}
@@ -140,9 +149,9 @@ on_host e (AskedNow w) =
     AskedNow (record { front = w.front; back = w.back; noted = w.noted; silence = ap (λ (n : Neighbors). n.silent_until) e ∙ w.silence })
 
 piece_asks : {H new : Host} {told : List Event} {notes : List Note} → Ipv4Egress H told notes new → Asking H.moment H notes new
-piece_asks (egress.NoPiece l e m y) = kept y
-piece_asks (egress.NotGranted piece rest l e m y) = kept y
-piece_asks (egress.PieceGoes piece rest l e m y) = Kept (ap (λ (K : Host). K.neighbors) y)
+piece_asks (fragments.NoPiece l e m y) = kept y
+piece_asks (fragments.NotGranted piece rest l e m y) = kept y
+piece_asks (fragments.PieceGoes piece rest l e m y) = Kept (ap (λ (K : Host). K.neighbors) y)
 
 routers_asks : {H new : Host} {told : List Event} {notes : List Note} → NdiscRsEgress H told notes new → Asking H.moment H notes new
 routers_asks (slaac.NotDue d e m y) = kept y
@@ -165,35 +174,35 @@ module _ (state : GroupState) (packet_for : List IpCidr → IpAddress → Option
   groups_asks (multicast.UpToRefusal w) = tells_asks w
 
 igmp_asks : {H new : Host} {told : List Event} {notes : List Note} → IgmpEgress H told notes new → Asking H.moment H notes new
-igmp_asks (reports.NotDue d e m y) = kept y
-igmp_asks (reports.NoFurtherGroup d g e m y) = Kept (ap (λ (K : Host). K.neighbors) y)
-igmp_asks (reports.NoAddress next d g a e m y) = kept y
-igmp_asks (reports.NotGranted p d r e m y) = kept y
-igmp_asks (reports.Sent p o f mid d r s e y) = on_host (ap (λ (K : Host). K.neighbors) y) (dispatched s)
+igmp_asks (igmp.NotDue d e m y) = kept y
+igmp_asks (igmp.NoFurtherGroup d g e m y) = Kept (ap (λ (K : Host). K.neighbors) y)
+igmp_asks (igmp.NoAddress next d g a e m y) = kept y
+igmp_asks (igmp.NotGranted p d r e m y) = kept y
+igmp_asks (igmp.Sent p o f mid d r s e y) = on_host (ap (λ (K : Host). K.neighbors) y) (dispatched s)
 
 mld_asks : {H new : Host} {told : List Event} {notes : List Note} → MldEgress H told notes new → Asking H.moment H notes new
-mld_asks (reports.NotYet d e m y) = kept y
-mld_asks (reports.GivenUp d e m y) = Kept (ap (λ (K : Host). K.neighbors) y)
-mld_asks (reports.ReportGoes o f mid d s e y) = on_host (ap (λ (K : Host). K.neighbors) y) (dispatched s)
+mld_asks (mld.NotYet d e m y) = kept y
+mld_asks (mld.GivenUp d e m y) = Kept (ap (λ (K : Host). K.neighbors) y)
+mld_asks (mld.ReportGoes o f mid d s e y) = on_host (ap (λ (K : Host). K.neighbors) y) (dispatched s)
 
 turn_asks : {s s' : Socket} {turn : Turn} {H new : Host} {told : List Event} {notes : List Note} →
     SocketTurn s turn s' H told notes new → Asking H.moment H notes new
-turn_asks (egress.Silent p d e m y z) = kept y
-turn_asks (egress.Refused q p d e m y z) = kept y
-turn_asks (egress.Sent q o f p g d e z) = dispatched g
+turn_asks (turns.Silent p d e m y z) = kept y
+turn_asks (turns.Refused q p d e m y z) = kept y
+turn_asks (turns.Sent q o f p g d e z) = dispatched g
 
 serves_asks : {i : ℕ} {turn : Turn} {H new : Host} {told : List Event} {notes : List Note} →
     Serves i turn H told notes new → Asking H.moment H notes new
-serves_asks (egress.Free f d e m y) = kept y
-serves_asks (egress.Waits s known f l w d e m y) = kept y
-serves_asks (egress.Served s s' known mid f l w z y) = on_host (ap (λ (K : Host). K.neighbors) y) (turn_asks z)
+serves_asks (turns.Free f d e m y) = kept y
+serves_asks (turns.Waits s known f l w d e m y) = kept y
+serves_asks (turns.Served s s' known mid f l w z y) = on_host (ap (λ (K : Host). K.neighbors) y) (turn_asks z)
 
 walks_asks : {old new : Host} {n : ℕ} {granted changed : Bool} {told : List Event} {notes : List Note} →
     Walks old n granted changed told notes new → Asking old.moment old notes new
-walks_asks egress.Begins = Kept refl
-walks_asks (egress.Goes {notes_so = so} turn told_it notes new w s e) =
+walks_asks turns.Begins = Kept refl
+walks_asks (turns.Goes {notes_so = so} turn told_it notes new w s e) =
     asking_then so notes (walks_asks w) (asking_as (ap (λ (K : Host). K.moment) (untouched w).rest) refl (serves_asks s))
-walks_asks (egress.Stops {notes_so = so} turn told_it notes new w s e) =
+walks_asks (turns.Stops {notes_so = so} turn told_it notes new w s e) =
     asking_then so notes (walks_asks w) (asking_as (ap (λ (K : Host). K.moment) (untouched w).rest) refl (serves_asks s))
 
 -- A dispatch to a hop that is to be asked for
@@ -201,12 +210,12 @@ walks_asks (egress.Stops {notes_so = so} turn told_it notes new w s e) =
 asks_hop : {own : EthernetAddress} {hop : IpAddress} {outcome : Outcome} {H new : Host} {frames : List (List ℕ)} {notes : List Note} →
     Discovers own hop outcome H frames notes new →
     is_some (source_for H.ip_addrs hop) ≡ true → WasAsked H.moment notes new
-asks_hop (dispatch.Asked target source h s o f n e) from =
+asks_hop (requests_rules.Asked target source h s o f n e) from =
     record { front = []; back = []; noted = ap asks n; silence = ap (λ (K : Host). K.neighbors.silent_until) e }
-asks_hop {H = H} (dispatch.NoSource target h s o u) from =
+asks_hop {H = H} (requests_rules.NoSource target h s o u) from =
     absurd
     (let bad : false ≡ true = sym (ap (λ a. is_some (source_for H.ip_addrs a)) h ∙ ap (λ x. is_some (option_map (λ v. Ipv4 v) x)) s) ∙ from in cc)
-asks_hop (dispatch.Solicited target h o f n e) from =
+asks_hop (requests_rules.Solicited target h o f n e) from =
     record { front = []; back = []; noted = ap asks n; silence = ap (λ (K : Host). K.neighbors.silent_until) e }
 
 asks_by_hop : {id : ℕ} {own : EthernetAddress} {p : Packet} {hop : IpAddress} {outcome : Outcome} {H new : Host} {frames : List (List ℕ)}
@@ -243,9 +252,9 @@ asks_turn : {s s' : Socket} {turn : Turn} {H new : Host} {told_it : List Event} 
     (hop : IpAddress) → SocketTurn s turn s' H told_it notes new →
     packet_from H s ≡ Some p → all_granted told_it ≡ true → H.hardware_addr ≡ hardware.Ethernet own →
     is_unicast H.ip_addrs (destination_of p) ≡ true → IsToBeAskedFor H (destination_of p) hop → WasAsked H.moment notes new
-asks_turn own p hop (egress.Silent none d e m y z) is all on one a = absurd cc
-asks_turn own p hop (egress.Refused q some d e m y z) is all on one a = absurd (clash all (ap all_granted e))
-asks_turn {s} {s'} {turn} {H} {new} {told_it} {notes} own p hop (egress.Sent q o f some g d e z) is all on one a =
+asks_turn own p hop (turns.Silent none d e m y z) is all on one a = absurd cc
+asks_turn own p hop (turns.Refused q some d e m y z) is all on one a = absurd (clash all (ap all_granted e))
+asks_turn {s} {s'} {turn} {H} {new} {told_it} {notes} own p hop (turns.Sent q o f some g d e z) is all on one a =
     let lists : Some q ≡ Some p = sym some ∙ is in
     let same : q ≡ p = cc in
     let it : Dispatches p o H f notes new = subst (λ x. Dispatches x o H f notes new) same g in
@@ -257,9 +266,9 @@ asks_serve : {i : ℕ} {turn : Turn} {H new : Host} {told_it : List Event} {note
     slice_get H.sockets.places i ≡ Some (Some (Udp s)) → MayBeAsked H i → packet_from H (Udp s) ≡ Some p →
     all_granted told_it ≡ true → H.hardware_addr ≡ hardware.Ethernet own →
     is_unicast H.ip_addrs (destination_of p) ≡ true → IsToBeAskedFor H (destination_of p) hop → WasAsked H.moment notes new
-asks_serve own s p hop (egress.Free f d e m y) here may is all on one a = absurd cc
-asks_serve {i} {turn} {H} own s p hop (egress.Waits s' known f l w d e m y) here may is all on one a = absurd (clash (permitted H i may known l) w)
-asks_serve {i} {turn} {H} {new} {told_it} {notes} own s p hop (egress.Served s' s'' known mid f l w z y) here may is all on one a =
+asks_serve own s p hop (turns.Free f d e m y) here may is all on one a = absurd cc
+asks_serve {i} {turn} {H} own s p hop (turns.Waits s' known f l w d e m y) here may is all on one a = absurd (clash (permitted H i may known l) w)
+asks_serve {i} {turn} {H} {new} {told_it} {notes} own s p hop (turns.Served s' s'' known mid f l w z y) here may is all on one a =
     let both : Some (Some s') ≡ Some (Some (Udp s)) = sym f ∙ here in
     let same : s' ≡ Udp s = cc in
     let it : WasAsked H.moment notes mid = asks_turn own p hop (subst (λ x. SocketTurn x turn s'' H told_it notes mid) same z) is all on one a in
@@ -311,19 +320,19 @@ module _ (own : EthernetAddress) (s : UdpSocket) (p : Packet) (hop : IpAddress) 
 
   walk_asks : {new : Host} {n : ℕ} {granted changed : Bool} {told : List Event} {notes : List Note} →
       Walks old n granted changed told notes new → i < n → all_granted told ≡ true → WasAsked old.moment notes new
-  walk_asks egress.Begins less all = absurd (omega (arith, less))
-  walk_asks (egress.Goes turn told_it notes new w v e) less all = one_more w v (λ l g. walk_asks w l g) less all
-  walk_asks (egress.Stops turn told_it notes new w v e) less all = one_more w v (λ l g. walk_asks w l g) less all
+  walk_asks turns.Begins less all = absurd (omega (arith, less))
+  walk_asks (turns.Goes turn told_it notes new w v e) less all = one_more w v (λ l g. walk_asks w l g) less all
+  walk_asks (turns.Stops turn told_it notes new w v e) less all = one_more w v (λ l g. walk_asks w l g) less all
 
   sockets_ask : {new : Host} {changed : Bool} {told : List Event} {notes : List Note} →
       SocketEgress old changed told notes new → all_granted told ≡ true → WasAsked old.moment notes new
-  sockets_ask (egress.Whole w) all = walk_asks w (slice_get_within old.sockets.places i (Some (Udp s)) here) all
-  sockets_ask (egress.Stopped n w) all = absurd (stopped w refl all)
+  sockets_ask (turns.Whole w) all = walk_asks w (slice_get_within old.sockets.places i (Some (Udp s)) here) all
+  sockets_ask (turns.Stopped n w) all = absurd (stopped w refl all)
 
 sockets_asks : {old new : Host} {changed : Bool} {told : List Event} {notes : List Note} →
     SocketEgress old changed told notes new → Asking old.moment old notes new
-sockets_asks (egress.Whole w) = walks_asks w
-sockets_asks (egress.Stopped n w) = walks_asks w
+sockets_asks (turns.Whole w) = walks_asks w
+sockets_asks (turns.Stopped n w) = walks_asks w
 
 finish : {t : ℤ} {new : Host} {changed : Bool} {told : List Event} {notes : List Note} (own : EthernetAddress) (s : UdpSocket) (p : Packet)
     (hop : IpAddress) (i : ℕ) (old mid : Host) (so : List Note) →

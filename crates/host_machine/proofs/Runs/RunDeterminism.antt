@@ -5,14 +5,14 @@ use Rattle.std.specs.Prelude.{map}
 use Rattle.net_base.specs.Device.{Event, grants}
 use Rattle.host_machine.specs.declared.command.Command.{Command}
 use Rattle.host_machine.specs.declared.command.Answer.{Answer}
-use Rattle.host_machine.specs.State.Note.{Note}
-use Rattle.host_machine.specs.State.Host.{Host}
-use Rattle.host_machine.specs.Polling.Step.{Act}
-use Rattle.host_machine.specs.Polling.Run.{Transition, Ends, Then, events_in, acts_in}
+use Rattle.host_machine.specs.Context.Note.{Note}
+use Rattle.host_machine.specs.Context.Host.{Host}
+use Rattle.host_machine.specs.Interface.Step.{Act}
+use Rattle.host_machine.specs.Interface.Run.{Transition, Ends, Then, events_in, acts_in}
 use Rattle.host_machine.specs.Laws.Determined.{TransitionsDiffer, Here, Behind, RunIsDetermined, receptions}
-use Rattle.host_machine.proofs.Sending.EgressDeterminism.{grants-append}
-use Rattle.host_machine.proofs.Polling.CallDeterminism.{receptions-append}
-use Rattle.host_machine.proofs.Polling.StepDeterminism.{IsOneStep, step_on}
+use Rattle.host_machine.proofs.Interface.EgressDeterminism.{grants-append}
+use Rattle.host_machine.proofs.Interface.CallDeterminism.{receptions-append}
+use Rattle.host_machine.proofs.Interface.StepDeterminism.{IsOneStep, step_on}
 
 -- what is behind the same
 same_after : {X Y : Type 0} (seen : List X → List Y) {t t' : List X} (rest rest' : List Y) → seen t ++ rest ≡ seen t' ++ rest' → t ≡ t' → rest ≡ rest'

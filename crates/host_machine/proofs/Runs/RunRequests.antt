@@ -20,38 +20,40 @@ use Rattle.fragmentation.specs.Cuts.{Piece, pieces_of, HasForm}
 use Rattle.host_machine.specs.declared.command.Command.{Command}
 use Rattle.host_machine.specs.declared.command.Answer.{Answer}
 use Rattle.host_machine.specs.declared.results.PollIngressSingleResult.{PollIngressSingleResult}
-use Rattle.host_machine.specs.State.Note.{Note, OfCuts, Cut, PieceSent, asks}
-use Rattle.host_machine.specs.State.Host.{Host, SocketSet, at, without_expired, with_left}
-use Rattle.host_machine.specs.Sending.Packet.{Packet, PacketV4, payload_of}
-use Rattle.host_machine.specs.Receiving.Reply.{Reply, Arp, Ip}
-use Rattle.host_machine.specs.Sending.Frame.{piece_frame, sends}
-use Rattle.host_machine.specs.Receiving.Arp.{ProcessesArp}
-use Rattle.host_machine.specs.Receiving.Arp as arp
-use Rattle.host_machine.specs.Receiving.Reassembly.{TakesFragment}
-use Rattle.host_machine.specs.Receiving.Ipv4.{ProcessesPacket, ProcessesIpv4}
-use Rattle.host_machine.specs.Receiving.Ipv4 as ipv4
-use Rattle.host_machine.specs.Receiving.Ethernet.{ProcessesEthertype, ProcessesEthernet, ProcessesFrame}
-use Rattle.host_machine.specs.Receiving.Ethernet as ethernet
-use Rattle.host_machine.specs.Sending.Dispatch.{Outcome, Dispatches, datagram_of}
-use Rattle.host_machine.specs.Sending.Multicast.{without_neighbors}
-use Rattle.host_machine.specs.Receiving.Response.{Responds}
-use Rattle.host_machine.specs.Polling.Ingress.{Takes, Ingress}
-use Rattle.host_machine.specs.Sending.Parts.{Part}
+use Rattle.host_machine.specs.Context.Note.{Note, OfCuts, Cut, PieceSent, asks}
+use Rattle.host_machine.specs.Context.Host.{Host, SocketSet, at, without_expired, with_left}
+use Rattle.host_machine.specs.Packet.Packet.{Packet, PacketV4, payload_of}
+use Rattle.host_machine.specs.Receive.Reply.{Reply, Arp, Ip}
+use Rattle.host_machine.specs.Packet.Frame.{piece_frame, sends}
+use Rattle.host_machine.specs.Discovery.Arp.{ProcessesArp}
+use Rattle.host_machine.specs.Discovery.Arp as arp
+use Rattle.host_machine.specs.Receive.Reassembly.{TakesFragment}
+use Rattle.host_machine.specs.Receive.Ipv4.{ProcessesPacket, ProcessesIpv4}
+use Rattle.host_machine.specs.Receive.Ipv4 as ipv4
+use Rattle.host_machine.specs.Receive.Ethernet.{ProcessesEthertype, ProcessesEthernet, ProcessesFrame}
+use Rattle.host_machine.specs.Receive.Ethernet as ethernet
+use Rattle.host_machine.specs.Send.Outcome.{Outcome}
+use Rattle.host_machine.specs.Send.Dispatch.{Dispatches}
+use Rattle.host_machine.specs.Context.Pieces.{datagram_of}
+use Rattle.host_machine.specs.Context.Settings.{without_neighbors}
+use Rattle.host_machine.specs.Receive.Response.{Responds}
+use Rattle.host_machine.specs.Interface.Ingress.{Takes, Ingress}
+use Rattle.host_machine.specs.Interface.Parts.{Part}
 use Rattle.host_machine.specs.Laws.Real.{IsReal, IsPart, IsRegular}
 use Rattle.host_machine.specs.Laws.Requests.{is_request, may_ask, sent_at, requests_at, NoSocketSpeaks}
 use Rattle.host_machine.specs.Laws.Steps.{SendsOneThing, ThePacket, ItsFirstPiece, ARequest, DiscoveriesAreNoted}
 use Rattle.host_machine.specs.Laws.Steps as laws
-use Rattle.host_machine.specs.Polling.Step.{Act, Step}
-use Rattle.host_machine.specs.Polling.Run.{Transition, Run, Ends, Then, events_in, notes_in}
-use Rattle.host_machine.proofs.State.NotesBySubject.{asks-append, asks-slots}
-use Rattle.host_machine.proofs.State.UnchangedFields.{Keeps}
-use Rattle.host_machine.proofs.Receiving.RawProtocols.{Attends, attends, attends_by, attends_then}
-use Rattle.host_machine.proofs.Sending.OwnMessages.{own_asks}
-use Rattle.host_machine.proofs.Receiving.PacketEffects.{whole_plain, ipv6_plain}
-use Rattle.host_machine.proofs.Sending.NotedRequests.{quiet_packet, quiet_piece, quiet_reply, pieces_go, sends_one}
+use Rattle.host_machine.specs.Interface.Step.{Act, Step}
+use Rattle.host_machine.specs.Interface.Run.{Transition, Run, Ends, Then, events_in, notes_in}
+use Rattle.host_machine.proofs.Context.NotesBySubject.{asks-append, asks-slots}
+use Rattle.host_machine.proofs.Context.UnchangedFields.{Keeps}
+use Rattle.host_machine.proofs.Sockets.RawProtocols.{Attends, attends, attends_by, attends_then}
+use Rattle.host_machine.proofs.Interface.OwnMessages.{own_asks}
+use Rattle.host_machine.proofs.Receive.PacketEffects.{whole_plain, ipv6_plain}
+use Rattle.host_machine.proofs.Discovery.NotedRequests.{quiet_packet, quiet_piece, quiet_reply, pieces_go, sends_one}
 use Rattle.host_machine.proofs.Runs.SentPieces.{GoodReply, takes_good, takes_real, reached_of}
-use Rattle.host_machine.proofs.State.MediumAddresses.{none_of}
-use Rattle.host_machine.proofs.Sending.Turns.{MaySend, sent_is, dispatched_sockets, stepped}
+use Rattle.host_machine.proofs.Context.MediumAddresses.{none_of}
+use Rattle.host_machine.proofs.Interface.Turns.{MaySend, sent_is, dispatched_sockets, stepped}
 use Rattle.host_machine.proofs.Runs.Walk.{Reached, taken, dispatched}
 
 -- what is read of two parts one after the other

@@ -29,47 +29,50 @@ use Rattle.host_machine.specs.declared.results.PollIngressSingleResult.{PollIngr
 use Rattle.fragmentation.specs.Fragments.{Fragment}
 use Rattle.fragmentation.specs.declared.key.FragKey.{FragKey}
 use Rattle.fragmentation.specs.Cuts.{Piece, pieces_of, HasForm}
-use Rattle.host_machine.specs.State.Note.{Note, OfDiscovery, OfIdentification, OfCuts, Ask, Identify, CutNote, Cut, PieceSent, cut_notes}
+use Rattle.host_machine.specs.Context.Note.{Note, OfDiscovery, OfIdentification, OfCuts, Ask, Identify, CutNote, Cut, PieceSent, cut_notes}
 use Rattle.net_base.specs.declared.phy.DeviceCapabilities.{DeviceCapabilities}
 use Rattle.net_base.specs.declared.phy.Medium.{Medium}
 use Rattle.net_base.specs.declared.phy.Medium.TheVariants as medium
 use Rattle.ip_address.specs.EthernetAddress.{broadcast}
-use Rattle.host_machine.proofs.Sending.GroupChanges.{join_groups, leave_groups}
+use Rattle.host_machine.proofs.Multicast.GroupChanges.{join_groups, leave_groups}
 use Rattle.slaac.specs.Slaac.{sync_required}
-use Rattle.host_machine.specs.Sending.Slaac.{with_slaac_applied}
-use Rattle.host_machine.specs.Polling.Polling.{after_maintenance}
-use Rattle.host_machine.specs.State.Host.{Host, at, without_expired, with_left, with_neighbors}
-use Rattle.host_machine.specs.State.Addresses.{is_broadcast_v4}
-use Rattle.host_machine.specs.Sending.Packet.{Packet, PacketV4, payload_of}
-use Rattle.host_machine.specs.Receiving.Reply.{Reply, Arp, Ip, IsDropped}
-use Rattle.host_machine.specs.Sending.Frame.{arp_frame, ip_frame, piece_frame}
-use Rattle.host_machine.specs.Receiving.Arp.{ProcessesArp, request_for, answer_by}
-use Rattle.host_machine.specs.Receiving.Arp as arp
-use Rattle.host_machine.specs.Receiving.Reassembly.{TakesFragment}
-use Rattle.host_machine.specs.Receiving.Ipv4.{ProcessesDatagram, ProcessesPacket, ProcessesIpv4}
-use Rattle.host_machine.specs.Receiving.Ipv6.{ProcessesIpv6}
-use Rattle.host_machine.specs.Receiving.Ipv4 as ipv4
-use Rattle.host_machine.specs.Receiving.Ethernet.{ProcessesEthertype, ProcessesEthernet, ProcessesFrame}
-use Rattle.host_machine.specs.Receiving.Ethernet as ethernet
-use Rattle.host_machine.specs.Sending.Dispatch.{Outcome, Dispatches, multicast_hardware_addr}
-use Rattle.host_machine.specs.Sending.Dispatch.{group_address_v4, datagram_of, with_next_id, with_silence}
-use Rattle.host_machine.specs.Receiving.Response.{Responds}
-use Rattle.host_machine.specs.Polling.Ingress.{Takes, Ingress}
-use Rattle.host_machine.specs.Polling.Step.{Act, Step, UpdatesIpAddrs}
-use Rattle.host_machine.specs.Polling.Step as step
+use Rattle.host_machine.specs.Context.Autoconfiguration.{with_slaac_applied}
+use Rattle.host_machine.specs.Interface.Polling.{after_maintenance}
+use Rattle.host_machine.specs.Context.Host.{Host, at, without_expired, with_left, with_neighbors, with_next_id}
+use Rattle.host_machine.specs.Context.Addresses.{is_broadcast_v4}
+use Rattle.host_machine.specs.Packet.Packet.{Packet, PacketV4, payload_of}
+use Rattle.host_machine.specs.Receive.Reply.{Reply, Arp, Ip, IsDropped}
+use Rattle.host_machine.specs.Packet.Frame.{arp_frame, ip_frame, piece_frame}
+use Rattle.host_machine.specs.Discovery.Arp.{ProcessesArp, request_for, answer_by}
+use Rattle.host_machine.specs.Discovery.Arp as arp
+use Rattle.host_machine.specs.Receive.Reassembly.{TakesFragment}
+use Rattle.host_machine.specs.Receive.Ipv4.{ProcessesDatagram, ProcessesPacket, ProcessesIpv4}
+use Rattle.host_machine.specs.Receive.Ipv6.{ProcessesIpv6}
+use Rattle.host_machine.specs.Receive.Ipv4 as ipv4
+use Rattle.host_machine.specs.Receive.Ethernet.{ProcessesEthertype, ProcessesEthernet, ProcessesFrame}
+use Rattle.host_machine.specs.Receive.Ethernet as ethernet
+use Rattle.host_machine.specs.Send.Outcome.{Outcome}
+use Rattle.host_machine.specs.Send.Dispatch.{Dispatches}
+use Rattle.host_machine.specs.Send.Hops.{multicast_hardware_addr, group_address_v4}
+use Rattle.host_machine.specs.Context.Pieces.{datagram_of}
+use Rattle.host_machine.specs.Send.Requests.{with_silence}
+use Rattle.host_machine.specs.Receive.Response.{Responds}
+use Rattle.host_machine.specs.Interface.Ingress.{Takes, Ingress}
+use Rattle.host_machine.specs.Interface.Step.{Act, Step, UpdatesIpAddrs}
+use Rattle.host_machine.specs.Interface.Step as step
 use Rattle.ip_address.specs.Hardware.{IsOf}
 use Rattle.host_machine.specs.Laws.Real.{IsReal}
 use Rattle.host_machine.specs.Laws.Wire.{Shows, Nothing, OnePiece, OneCut, OtherFrame, FragmentsArePieces, StaysReal}
-use Rattle.host_machine.specs.Polling.Run.{Transition, Run, Ends, Then, events_in, notes_in}
-use Rattle.host_machine.specs.Sending.Parts.{Part}
-use Rattle.host_machine.proofs.State.NotesBySubject.{cut_notes-append, cut_notes-slots}
-use Rattle.host_machine.proofs.Receiving.Malformed.{sent_frames-sends}
-use Rattle.host_machine.proofs.Polling.PollCalls.{polled}
-use Rattle.host_machine.proofs.State.MediumAddresses.{none_of, arp_source_of}
-use Rattle.host_machine.proofs.Receiving.FrameReading.{arp_other, whole_other}
-use Rattle.host_machine.proofs.State.UnchangedFields.{Keeps}
-use Rattle.host_machine.proofs.Sending.OwnMessages.{is_own}
-use Rattle.host_machine.proofs.Receiving.PacketEffects.{IsByIp, whole_plain, ipv6_plain}
+use Rattle.host_machine.specs.Interface.Run.{Transition, Run, Ends, Then, events_in, notes_in}
+use Rattle.host_machine.specs.Interface.Parts.{Part}
+use Rattle.host_machine.proofs.Context.NotesBySubject.{cut_notes-append, cut_notes-slots}
+use Rattle.host_machine.proofs.Receive.Malformed.{sent_frames-sends}
+use Rattle.host_machine.proofs.Interface.PollCalls.{polled}
+use Rattle.host_machine.proofs.Context.MediumAddresses.{none_of, arp_source_of}
+use Rattle.host_machine.proofs.Receive.FrameReading.{arp_other, whole_other}
+use Rattle.host_machine.proofs.Context.UnchangedFields.{Keeps}
+use Rattle.host_machine.proofs.Interface.OwnMessages.{is_own}
+use Rattle.host_machine.proofs.Receive.PacketEffects.{IsByIp, whole_plain, ipv6_plain}
 use Rattle.host_machine.proofs.Runs.Walk.{Reached, ByNeighbor, ByGroup, WithoutAddresses, sent_frames-append, dispatched, taken, egressed}
 
 shows_on : {m : Medium} {fs gs : List (List ℕ)} {xs ys : List CutNote} → Shows m fs xs → Shows m gs ys → Shows m (fs ++ gs) (xs ++ ys)

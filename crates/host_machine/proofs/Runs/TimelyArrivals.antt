@@ -17,27 +17,27 @@ use Rattle.fragmentation.specs.Keys.{key_cmp, same_key}
 use Rattle.fragmentation.specs.Slots.{Slot, Slots, has_ended, live_at}
 use Rattle.fragmentation.specs.Reassembly.{SlotNote, Take, Arrival, Rebuild, Enters, Stood, Taken, Reassembles, NoSlot, Unfit, Waits, Rebuilt}
 use Rattle.fragmentation.specs.Cuts.{piece_at}
-use Rattle.host_machine.specs.State.Note.{Note, slot_notes}
-use Rattle.host_machine.proofs.Sending.GroupChanges.{join_groups, leave_groups}
-use Rattle.host_machine.specs.State.Host.{Host, without_expired}
+use Rattle.host_machine.specs.Context.Note.{Note, slot_notes}
+use Rattle.host_machine.proofs.Multicast.GroupChanges.{join_groups, leave_groups}
+use Rattle.host_machine.specs.Context.Host.{Host, without_expired}
 use Rattle.slaac.specs.Slaac.{sync_required}
-use Rattle.host_machine.specs.Sending.Slaac.{with_slaac_applied}
-use Rattle.host_machine.specs.Polling.Step.{Act, Step}
-use Rattle.host_machine.specs.Polling.Step as step
-use Rattle.host_machine.specs.Polling.Run.{Transition, Run, notes_in}
+use Rattle.host_machine.specs.Context.Autoconfiguration.{with_slaac_applied}
+use Rattle.host_machine.specs.Interface.Step.{Act, Step}
+use Rattle.host_machine.specs.Interface.Step as step
+use Rattle.host_machine.specs.Interface.Run.{Transition, Run, notes_in}
 use Rattle.host_machine.specs.Laws.Unfolded.{IsSingle}
 use Rattle.host_machine.specs.Laws.Arrivals.{arrivals_under, rebuilt, slot_notes_in, expiry_time_of}
 use Rattle.host_machine.specs.Laws.Arrivals.{live_by, slots_then, IsServed, IsInTime, PiecesArriveInTime}
 use Rattle.host_machine.specs.Laws.Frames.{all_arrivals}
-use Rattle.host_machine.proofs.State.Keys.{key_total, key_exact, same_is, get-live_at}
+use Rattle.host_machine.proofs.Receive.Keys.{key_total, key_exact, same_is, get-live_at}
 use Rattle.host_machine.proofs.Runs.ReassemblyOrigin.{test_same, live_then}
-use Rattle.host_machine.proofs.Receiving.Pieces.{is_in, contains_in, in_cut, IsPiece}
-use Rattle.host_machine.proofs.State.NotesBySubject.{slot_notes-append}
-use Rattle.host_machine.proofs.Receiving.SlotEffects.{StepView, NoPart, APart, step_view}
+use Rattle.host_machine.proofs.Receive.Pieces.{is_in, contains_in, in_cut, IsPiece}
+use Rattle.host_machine.proofs.Context.NotesBySubject.{slot_notes-append}
+use Rattle.host_machine.proofs.Receive.SlotEffects.{StepView, NoPart, APart, step_view}
 use Rattle.host_machine.proofs.Runs.FragmentArrivals.{arrivals_under-append, rebuilt-append, arrivals_of, last_piece}
 use Rattle.host_machine.proofs.Runs.FragmentArrivals.{one_step, all_arrivals_of, all_arrivals-append, Holding, Empty, Coming}
 use Rattle.host_machine.proofs.Runs.FragmentArrivals.{coming_on, run_head, pieces_are, all_left, ingress_alike, egress_alike}
-use Rattle.host_machine.proofs.Polling.SingleCalls.{all_singles}
+use Rattle.host_machine.proofs.Interface.SingleCalls.{all_singles}
 
 -- notes without fragments that came
 abbrev NoArrivals : List SlotNote → Type 0

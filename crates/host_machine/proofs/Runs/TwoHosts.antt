@@ -17,30 +17,30 @@ use Rattle.fragmentation.specs.Keys.{same_key, key_of}
 use Rattle.fragmentation.specs.Fragments.{Fragment, Got, no_fragments, is_fit, keeps_few, total_with, with_one, IsRebuilt}
 use Rattle.fragmentation.specs.Reassembly.{SlotNote, Take, Arrival, Rebuild}
 use Rattle.fragmentation.specs.Cuts.{Datagram, Piece, piece_at, piece_of, pieces_of, piece_header, piece_fragment, cut, HasForm}
-use Rattle.host_machine.specs.State.Note.{Note, CutNote, Cut, PieceSent, cut_notes, slot_notes}
-use Rattle.host_machine.specs.State.Host.{Host}
-use Rattle.host_machine.specs.Sending.Frame.{piece_frame}
-use Rattle.host_machine.specs.Sending.Dispatch.{piece_size}
-use Rattle.host_machine.specs.Receiving.Reassembly.{TakesFragment}
+use Rattle.host_machine.specs.Context.Note.{Note, CutNote, Cut, PieceSent, cut_notes, slot_notes}
+use Rattle.host_machine.specs.Context.Host.{Host}
+use Rattle.host_machine.specs.Packet.Frame.{piece_frame}
+use Rattle.host_machine.specs.Context.Pieces.{piece_size}
+use Rattle.host_machine.specs.Receive.Reassembly.{TakesFragment}
 use Rattle.host_machine.specs.Laws.Rebuilding.{History, first_history, put, AreRebuilt}
 use Rattle.host_machine.specs.Laws.Order.{IsBeginning, sent_of_this, AreBeginnings}
-use Rattle.host_machine.specs.Polling.Run.{Transition, Run, Ends, Then, events_in, notes_in}
+use Rattle.host_machine.specs.Interface.Run.{Transition, Run, Ends, Then, events_in, notes_in}
 use Rattle.host_machine.specs.Laws.Arrivals.{arrivals_under, rebuilt, slot_notes_in}
 use Rattle.host_machine.specs.Laws.Frames.{Brings, Bring, NoFrame, OneBrings, NoneBrings, all_arrivals, receiving_host, ArrivesInFrames}
 use Rattle.host_machine.specs.Laws.Wire.{Shows, Nothing, OnePiece, OneCut, OtherFrame}
 use Rattle.ip_address.specs.Hardware.{IsOf}
 use Rattle.host_machine.specs.Laws.Real.{IsReal}
 use Rattle.host_machine.specs.Laws.TwoHosts.{cuts, cuts_in, key_of_cut, HaveOwnKeys, RebuildsWhatWasCut, PiecesAreRead}
-use Rattle.host_machine.proofs.State.Keys.{same_is}
-use Rattle.host_machine.proofs.State.NotesBySubject.{cut_notes-append, cut_notes-slots, slot_notes-append}
+use Rattle.host_machine.proofs.Receive.Keys.{same_is}
+use Rattle.host_machine.proofs.Context.NotesBySubject.{cut_notes-append, cut_notes-slots, slot_notes-append}
 use Rattle.host_machine.proofs.Runs.Walk.{walk}
 use Rattle.host_machine.proofs.Runs.ReassemblyOrigin.{run_rebuilt, test_same}
 use Rattle.host_machine.proofs.Runs.PieceOrder.{run_ordered, run_first}
-use Rattle.host_machine.proofs.Receiving.Pieces.{IsIn, is_in, contains_in, IsPiece, piece_in, IsPartOf}
-use Rattle.host_machine.proofs.Receiving.Pieces.{part_of, AreParts, IsTotal, total_stays, rebuilds_payload}
-use Rattle.host_machine.proofs.Receiving.SlotEffects.{handed_frames-append}
+use Rattle.host_machine.proofs.Receive.Pieces.{IsIn, is_in, contains_in, IsPiece, piece_in, IsPartOf}
+use Rattle.host_machine.proofs.Receive.Pieces.{part_of, AreParts, IsTotal, total_stays, rebuilds_payload}
+use Rattle.host_machine.proofs.Receive.SlotEffects.{handed_frames-append}
 use Rattle.host_machine.proofs.Runs.FragmentArrivals.{run_arrivals, receiving_hardware, all_arrivals-append, all_push}
-use Rattle.host_machine.proofs.Receiving.FrameReading.{IsWritten, protocol_again, piece_reads, piece_brings}
+use Rattle.host_machine.proofs.Receive.FrameReading.{IsWritten, protocol_again, piece_reads, piece_brings}
 use Rattle.host_machine.proofs.Runs.SentPieces.{run_shows, stepped}
 
 two_ways : (b : Bool) → b ≡ true → b ≡ false → ⊥

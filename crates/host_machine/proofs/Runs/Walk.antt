@@ -22,7 +22,7 @@ use Rattle.ip_address.specs.declared.ipv6.Ipv6Address.{Ipv6Address}
 use Rattle.ip_address.specs.Ipv6 as ipv6
 use Rattle.ip_address.specs.Ipv6.{solicited_node}
 use Rattle.address_selection.specs.Ipv6.{source_v6}
-use Rattle.host_machine.specs.Receiving.Ndisc.{solicitation_for}
+use Rattle.host_machine.specs.Discovery.Ndisc.{solicitation_for}
 use Rattle.iface_tables.specs.Neighbor.{answer_of}
 use Rattle.host_machine.specs.declared.results.PollIngressSingleResult.{PollIngressSingleResult}
 use Rattle.host_machine.specs.declared.results.PollResult.{PollResult}
@@ -32,47 +32,57 @@ use Rattle.ip_address.specs.declared.ipv4.Ipv4Address.{Ipv4Address}
 use Rattle.fragmentation.specs.Fragments.{Fragment}
 use Rattle.fragmentation.specs.declared.key.FragKey.{FragKey}
 use Rattle.fragmentation.specs.Cuts.{Piece, pieces_of, HasForm}
-use Rattle.host_machine.specs.Receiving.Reassembly.{TakesFragment}
+use Rattle.host_machine.specs.Receive.Reassembly.{TakesFragment}
 use Rattle.ip_address.specs.Hardware.{IsOf}
-use Rattle.host_machine.proofs.State.MediumAddresses.{filled_of, arp_source_of}
-use Rattle.host_machine.specs.State.Note.{Note, OfDiscovery, OfIdentification, OfCuts, Ask, Identify, Cut, PieceSent}
+use Rattle.host_machine.proofs.Context.MediumAddresses.{filled_of, arp_source_of}
+use Rattle.host_machine.specs.Context.Note.{Note, OfDiscovery, OfIdentification, OfCuts, Ask, Identify, Cut, PieceSent}
 use Rattle.group_table.specs.declared.groups.Group.{Group}
 use Rattle.group_table.specs.declared.groups.GroupState.{GroupState}
-use Rattle.host_machine.specs.Sending.Multicast as multicast
-use Rattle.host_machine.specs.Sending.Multicast.{without_neighbors}
-use Rattle.host_machine.specs.Sending.Reports as reports
-use Rattle.host_machine.specs.Sending.Reports.{IgmpEgress, MldEgress}
-use Rattle.host_machine.specs.Sending.Slaac as slaac
-use Rattle.host_machine.specs.Sending.Slaac.{NdiscRsEgress, with_slaac_applied}
+use Rattle.host_machine.specs.Multicast.Joins as multicast
+use Rattle.host_machine.specs.Context.Settings.{without_neighbors}
+use Rattle.host_machine.specs.Multicast.Igmp as igmp
+use Rattle.host_machine.specs.Multicast.Mld as mld
+use Rattle.host_machine.specs.Multicast.Igmp.{IgmpEgress}
+use Rattle.host_machine.specs.Multicast.Mld.{MldEgress}
+use Rattle.host_machine.specs.Discovery.RouterSolicitation as slaac
+use Rattle.host_machine.specs.Discovery.RouterSolicitation.{NdiscRsEgress}
+use Rattle.host_machine.specs.Context.Autoconfiguration.{with_slaac_applied}
 use Rattle.slaac.specs.Slaac.{sync_required}
-use Rattle.host_machine.proofs.Sending.GroupChanges.{join_groups, leave_groups}
-use Rattle.host_machine.specs.State.Host.{Host, Socket, at, without_expired, with_groups, with_left, with_neighbors}
-use Rattle.host_machine.specs.Sending.Packet.{Packet, PacketV4}
-use Rattle.host_machine.specs.Receiving.Reply.{Reply, Arp, Ip, IsDropped}
-use Rattle.host_machine.specs.Sending.Frame.{arp_frame, ip_frame, piece_frame}
-use Rattle.host_machine.specs.Receiving.Arp.{ProcessesArp, request_for}
-use Rattle.host_machine.specs.Receiving.Arp as arp
-use Rattle.host_machine.specs.Receiving.Ipv4.{ProcessesDatagram, ProcessesPacket, ProcessesIpv4}
-use Rattle.host_machine.specs.Receiving.Ipv6.{ProcessesIpv6}
-use Rattle.host_machine.specs.Receiving.Ipv4 as ipv4
-use Rattle.host_machine.specs.Receiving.Ethernet.{ProcessesEthertype, ProcessesEthernet, ProcessesFrame}
-use Rattle.host_machine.specs.Receiving.Ethernet as ethernet
-use Rattle.host_machine.specs.Sending.Dispatch.{Outcome, IsUnsent, Emits, Discovers, DispatchesByHop, DispatchesEthernet, SendsOver, Dispatches}
-use Rattle.host_machine.specs.Sending.Dispatch.{with_next_id, with_silence, destination_of, group_address_v6, multicast_hardware_addr, datagram_of}
-use Rattle.host_machine.specs.Sending.Dispatch as dispatch
-use Rattle.host_machine.specs.Receiving.Response.{Responds}
-use Rattle.host_machine.specs.Polling.Ingress.{Takes, Ingress}
-use Rattle.host_machine.specs.Sending.Egress.{SocketTurn, Serves, Walks, SocketEgress, Ipv4Egress, Round, Egress}
-use Rattle.host_machine.specs.Sending.Parts.{Part}
-use Rattle.host_machine.specs.Polling.Polling.{Polls, after_maintenance}
-use Rattle.host_machine.proofs.Receiving.Malformed.{sent_frames-sends}
-use Rattle.host_machine.proofs.State.UnchangedFields.{Keeps, emptied, rest_of, kept, kept_by, unread}
-use Rattle.host_machine.proofs.Receiving.PacketEffects.{IsPlain, whole_plain, ipv6_plain}
-use Rattle.host_machine.proofs.Polling.PollCalls.{both, polled}
-use Rattle.host_machine.specs.Sending.Egress as egress
-use Rattle.host_machine.specs.Polling.Step.{Act, Step, Accepted, Refused, Taken, NotTaken, WithinDay, OverDay}
-use Rattle.host_machine.specs.Polling.Step as step
-use Rattle.host_machine.specs.Polling.Run.{Transition, Run, Ends, Then, notes_in, events_in}
+use Rattle.host_machine.proofs.Multicast.GroupChanges.{join_groups, leave_groups}
+use Rattle.host_machine.specs.Context.Host.{Host, Socket, at, without_expired, with_groups, with_left, with_neighbors, with_next_id}
+use Rattle.host_machine.specs.Packet.Packet.{Packet, PacketV4}
+use Rattle.host_machine.specs.Receive.Reply.{Reply, Arp, Ip, IsDropped}
+use Rattle.host_machine.specs.Packet.Frame.{arp_frame, ip_frame, piece_frame}
+use Rattle.host_machine.specs.Discovery.Arp.{ProcessesArp, request_for}
+use Rattle.host_machine.specs.Discovery.Arp as arp
+use Rattle.host_machine.specs.Receive.Ipv4.{ProcessesDatagram, ProcessesPacket, ProcessesIpv4}
+use Rattle.host_machine.specs.Receive.Ipv6.{ProcessesIpv6}
+use Rattle.host_machine.specs.Receive.Ipv4 as ipv4
+use Rattle.host_machine.specs.Receive.Ethernet.{ProcessesEthertype, ProcessesEthernet, ProcessesFrame}
+use Rattle.host_machine.specs.Receive.Ethernet as ethernet
+use Rattle.host_machine.specs.Send.Outcome.{Outcome, IsUnsent}
+use Rattle.host_machine.specs.Send.Dispatch.{Emits, DispatchesByHop, DispatchesEthernet, SendsOver, Dispatches, destination_of}
+use Rattle.host_machine.specs.Send.Requests.{Discovers, with_silence}
+use Rattle.host_machine.specs.Send.Hops.{group_address_v6, multicast_hardware_addr}
+use Rattle.host_machine.specs.Context.Pieces.{datagram_of}
+use Rattle.host_machine.specs.Send.Dispatch as dispatch
+use Rattle.host_machine.specs.Send.Requests as requests_rules
+use Rattle.host_machine.specs.Receive.Response.{Responds}
+use Rattle.host_machine.specs.Interface.Ingress.{Takes, Ingress}
+use Rattle.host_machine.specs.Sockets.Turns.{SocketTurn, Serves, Walks, SocketEgress}
+use Rattle.host_machine.specs.Send.Fragments.{Ipv4Egress}
+use Rattle.host_machine.specs.Interface.Egress.{Round, Egress}
+use Rattle.host_machine.specs.Interface.Parts.{Part}
+use Rattle.host_machine.specs.Interface.Polling.{Polls, after_maintenance}
+use Rattle.host_machine.proofs.Receive.Malformed.{sent_frames-sends}
+use Rattle.host_machine.proofs.Context.UnchangedFields.{Keeps, emptied, rest_of, kept, kept_by, unread}
+use Rattle.host_machine.proofs.Receive.PacketEffects.{IsPlain, whole_plain, ipv6_plain}
+use Rattle.host_machine.proofs.Interface.PollCalls.{both, polled}
+use Rattle.host_machine.specs.Sockets.Turns as turns
+use Rattle.host_machine.specs.Send.Fragments as fragments_rules
+use Rattle.host_machine.specs.Interface.Step.{Act, Step, Accepted, Refused, Taken, NotTaken, WithinDay, OverDay}
+use Rattle.host_machine.specs.Interface.Step as step
+use Rattle.host_machine.specs.Interface.Run.{Transition, Run, Ends, Then, notes_in, events_in}
 
 -- a solicited-node group is one of many
 pub solicited_multicast : (own : List IpCidr) (target : Ipv6Address) →
@@ -226,11 +236,11 @@ module _ (Law : Host → List (List ℕ) → List Note → Host → Type 0)
     discovered : {own : EthernetAddress} {hop : IpAddress} {outcome : Outcome} {H new : Host} {frames : List (List ℕ)} {notes : List Note} →
         H.hardware_addr ≡ hardware.Ethernet own → answer_of H.neighbors hop H.moment ≡ NotFound →
         Discovers own hop outcome H frames notes new → Law H frames notes new
-    discovered {own} {hop} {outcome} {H} {new} {frames} {notes} mine unknown (dispatch.Asked target source h s o f n e) =
+    discovered {own} {hop} {outcome} {H} {new} {frames} {notes} mine unknown (requests_rules.Asked target source h s o f n e) =
         rw (f, n, e) (on H H (with_neighbors H (with_silence H.neighbors H)) (arp_frame (request_for own source target) ∷ []) [] []
         (OfDiscovery (Ask H.moment) ∷ []) (requests H own source target mine) (asked H hop unknown))
-    discovered mine unknown (dispatch.NoSource target h s o u) = unsent u
-    discovered {own} {hop} {outcome} {H} {new} {frames} {notes} mine unknown (dispatch.Solicited target h o f n e) =
+    discovered mine unknown (requests_rules.NoSource target h s o u) = unsent u
+    discovered {own} {hop} {outcome} {H} {new} {frames} {notes} mine unknown (requests_rules.Solicited target h o f n e) =
         rw (f, n, e) (on H (with_next_id H) (with_neighbors (with_next_id H) (with_silence H.neighbors H)) [] (solicitation H own target ∷ [])
         (OfIdentification (Identify H.ipv4_id) ∷ []) (OfDiscovery (Ask H.moment) ∷ []) (identifies H)
         (on (with_next_id H) (with_next_id H) (with_neighbors (with_next_id H) (with_silence H.neighbors H))
@@ -269,34 +279,34 @@ module _ (Law : Host → List (List ℕ) → List Note → Host → Type 0)
         H.left ≡ p ∷ rest → Law H (piece_frame H p ∷ []) (OfCuts (PieceSent p) ∷ []) (with_left H rest)) where
       had_turn : {s s' : Socket} {turn : Turn} {H new : Host} {told : List Event} {notes : List Note} →
           SocketTurn s turn s' H told notes new → Law H (sent_frames told) notes new
-      had_turn (egress.Silent p t o n e r) = keeping (ap sent_frames o) n (kept e)
-      had_turn (egress.Refused p q t o n e r) = keeping (ap sent_frames o) n (kept e)
-      had_turn (egress.Sent p outcome frames q d t o r) = rw (o, sent_frames-sends frames) (dispatched d)
+      had_turn (turns.Silent p t o n e r) = keeping (ap sent_frames o) n (kept e)
+      had_turn (turns.Refused p q t o n e r) = keeping (ap sent_frames o) n (kept e)
+      had_turn (turns.Sent p outcome frames q d t o r) = rw (o, sent_frames-sends frames) (dispatched d)
 
       served : {i : ℕ} {turn : Turn} {H new : Host} {told : List Event} {notes : List Note} →
           Serves i turn H told notes new → Law H (sent_frames told) notes new
-      served (egress.Free s t o n e) = keeping (ap sent_frames o) n (kept e)
-      served (egress.Waits s known h k p t o n e) = keeping (ap sent_frames o) n (kept e)
-      served {i} {turn} {H} {new} {told} {notes} (egress.Served s s' known mid h k p t e) =
+      served (turns.Free s t o n e) = keeping (ap sent_frames o) n (kept e)
+      served (turns.Waits s known h k p t o n e) = keeping (ap sent_frames o) n (kept e)
+      served {i} {turn} {H} {new} {told} {notes} (turns.Served s s' known mid h k p t e) =
           before (had_turn t) (kept_by e (unread refl refl))
 
       walked : {old new : Host} {n : ℕ} {granted changed : Bool} {told : List Event} {notes : List Note} →
           Walks old n granted changed told notes new → Law old (sent_frames told) notes new
-      walked egress.Begins = keeping refl refl (kept refl)
-      walked {old} {new} (egress.Goes {told_so = told_so} {notes_so = so} {mid = mid} turn told notes _ w s t) =
+      walked turns.Begins = keeping refl refl (kept refl)
+      walked {old} {new} (turns.Goes {told_so = told_so} {notes_so = so} {mid = mid} turn told notes _ w s t) =
           rw sent_frames-append (on old mid new (sent_frames told_so) (sent_frames told) so notes (walked w) (served s))
-      walked {old} {new} (egress.Stops {told_so = told_so} {notes_so = so} {mid = mid} turn told notes _ w s t) =
+      walked {old} {new} (turns.Stops {told_so = told_so} {notes_so = so} {mid = mid} turn told notes _ w s t) =
           rw sent_frames-append (on old mid new (sent_frames told_so) (sent_frames told) so notes (walked w) (served s))
 
       sockets_sent : {old new : Host} {changed : Bool} {told : List Event} {notes : List Note} →
           SocketEgress old changed told notes new → Law old (sent_frames told) notes new
-      sockets_sent (egress.Whole w) = walked w
-      sockets_sent (egress.Stopped n w) = walked w
+      sockets_sent (turns.Whole w) = walked w
+      sockets_sent (turns.Stopped n w) = walked w
 
       piece_sent : {H new : Host} {told : List Event} {notes : List Note} → Ipv4Egress H told notes new → Law H (sent_frames told) notes new
-      piece_sent (egress.NoPiece l t n e) = keeping (ap sent_frames t) n (kept e)
-      piece_sent (egress.NotGranted piece rest l t n e) = keeping (ap sent_frames t) n (kept e)
-      piece_sent {H} {new} {told} {notes} (egress.PieceGoes piece rest l t n e) = rw (t, n, e) (pieces H piece rest l)
+      piece_sent (fragments_rules.NoPiece l t n e) = keeping (ap sent_frames t) n (kept e)
+      piece_sent (fragments_rules.NotGranted piece rest l t n e) = keeping (ap sent_frames t) n (kept e)
+      piece_sent {H} {new} {told} {notes} (fragments_rules.PieceGoes piece rest l t n e) = rw (t, n, e) (pieces H piece rest l)
 
       -- groups that are told of
       groups_reported : {state : GroupState} {packet_for : List IpCidr → IpAddress → Option Packet}
@@ -317,11 +327,11 @@ module _ (Law : Host → List (List ℕ) → List Note → Host → Type 0)
       all_told (multicast.UpToRefusal w) = groups_reported w
 
       igmp_sent : {H new : Host} {told : List Event} {notes : List Note} → IgmpEgress H told notes new → Law H (sent_frames told) notes new
-      igmp_sent (reports.NotDue h t n e) = keeping (ap sent_frames t) n (kept e)
-      igmp_sent (reports.NoFurtherGroup h g t n e) = keeping (ap sent_frames t) n (kept_by e (unread refl refl))
-      igmp_sent (reports.NoAddress next h g a t n e) = keeping (ap sent_frames t) n (kept e)
-      igmp_sent (reports.NotGranted p h r t n e) = keeping (ap sent_frames t) n (kept e)
-      igmp_sent (reports.Sent p outcome frames mid h r d t e) =
+      igmp_sent (igmp.NotDue h t n e) = keeping (ap sent_frames t) n (kept e)
+      igmp_sent (igmp.NoFurtherGroup h g t n e) = keeping (ap sent_frames t) n (kept_by e (unread refl refl))
+      igmp_sent (igmp.NoAddress next h g a t n e) = keeping (ap sent_frames t) n (kept e)
+      igmp_sent (igmp.NotGranted p h r t n e) = keeping (ap sent_frames t) n (kept e)
+      igmp_sent (igmp.Sent p outcome frames mid h r d t e) =
           rw (t, sent_frames-sends frames) (before (dispatched d) (kept_by e (unread refl refl)))
 
       routers_solicited : {H new : Host} {told : List Event} {notes : List Note} → NdiscRsEgress H told notes new → Law H (sent_frames told) notes new
@@ -331,9 +341,9 @@ module _ (Law : Host → List (List ℕ) → List Note → Host → Type 0)
           rw (t, sent_frames-sends frames) (before (dispatched d) (kept_by e (unread refl refl)))
 
       mld_sent : {H new : Host} {told : List Event} {notes : List Note} → MldEgress H told notes new → Law H (sent_frames told) notes new
-      mld_sent (reports.NotYet h t n e) = keeping (ap sent_frames t) n (kept e)
-      mld_sent (reports.GivenUp h t n e) = keeping (ap sent_frames t) n (kept_by e (unread refl refl))
-      mld_sent (reports.ReportGoes outcome frames mid h d t e) =
+      mld_sent (mld.NotYet h t n e) = keeping (ap sent_frames t) n (kept e)
+      mld_sent (mld.GivenUp h t n e) = keeping (ap sent_frames t) n (kept_by e (unread refl refl))
+      mld_sent (mld.ReportGoes outcome frames mid h d t e) =
           rw (t, sent_frames-sends frames) (before (dispatched d) (kept_by e (unread refl refl)))
 
       -- each part of a round, in order

@@ -5,7 +5,7 @@ use Rattle.ip_address.specs.declared.cidr.IpCidr.{IpCidr}
 use Rattle.ip_address.specs.declared.cidr.IpCidr.TheVariants as cidr
 use Rattle.ip_address.specs.declared.ip.IpAddress.TheVariants.{Ipv4}
 use Rattle.iface_tables.specs.declared.route.Route.{Route}
-use Rattle.host_machine.specs.State.Host.{has_ip_addr}
+use Rattle.host_machine.specs.Context.Host.{has_ip_addr}
 use Rattle.host_machine.specs.Examples.ArpAndEcho as example
 
 -- 10.5.0.0/16, 10.5.2.0/24

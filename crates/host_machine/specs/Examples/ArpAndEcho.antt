@@ -14,12 +14,12 @@ use Rattle.ip_address.specs.declared.hardware.HardwareAddress.{HardwareAddress}
 use Rattle.ip_address.specs.declared.ip.IpAddress.{IpAddress}
 use Rattle.iface_tables.specs.Neighbor.{Neighbors, after_renewal}
 use Rattle.host_machine.specs.declared.results.PollIngressSingleResult.TheVariants as result
-use Rattle.host_machine.specs.State.Note.{Note, OfDiscovery, OfIdentification, Ask, Identify}
+use Rattle.host_machine.specs.Context.Note.{Note, OfDiscovery, OfIdentification, Ask, Identify}
 use Rattle.group_table.specs.declared.report.IgmpReportState.TheVariants as igmp
 use Rattle.group_table.specs.declared.report.MldReportState.TheVariants as mld
 use Rattle.slaac.specs.Slaac.{initial_state}
-use Rattle.host_machine.specs.State.Host.{Host, no_sockets}
-use Rattle.host_machine.specs.Polling.Ingress.{Ingress}
+use Rattle.host_machine.specs.Context.Host.{Host, no_sockets}
+use Rattle.host_machine.specs.Interface.Ingress.{Ingress}
 
 -- a device with all checksums left to the stack
 abbrev pub device : DeviceCapabilities

@@ -5,10 +5,10 @@ use Rattle.ip_address.specs.declared.ipv6.Ipv6Address.{Ipv6Address}
 use Rattle.ip_address.specs.declared.cidr.IpCidr.TheVariants as cidr
 use Rattle.iface_tables.specs.Neighbor.{Neighbors}
 use Rattle.host_machine.specs.declared.results.DispatchError.TheVariants.{NeighborPending}
-use Rattle.host_machine.specs.State.Note.{OfDiscovery, OfIdentification, Ask, Identify}
-use Rattle.host_machine.specs.State.Host.{Host}
-use Rattle.host_machine.specs.Sending.Packet.{Packet, Ipv6, Udp}
-use Rattle.host_machine.specs.Sending.Dispatch.{Dispatches}
+use Rattle.host_machine.specs.Context.Note.{OfDiscovery, OfIdentification, Ask, Identify}
+use Rattle.host_machine.specs.Context.Host.{Host}
+use Rattle.host_machine.specs.Packet.Packet.{Packet, Ipv6, Udp}
+use Rattle.host_machine.specs.Send.Dispatch.{Dispatches}
 use Rattle.host_machine.specs.Examples.ArpAndEcho as example
 
 -- fe80::1 and fe80::2

@@ -13,13 +13,13 @@ use Rattle.host_machine.specs.declared.results.PollIngressSingleResult.TheVarian
 use Rattle.host_machine.specs.declared.results.PollResult.TheVariants as poll
 use Rattle.host_machine.specs.declared.results.TimeoutError.{TimeoutError}
 use Rattle.host_machine.specs.declared.results.TimeoutError.TheVariants.{TimeoutTooLong}
-use Rattle.host_machine.specs.State.Note.{OfIdentification, OfSlots, OfCuts, Identify, Cut, PieceSent}
-use Rattle.host_machine.specs.State.Host.{Host, with_left, with_slots}
-use Rattle.host_machine.specs.Sending.Packet.{Packet, PacketV4, Ipv4, Raw}
-use Rattle.host_machine.specs.Sending.Dispatch.{Dispatches}
-use Rattle.host_machine.specs.Sending.Egress.{Egress}
-use Rattle.host_machine.specs.Polling.Step.{SetsReassemblyTimeout}
-use Rattle.host_machine.specs.Polling.Ingress.{Ingress}
+use Rattle.host_machine.specs.Context.Note.{OfIdentification, OfSlots, OfCuts, Identify, Cut, PieceSent}
+use Rattle.host_machine.specs.Context.Host.{Host, with_left, with_slots}
+use Rattle.host_machine.specs.Packet.Packet.{Packet, PacketV4, Ipv4, Raw}
+use Rattle.host_machine.specs.Send.Dispatch.{Dispatches}
+use Rattle.host_machine.specs.Interface.Egress.{Egress}
+use Rattle.host_machine.specs.Interface.Step.{SetsReassemblyTimeout}
+use Rattle.host_machine.specs.Interface.Ingress.{Ingress}
 use Rattle.host_machine.specs.Examples.ArpAndEcho as example
 
 -- 192.168.69.100 sends ten octets of protocol 2 in two fragments: the first eight, and the last two

@@ -14,10 +14,11 @@ use Rattle.group_table.specs.declared.groups.GroupState.{GroupState}
 use Rattle.group_table.specs.declared.groups.GroupState.TheVariants.{Joining, Joined, Leaving}
 use Rattle.group_table.specs.declared.report.IgmpReportState.TheVariants as igmp
 use Rattle.group_table.specs.declared.report.MldReportState.TheVariants as mld
-use Rattle.host_machine.specs.State.Host.{Host, with_groups}
-use Rattle.host_machine.specs.Sending.Egress.{Round}
-use Rattle.host_machine.specs.Sending.Multicast.{JoinsEgress, LeavesEgress, groups_for}
-use Rattle.host_machine.specs.Sending.Reports.{igmp_report_for, with_igmp_report, with_mld_report}
+use Rattle.host_machine.specs.Context.Host.{Host, with_groups, with_igmp_report, with_mld_report}
+use Rattle.host_machine.specs.Interface.Egress.{Round}
+use Rattle.host_machine.specs.Multicast.Joins.{JoinsEgress, LeavesEgress}
+use Rattle.host_machine.specs.Context.Membership.{groups_for}
+use Rattle.host_machine.specs.Multicast.Igmp.{igmp_report_for}
 use Rattle.host_machine.specs.Examples.ArpAndEcho as example
 
 -- 239.1.2.3, and ff02::1:ff00:1

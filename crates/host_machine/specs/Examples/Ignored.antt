@@ -3,12 +3,12 @@
 use Rattle.std.specs.Prelude.{ℕ, pos, List, [], ◌∷◌, ◌++◌}
 use Rattle.net_base.specs.Device.{Received, Frame}
 use Rattle.host_machine.specs.declared.results.PollIngressSingleResult.TheVariants as result
-use Rattle.host_machine.specs.State.Host.{Host}
+use Rattle.host_machine.specs.Context.Host.{Host}
 use Rattle.host_machine.specs.Examples.ArpAndEcho.{host, no_neighbors, without_hardware}
 use Rattle.host_machine.specs.Examples.Discovery as v6
 use Rattle.host_machine.specs.Examples.Fragments.{waiting_host}
 use Rattle.host_machine.specs.Examples.Sockets.{listening_raw_socket, listening_socket, with_raw, with_socket}
-use Rattle.host_machine.specs.Polling.Ingress.{Ingress}
+use Rattle.host_machine.specs.Interface.Ingress.{Ingress}
 
 -- an ARP request to a hardware address, by the type of its hardware, for an address; its sender is at 02:00:00:00:00:02
 abbrev pub request_to : ℕ → ℕ → List ℕ → List ℕ → List ℕ

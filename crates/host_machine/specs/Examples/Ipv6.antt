@@ -8,9 +8,9 @@ use Rattle.ip_address.specs.declared.ip.IpAddress.TheVariants as ip
 use Rattle.iface_tables.specs.Neighbor.{Neighbors, after_renewal}
 use Rattle.transport_sockets.specs.Udp.{UdpSocket}
 use Rattle.host_machine.specs.declared.results.PollIngressSingleResult.TheVariants as result
-use Rattle.host_machine.specs.Sending.Packet.{Packet, Ipv6, Udp}
-use Rattle.host_machine.specs.Sending.Dispatch.{Dispatches}
-use Rattle.host_machine.specs.Polling.Ingress.{Ingress}
+use Rattle.host_machine.specs.Packet.Packet.{Packet, Ipv6, Udp}
+use Rattle.host_machine.specs.Send.Dispatch.{Dispatches}
+use Rattle.host_machine.specs.Interface.Ingress.{Ingress}
 use Rattle.host_machine.specs.Examples.ArpAndEcho as example
 use Rattle.host_machine.specs.Examples.Discovery.{host, own, neighbor}
 use Rattle.host_machine.specs.Examples.Sockets.{empty_queue, listening_socket, with_socket}

@@ -2,9 +2,9 @@
 use Rattle.std.specs.Prelude.{pos, [], ◌∷◌, Some, None}
 use Rattle.net_base.specs.Device.{Received, Frame, Nothing, Sent}
 use Rattle.host_machine.specs.declared.results.PollResult.TheVariants as poll
-use Rattle.host_machine.specs.State.Host.{at}
-use Rattle.host_machine.specs.Polling.Polling.{Polls}
-use Rattle.host_machine.specs.Polling.Due.{Due, IsLeast, IsRest}
+use Rattle.host_machine.specs.Context.Host.{at}
+use Rattle.host_machine.specs.Interface.Polling.{Polls}
+use Rattle.host_machine.specs.Interface.Due.{Due, IsLeast, IsRest}
 use Rattle.host_machine.specs.Examples.ArpAndEcho as example
 use Rattle.host_machine.specs.Examples.Sockets.{with_sending}
 

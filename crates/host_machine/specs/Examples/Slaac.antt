@@ -12,8 +12,10 @@ use Rattle.icmpv6_wire.specs.Router.{router_in}
 use Rattle.iface_tables.specs.Route.{ipv6_gateway}
 use Rattle.slaac.specs.declared.slaac.Phase.TheVariants.{Discovering, Maintaining}
 use Rattle.slaac.specs.Slaac.{SlaacState, default_route, initial_state}
-use Rattle.host_machine.specs.State.Host.{Host, at, with_neighbors}
-use Rattle.host_machine.specs.Sending.Slaac.{NdiscRsEgress, after_sync, after_advertisement}
+use Rattle.host_machine.specs.Context.Host.{Host, at, with_neighbors}
+use Rattle.host_machine.specs.Discovery.RouterSolicitation.{NdiscRsEgress}
+use Rattle.host_machine.specs.Context.Autoconfiguration.{after_sync}
+use Rattle.host_machine.specs.Discovery.Router.{after_advertisement}
 use Rattle.host_machine.specs.Examples.ArpAndEcho as example
 use Rattle.host_machine.specs.Examples.Groups.{host_v6}
 

@@ -18,12 +18,12 @@ use Rattle.host_machine.specs.declared.results.HardwareError.TheVariants as hard
 use Rattle.host_machine.specs.declared.results.NewError.TheVariants as new_error
 use Rattle.host_machine.specs.declared.results.PollIngressSingleResult.TheVariants as result
 use Rattle.host_machine.specs.declared.results.PollResult.TheVariants as poll
-use Rattle.host_machine.specs.State.Note.{OfDiscovery, OfIdentification, Ask, Identify}
-use Rattle.host_machine.specs.State.Host.{Host}
-use Rattle.host_machine.specs.State.Config.{first_id, hardware_refusal_of, refusal_of}
-use Rattle.host_machine.specs.Sending.Frame.{with_limited_window}
-use Rattle.host_machine.specs.Polling.Ingress.{Ingress}
-use Rattle.host_machine.specs.Sending.Egress.{Egress}
+use Rattle.host_machine.specs.Context.Note.{OfDiscovery, OfIdentification, Ask, Identify}
+use Rattle.host_machine.specs.Context.Host.{Host}
+use Rattle.host_machine.specs.Interface.Config.{first_id, hardware_refusal_of, refusal_of}
+use Rattle.host_machine.specs.Packet.Frame.{with_limited_window}
+use Rattle.host_machine.specs.Interface.Ingress.{Ingress}
+use Rattle.host_machine.specs.Interface.Egress.{Egress}
 use Rattle.host_machine.specs.Examples.ArpAndEcho as example
 
 -- `hi` from 192.168.69.100, port 5000, to port 6969

@@ -12,9 +12,9 @@ use Rattle.fragmentation.specs.Cuts.{cut}
 use Rattle.host_machine.specs.declared.command.Command.{Command}
 use Rattle.host_machine.specs.declared.command.Command.TheVariants.{PollIngressSingle, Poll}
 use Rattle.host_machine.specs.declared.command.Command.TheVariants.{PollMaintenance, SetReassemblyTimeout}
-use Rattle.host_machine.specs.State.Note.{slot_notes}
-use Rattle.host_machine.specs.State.Host.{Host}
-use Rattle.host_machine.specs.Polling.Run.{Transition, Run, notes_in}
+use Rattle.host_machine.specs.Context.Note.{slot_notes}
+use Rattle.host_machine.specs.Context.Host.{Host}
+use Rattle.host_machine.specs.Interface.Run.{Transition, Run, notes_in}
 use Rattle.host_machine.specs.Laws.Frames.{all_arrivals}
 use Rattle.host_machine.specs.Laws.Unfolded.{IsSingle}
 

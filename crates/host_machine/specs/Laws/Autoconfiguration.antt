@@ -24,9 +24,9 @@ use Rattle.icmpv6_wire.specs.declared.router.RouterRepr.TheVariants.{RouterAdver
 use Rattle.iface_tables.specs.declared.route.Route.{Route as StoredRoute}
 use Rattle.slaac.specs.declared.slaac.Prefix.{Prefix}
 use Rattle.slaac.specs.declared.slaac.Route.{Route}
-use Rattle.host_machine.specs.State.Host.{Host, at}
-use Rattle.host_machine.specs.Polling.Polling.{after_maintenance}
-use Rattle.host_machine.specs.Receiving.Icmpv6.{IsMessage}
+use Rattle.host_machine.specs.Context.Host.{Host, at}
+use Rattle.host_machine.specs.Interface.Polling.{after_maintenance}
+use Rattle.host_machine.specs.Icmp.Icmpv6.{IsMessage}
 use Rattle.host_machine.specs.Laws.Service.{HasPayloadV6, Takes}
 
 -- no prefix that makes this address has expired: the host forms it of the prefix and of its hardware address

@@ -6,12 +6,12 @@ use Rattle.host_machine.specs.declared.command.Command.{Command}
 use Rattle.host_machine.specs.declared.command.Command.TheVariants.{PollIngressSingle, PollEgress}
 use Rattle.host_machine.specs.declared.results.PollIngressSingleResult.{PollIngressSingleResult}
 use Rattle.host_machine.specs.declared.results.PollResult.{PollResult}
-use Rattle.host_machine.specs.State.Note.{Note}
-use Rattle.host_machine.specs.State.Host.{Host, at}
-use Rattle.host_machine.specs.Receiving.Reply.{Reply}
-use Rattle.host_machine.specs.Sending.Egress.{Egress}
-use Rattle.host_machine.specs.Polling.Ingress.{Ingress}
-use Rattle.host_machine.specs.Polling.Run.{Transition}
+use Rattle.host_machine.specs.Context.Note.{Note}
+use Rattle.host_machine.specs.Context.Host.{Host, at}
+use Rattle.host_machine.specs.Receive.Reply.{Reply}
+use Rattle.host_machine.specs.Interface.Egress.{Egress}
+use Rattle.host_machine.specs.Interface.Ingress.{Ingress}
+use Rattle.host_machine.specs.Interface.Run.{Transition}
 use Rattle.host_machine.specs.Laws.Service.{AnswersArpRequests, AnswersClosedPorts, AnswersClosedPortsV6}
 use Rattle.host_machine.specs.Laws.Service.{LearnsAdvertisers, LearnsArpSenders}
 use Rattle.host_machine.specs.Laws.Service.{AnswersPings, AnswersPingsV6}

@@ -12,16 +12,17 @@ use Rattle.host_machine.specs.declared.results.PollResult.{PollResult}
 use Rattle.host_machine.specs.declared.command.Command.{Command}
 use Rattle.host_machine.specs.declared.command.Command.TheVariants.{PollIngressSingle, Poll}
 use Rattle.host_machine.specs.declared.command.Answer.{Answer}
-use Rattle.host_machine.specs.State.Note.{Note}
-use Rattle.host_machine.specs.State.Host.{Host, at, with_neighbors}
-use Rattle.host_machine.specs.Sending.Packet.{Packet}
-use Rattle.host_machine.specs.Receiving.Reply.{Reply}
-use Rattle.host_machine.specs.Sending.Dispatch.{Outcome, Dispatches}
-use Rattle.host_machine.specs.Polling.Ingress.{Takes, Ingress}
-use Rattle.host_machine.specs.Sending.Egress.{Egress}
-use Rattle.host_machine.specs.Polling.Polling.{Repeats, Polls, may_change, after_maintenance}
-use Rattle.host_machine.specs.Polling.Step.{Act, Step}
-use Rattle.host_machine.specs.Polling.Run.{Transition, Run, events_in, acts_in}
+use Rattle.host_machine.specs.Context.Note.{Note}
+use Rattle.host_machine.specs.Context.Host.{Host, at, with_neighbors}
+use Rattle.host_machine.specs.Packet.Packet.{Packet}
+use Rattle.host_machine.specs.Receive.Reply.{Reply}
+use Rattle.host_machine.specs.Send.Outcome.{Outcome}
+use Rattle.host_machine.specs.Send.Dispatch.{Dispatches}
+use Rattle.host_machine.specs.Interface.Ingress.{Takes, Ingress}
+use Rattle.host_machine.specs.Interface.Egress.{Egress}
+use Rattle.host_machine.specs.Interface.Polling.{Repeats, Polls, may_change, after_maintenance}
+use Rattle.host_machine.specs.Interface.Step.{Act, Step}
+use Rattle.host_machine.specs.Interface.Run.{Transition, Run, events_in, acts_in}
 
 -- A dispatch
 

@@ -11,13 +11,14 @@ use Rattle.group_wire.specs.declared.mld.MldRecordType.TheVariants.{ModeIsExclud
 use Rattle.group_table.specs.declared.report.IgmpReportState.TheVariants as igmp
 use Rattle.group_table.specs.declared.report.MldReportState.TheVariants as mld
 use Rattle.host_machine.specs.declared.results.PollResult.{PollResult}
-use Rattle.host_machine.specs.State.Note.{Note}
-use Rattle.host_machine.specs.State.Host.{Host}
-use Rattle.host_machine.specs.Sending.Dispatch.{destination_of}
-use Rattle.host_machine.specs.Sending.Egress.{Egress}
-use Rattle.host_machine.specs.Sending.Frame.{ip_frame}
-use Rattle.host_machine.specs.Sending.Multicast.{igmp_report, mld_report}
-use Rattle.host_machine.specs.Sending.Packet.{Packet, total_len}
+use Rattle.host_machine.specs.Context.Note.{Note}
+use Rattle.host_machine.specs.Context.Host.{Host}
+use Rattle.host_machine.specs.Send.Dispatch.{destination_of}
+use Rattle.host_machine.specs.Interface.Egress.{Egress}
+use Rattle.host_machine.specs.Packet.Frame.{ip_frame}
+use Rattle.host_machine.specs.Multicast.Igmp.{igmp_report}
+use Rattle.host_machine.specs.Multicast.Mld.{mld_report}
+use Rattle.host_machine.specs.Packet.Packet.{Packet, total_len}
 use Rattle.host_machine.specs.Laws.Many.{IsManysAddress, IsToMany}
 use Rattle.host_machine.specs.Laws.Service.{all_granted}
 

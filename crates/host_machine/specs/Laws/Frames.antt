@@ -11,15 +11,15 @@ use Rattle.ip_wire.specs.Ipv4Packet.{IsIpv4, ipv4_in, is_fragment}
 use Rattle.fragmentation.specs.declared.key.FragKey.{FragKey}
 use Rattle.fragmentation.specs.Fragments.{Fragment}
 use Rattle.fragmentation.specs.Reassembly.{SlotNote, Take, Arrival, Rebuild}
-use Rattle.host_machine.specs.State.Note.{slot_notes}
+use Rattle.host_machine.specs.Context.Note.{slot_notes}
 use Rattle.host_machine.specs.declared.command.Command.{Command}
 use Rattle.host_machine.specs.declared.command.Command.TheVariants.{Poll}
-use Rattle.host_machine.specs.State.Host.{Host, at}
-use Rattle.host_machine.specs.Polling.Polling.{after_maintenance}
-use Rattle.host_machine.specs.State.Addresses.{may_be_source}
-use Rattle.host_machine.specs.Receiving.Ethernet.{is_for, version_in}
-use Rattle.host_machine.specs.Receiving.Ipv4.{key_in, fragment_in}
-use Rattle.host_machine.specs.Polling.Run.{Transition}
+use Rattle.host_machine.specs.Context.Host.{Host, at}
+use Rattle.host_machine.specs.Interface.Polling.{after_maintenance}
+use Rattle.host_machine.specs.Context.Addresses.{may_be_source}
+use Rattle.host_machine.specs.Receive.Ethernet.{is_for, version_in}
+use Rattle.host_machine.specs.Receive.Ipv4.{key_in, fragment_in}
+use Rattle.host_machine.specs.Interface.Run.{Transition}
 
 -- a frame that a host accepts carries an IPv4 packet: over Ethernet after the header, if the frame is for the host
 -- (RFC 894); on a medium without hardware addresses it is the packet

@@ -19,8 +19,8 @@ use Rattle.group_table.specs.declared.report.IgmpReportState.{IgmpReportState}
 use Rattle.group_table.specs.declared.report.IgmpReportState.TheVariants as igmp
 use Rattle.group_table.specs.declared.report.MldReportState.{MldReportState}
 use Rattle.group_table.specs.declared.report.MldReportState.TheVariants as mld
-use Rattle.host_machine.specs.State.Host.{Host}
-use Rattle.host_machine.specs.Receiving.Icmpv6.{IsMessage}
+use Rattle.host_machine.specs.Context.Host.{Host}
+use Rattle.host_machine.specs.Icmp.Icmpv6.{IsMessage}
 use Rattle.host_machine.specs.Laws.Many.{IsMember}
 use Rattle.host_machine.specs.Laws.Received.{CarriesPacket}
 use Rattle.host_machine.specs.Laws.Restraint.Queries.{HasGroup, allowed}

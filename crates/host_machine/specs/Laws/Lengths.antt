@@ -5,8 +5,8 @@ use Rattle.net_base.specs.declared.phy.DeviceCapabilities.{DeviceCapabilities}
 use Rattle.net_base.specs.Checksum.{ip_mtu_of}
 use Rattle.net_base.specs.Device.{sent_frames}
 use Rattle.fragmentation.specs.Cuts.{Piece}
-use Rattle.host_machine.specs.State.Host.{Host}
-use Rattle.host_machine.specs.Polling.Run.{Transition, Run, events_in}
+use Rattle.host_machine.specs.Context.Host.{Host}
+use Rattle.host_machine.specs.Interface.Run.{Transition, Run, events_in}
 use Rattle.host_machine.specs.Laws.Real.{IsRegular}
 
 -- a fragment, with its header of 20 octets, fits the device's IP packets

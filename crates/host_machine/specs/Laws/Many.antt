@@ -24,12 +24,12 @@ use Rattle.socket_base.specs.Queue.{is_room}
 use Rattle.sockets.specs.declared.socket.SocketOf.TheVariants.{Udp}
 use Rattle.transport_sockets.specs.Udp.{UdpSocket}
 use Rattle.host_machine.specs.declared.results.PollResult.{PollResult}
-use Rattle.host_machine.specs.State.Note.{Note}
-use Rattle.host_machine.specs.State.Host.{Host, at}
-use Rattle.host_machine.specs.Receiving.Udp.{IsDatagram}
-use Rattle.host_machine.specs.Sending.Dispatch.{destination_of}
-use Rattle.host_machine.specs.Sending.Egress.{Egress}
-use Rattle.host_machine.specs.Sending.Packet.{Packet, total_len}
+use Rattle.host_machine.specs.Context.Note.{Note}
+use Rattle.host_machine.specs.Context.Host.{Host, at}
+use Rattle.host_machine.specs.Sockets.Udp.{IsDatagram}
+use Rattle.host_machine.specs.Send.Dispatch.{destination_of}
+use Rattle.host_machine.specs.Interface.Egress.{Egress}
+use Rattle.host_machine.specs.Packet.Packet.{Packet, total_len}
 use Rattle.host_machine.specs.Laws.Received.{CarriesPacket}
 use Rattle.host_machine.specs.Laws.Restraint.NextHop.{AreApart, IsGroup, IsOfGroup, IsToAll}
 use Rattle.host_machine.specs.Laws.Restraint.Queries.{HasGroup}

@@ -1,7 +1,7 @@
 -- What a run sends of fragmented packets, and which identifications its dispatches use (RFC 791 3.2).
 use Rattle.std.specs.Prelude.{◌≡◌, ◌≢◌, ℕ, ◌+◌, ◌%◌, ◌^◌, ◌<◌, List, [], ◌∷◌, ◌++◌, length}
 use Rattle.fragmentation.specs.Cuts.{Piece, pieces_of}
-use Rattle.host_machine.specs.State.Note.{CutNote, Cut, PieceSent}
+use Rattle.host_machine.specs.Context.Note.{CutNote, Cut, PieceSent}
 
 -- the fragments that are sent up to the next fragmented packet, in order
 abbrev pub sent_of_this : List CutNote → List Piece

@@ -18,10 +18,10 @@ use Rattle.icmpv6_wire.specs.declared.icmpv6.Icmpv6Repr.TheVariants.{ParamProble
 use Rattle.icmpv6_wire.specs.declared.icmpv6.Icmpv6ParamProblem.TheVariants.{UnrecognizedNxtHdr, UnrecognizedOption}
 use Rattle.ipv6_wire.specs.HopByHop.{IsHopByHop, hop_by_hop_in, first_failure}
 use Rattle.ipv6_wire.specs.declared.hop_by_hop.Ipv6OptionFailureType.TheVariants.{DiscardSendAll, DiscardSendUnicast}
-use Rattle.host_machine.specs.State.Host.{Host, at, is_assigned}
-use Rattle.host_machine.specs.Sending.Packet.{Icmpv4, Icmpv6}
-use Rattle.host_machine.specs.Sending.Packet as packet
-use Rattle.host_machine.specs.Sending.Frame.{ip_frame}
+use Rattle.host_machine.specs.Context.Host.{Host, at, is_assigned}
+use Rattle.host_machine.specs.Packet.Packet.{Icmpv4, Icmpv6}
+use Rattle.host_machine.specs.Packet.Packet as packet
+use Rattle.host_machine.specs.Packet.Frame.{ip_frame}
 use Rattle.host_machine.specs.Laws.Restraint.Replies.{IsNoRawFor}
 use Rattle.host_machine.specs.Laws.Service.{HasPacketV4, HasPacketV6, HasPayloadV6, HasWay, IsToItself, Takes}
 

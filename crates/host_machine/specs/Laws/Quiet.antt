@@ -14,9 +14,9 @@ use Rattle.host_machine.specs.declared.command.Answer.{Answer}
 use Rattle.host_machine.specs.declared.command.Answer.TheVariants as answer
 use Rattle.host_machine.specs.declared.results.PollIngressSingleResult.TheVariants as ingress
 use Rattle.host_machine.specs.declared.results.PollResult.TheVariants as result
-use Rattle.host_machine.specs.State.Host.{Socket}
-use Rattle.host_machine.specs.Polling.Due.{instant_of}
-use Rattle.host_machine.specs.Polling.Run.{Transition}
+use Rattle.host_machine.specs.Context.Host.{Socket}
+use Rattle.host_machine.specs.Sockets.Polling.{instant_of}
+use Rattle.host_machine.specs.Interface.Run.{Transition}
 
 -- before the end, if there is one
 abbrev pub IsBefore : ℤ → Option ℤ → Type 0

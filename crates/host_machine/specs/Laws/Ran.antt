@@ -4,9 +4,9 @@ use Rattle.std.specs.List.{AllByRecursion}
 use Rattle.net_base.specs.Device.{Event, sent_frames}
 use Rattle.host_machine.specs.declared.command.Command.{Command}
 use Rattle.host_machine.specs.declared.command.Answer.{Answer}
-use Rattle.host_machine.specs.State.Note.{asks, identifications, slot_notes, cut_notes}
-use Rattle.host_machine.specs.State.Host.{Host, SocketSet}
-use Rattle.host_machine.specs.Sending.Dispatch.{piece_size}
+use Rattle.host_machine.specs.Context.Note.{asks, identifications, slot_notes, cut_notes}
+use Rattle.host_machine.specs.Context.Host.{Host, SocketSet}
+use Rattle.host_machine.specs.Context.Pieces.{piece_size}
 use Rattle.host_machine.specs.Laws.Rebuilding.{first_history, AreRebuilt}
 use Rattle.host_machine.specs.Laws.Order.{IsBeginning, sent_of_this, AreBeginnings, AreCounted}
 use Rattle.host_machine.specs.Laws.Order.{AreDistinctIfFew, cut_identifications, IsAmong}
@@ -16,7 +16,7 @@ use Rattle.host_machine.specs.Laws.Lengths.{FramesFit, PiecesFit}
 use Rattle.host_machine.specs.Laws.Wire.{Shows}
 use Rattle.host_machine.specs.Laws.TwoHosts.{HaveOwnKeys, cuts_in}
 use Rattle.host_machine.specs.Laws.Requests.{NoSocketSpeaks, requests_in}
-use Rattle.host_machine.specs.Polling.Run.{Transition, Run, Did, AreSpaced, events_in, acts_in, notes_in}
+use Rattle.host_machine.specs.Interface.Run.{Transition, Run, Did, AreSpaced, events_in, acts_in, notes_in}
 use Rattle.host_machine.specs.Laws.Quiet.{AreQuiet}
 use Rattle.host_machine.specs.Laws.Calls.{IsMadeOfCalls}
 

@@ -10,7 +10,7 @@ use Rattle.ip_address.specs.declared.protocol.IpProtocol.TheVariants as protocol
 use Rattle.ip_wire.specs.Ipv4Packet.{IsHeader, is_fragment}
 use Rattle.iface_tables.specs.Neighbor.{AreOf}
 use Rattle.fragmentation.specs.Cuts.{Piece, piece_header, piece_fragment}
-use Rattle.host_machine.specs.State.Host.{Host}
+use Rattle.host_machine.specs.Context.Host.{Host}
 
 -- its hardware addresses are of its medium: six octets on Ethernet (RFC 894), and none on an IP medium
 pub record IsReal (H : Host) : Type 0 where

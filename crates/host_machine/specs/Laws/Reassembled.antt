@@ -17,15 +17,15 @@ use Rattle.ip_wire.specs.Ipv4Packet.{IsIpv4, ipv4_in, is_fragment}
 use Rattle.ip_wire.specs.Udp.{udp_in}
 use Rattle.transport_sockets.specs.Udp.{UdpSocket}
 use Rattle.fragmentation.specs.Cuts.{Piece, pieces_of}
-use Rattle.host_machine.specs.State.Note.{Note, slot_notes}
-use Rattle.host_machine.specs.State.Host.{Host, at, is_assigned}
-use Rattle.host_machine.specs.State.Addresses.{is_unicast_v4}
-use Rattle.host_machine.specs.Receiving.Ipv4.{datagram_header, key_in}
-use Rattle.host_machine.specs.Receiving.Udp.{IsDatagram}
-use Rattle.host_machine.specs.Sending.Dispatch.{datagram_of}
-use Rattle.host_machine.specs.Sending.Packet.{Icmpv4, PacketV4}
-use Rattle.host_machine.specs.Sending.Packet as packet
-use Rattle.host_machine.specs.Sending.Frame.{ip_frame, piece_frame}
+use Rattle.host_machine.specs.Context.Note.{Note, slot_notes}
+use Rattle.host_machine.specs.Context.Host.{Host, at, is_assigned}
+use Rattle.host_machine.specs.Context.Addresses.{is_unicast_v4}
+use Rattle.host_machine.specs.Receive.Ipv4.{datagram_header, key_in}
+use Rattle.host_machine.specs.Sockets.Udp.{IsDatagram}
+use Rattle.host_machine.specs.Context.Pieces.{datagram_of}
+use Rattle.host_machine.specs.Packet.Packet.{Icmpv4, PacketV4}
+use Rattle.host_machine.specs.Packet.Packet as packet
+use Rattle.host_machine.specs.Packet.Frame.{ip_frame, piece_frame}
 use Rattle.host_machine.specs.Laws.Arrivals.{rebuilt}
 use Rattle.host_machine.specs.Laws.Service.{HasWay, IsAccepted, IsAcceptedBy, IsOfLink, IsQueued, IsToItself, Takes, packet_in}
 

@@ -6,7 +6,7 @@ use Rattle.fragmentation.specs.Keys.{same_key}
 use Rattle.fragmentation.specs.Fragments.{Got, no_fragments, with_one, IsRebuilt}
 use Rattle.fragmentation.specs.Slots.{Slot}
 use Rattle.fragmentation.specs.Reassembly.{SlotNote, Take, Arrival, Rebuild}
-use Rattle.host_machine.specs.State.Host.{Host}
+use Rattle.host_machine.specs.Context.Host.{Host}
 
 -- what was received under each key
 abbrev pub History : Type 0

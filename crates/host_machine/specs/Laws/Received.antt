@@ -27,10 +27,10 @@ use Rattle.network_sockets.specs.declared.icmp.Endpoint.TheVariants.{Ident}
 use Rattle.network_sockets.specs.Raw.{RawSocket}
 use Rattle.transport_sockets.specs.Tcp.{TcpSocket, segment_of}
 use Rattle.sockets.specs.declared.socket.SocketOf.TheVariants.{Icmp, Raw, Tcp}
-use Rattle.host_machine.specs.State.Host.{Host, is_assigned}
-use Rattle.host_machine.specs.State.Addresses.{is_unicast_v4}
-use Rattle.host_machine.specs.Receiving.Icmpv6.{IsMessage}
-use Rattle.host_machine.specs.Receiving.Tcp.{IsSegment, destination_of, source_of}
+use Rattle.host_machine.specs.Context.Host.{Host, is_assigned}
+use Rattle.host_machine.specs.Context.Addresses.{is_unicast_v4}
+use Rattle.host_machine.specs.Icmp.Icmpv6.{IsMessage}
+use Rattle.host_machine.specs.Sockets.Tcp.{IsSegment, destination_of, source_of}
 use Rattle.host_machine.specs.Laws.Service.{HasPacketV4, HasPacketV6, HasPayloadV6, IsAccepted, IsOfLink, IsToItself, Takes, packet_in}
 
 -- Raw packets

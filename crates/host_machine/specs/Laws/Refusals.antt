@@ -10,11 +10,14 @@ use Rattle.group_table.specs.declared.report.MldReportState.{MldReportState}
 use Rattle.group_table.specs.declared.report.MldReportState.TheVariants as mld
 use Rattle.host_machine.specs.declared.results.PollResult.{PollResult}
 use Rattle.host_machine.specs.declared.results.PollResult.TheVariants as result
-use Rattle.host_machine.specs.State.Note.{Note}
-use Rattle.host_machine.specs.State.Host.{Host, Socket, SocketSet, Storage, at, with_groups}
-use Rattle.host_machine.specs.State.Addresses.{ipv4_addr}
-use Rattle.host_machine.specs.Sending.Reports.{has_passed, mld_timeout_of, next_group, igmp_timeout_of}
-use Rattle.host_machine.specs.Sending.Egress.{Egress, socket_after_asking}
+use Rattle.host_machine.specs.Context.Note.{Note}
+use Rattle.host_machine.specs.Context.Host.{Host, Socket, SocketSet, Storage, at, with_groups}
+use Rattle.host_machine.specs.Context.Addresses.{ipv4_addr}
+use Rattle.host_machine.specs.Multicast.Timeout.{has_passed}
+use Rattle.host_machine.specs.Multicast.Mld.{mld_timeout_of}
+use Rattle.host_machine.specs.Multicast.Igmp.{next_group, igmp_timeout_of}
+use Rattle.host_machine.specs.Interface.Egress.{Egress}
+use Rattle.host_machine.specs.Sockets.Offers.{socket_after_asking}
 
 -- whether the device granted a transmit token
 abbrev pub grants_any : List Event → Bool

@@ -14,7 +14,7 @@ use Rattle.ip_wire.specs.declared.ethernet.EthernetProtocol.TheVariants as proto
 use Rattle.ip_wire.specs.declared.ipv4_packet.Ipv4Repr.{Ipv4Repr}
 use Rattle.ip_wire.specs.Arp.{IsPacket}
 use Rattle.ip_wire.specs.Ethernet.{header_in}
-use Rattle.host_machine.specs.State.Host.{Host, at}
+use Rattle.host_machine.specs.Context.Host.{Host, at}
 use Rattle.host_machine.specs.Laws.Service.{AsksByArp, IsReached, IsToItself, Pings, Takes}
 
 -- a frame from one hardware address to another, with a type

@@ -16,8 +16,8 @@ use Rattle.ip_wire.specs.Ipv4Packet as packet_v4
 use Rattle.ipv6_wire.specs.Ipv6Packet.{address_at}
 use Rattle.ipv6_wire.specs.Ipv6Packet as packet_v6
 use Rattle.control_wire.specs.Icmpv4.{IsEchoRequest}
-use Rattle.host_machine.specs.State.Host.{Host, in_same_network, is_assigned}
-use Rattle.host_machine.specs.State.Addresses.{has_solicited_node, is_unicast_v4}
+use Rattle.host_machine.specs.Context.Host.{Host, in_same_network, is_assigned}
+use Rattle.host_machine.specs.Context.Addresses.{has_solicited_node, is_unicast_v4}
 use Rattle.host_machine.specs.Laws.ReplyOctets.{behind_header}
 use Rattle.host_machine.specs.Laws.Service.{IsOfLink, Pings, Solicits}
 

@@ -12,10 +12,10 @@ use Rattle.icmpv6_wire.specs.declared.icmpv6.Icmpv6Repr.TheVariants as v6
 use Rattle.icmpv6_wire.specs.declared.ndisc.NdiscRepr.{NdiscRepr}
 use Rattle.icmpv6_wire.specs.declared.ndisc.NdiscRepr.TheVariants.{NeighborSolicit, NeighborAdvert}
 use Rattle.sockets.specs.Kinds.{down_raw}
-use Rattle.host_machine.specs.State.Host.{Host, Storage}
-use Rattle.host_machine.specs.Receiving.Delivery.{holds}
-use Rattle.host_machine.specs.Sending.Packet.{IpPayload, Icmpv4, Icmpv6, Udp, Tcp, Raw, Igmp, Mld}
-use Rattle.host_machine.specs.Polling.Run.{Transition, events_in}
+use Rattle.host_machine.specs.Context.Host.{Host, Storage}
+use Rattle.host_machine.specs.Sockets.Delivery.{holds}
+use Rattle.host_machine.specs.Packet.Packet.{IpPayload, Icmpv4, Icmpv6, Udp, Tcp, Raw, Igmp, Mld}
+use Rattle.host_machine.specs.Interface.Run.{Transition, events_in}
 
 -- an Ethernet frame that requests a hardware address: its type is ARP, and the operation a request (RFC 826)
 abbrev pub is_arp_request : List ℕ → Bool

@@ -14,9 +14,9 @@ use Rattle.ip_wire.specs.declared.tcp.TcpRepr.{TcpRepr}
 use Rattle.ipv6_wire.specs.declared.ipv6_packet.Ipv6Repr.{Ipv6Repr}
 use Rattle.sockets.specs.declared.socket.SocketOf.TheVariants.{Tcp}
 use Rattle.transport_sockets.specs.Tcp.{TcpSocket}
-use Rattle.host_machine.specs.State.Host.{Host, at}
-use Rattle.host_machine.specs.Sending.Frame.{ip_frame}
-use Rattle.host_machine.specs.Sending.Packet as packet
+use Rattle.host_machine.specs.Context.Host.{Host, at}
+use Rattle.host_machine.specs.Packet.Frame.{ip_frame}
+use Rattle.host_machine.specs.Packet.Packet as packet
 use Rattle.host_machine.specs.Laws.Received.{HasSegment, HasSegmentV6}
 use Rattle.host_machine.specs.Laws.Restraint.Replies.{IsNoRawFor}
 use Rattle.host_machine.specs.Laws.Restraint.ResetNumbers.{IsResetFor}

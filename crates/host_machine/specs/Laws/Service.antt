@@ -62,24 +62,30 @@ use Rattle.group_table.specs.declared.report.IgmpReportState.TheVariants as igmp
 use Rattle.group_wire.specs.declared.igmp.IgmpVersion.{IgmpVersion}
 use Rattle.host_machine.specs.declared.results.PollIngressSingleResult.{PollIngressSingleResult}
 use Rattle.host_machine.specs.declared.results.PollResult.{PollResult}
-use Rattle.host_machine.specs.State.Note.{Note, asks}
-use Rattle.host_machine.specs.State.Host.{Host, Socket, at, in_same_network, is_assigned}
-use Rattle.host_machine.specs.State.Addresses.{has_solicited_node, is_unicast, is_unicast_v4, source_for}
-use Rattle.host_machine.specs.Sending.Packet.{Packet, Icmpv4, Icmpv6, total_len}
-use Rattle.host_machine.specs.Sending.Packet as packet
-use Rattle.host_machine.specs.Sending.Frame.{arp_frame, ip_frame, piece_frame}
-use Rattle.host_machine.specs.Receiving.Raw as raw
-use Rattle.host_machine.specs.Receiving.Udp.{IsDatagram}
-use Rattle.host_machine.specs.Receiving.Ethernet.{is_for}
-use Rattle.host_machine.specs.Sending.Dispatch.{IsNextHop, destination_of}
-use Rattle.host_machine.specs.Sending.Egress.{Egress, packet_from}
-use Rattle.host_machine.specs.Polling.Ingress.{Ingress}
-use Rattle.host_machine.specs.Receiving.Icmpv6.{IsMessage}
-use Rattle.host_machine.specs.Receiving.Ndisc.{solicited_flag}
-use Rattle.host_machine.specs.Sending.Slaac.{rs_poll_at}
-use Rattle.host_machine.specs.Sending.Reports.{igmp_poll_at, mld_timeout_of}
-use Rattle.host_machine.specs.Polling.Due.{Due, SocketDue, sync_poll_at, group_poll_at}
-use Rattle.host_machine.specs.Polling.Polling.{Polls}
+use Rattle.host_machine.specs.Context.Note.{Note, asks}
+use Rattle.host_machine.specs.Context.Host.{Host, Socket, at, in_same_network, is_assigned}
+use Rattle.host_machine.specs.Context.Addresses.{has_solicited_node, is_unicast, is_unicast_v4, source_for}
+use Rattle.host_machine.specs.Packet.Packet.{Packet, Icmpv4, Icmpv6, total_len}
+use Rattle.host_machine.specs.Packet.Packet as packet
+use Rattle.host_machine.specs.Packet.Frame.{arp_frame, ip_frame, piece_frame}
+use Rattle.host_machine.specs.Sockets.Raw as raw
+use Rattle.host_machine.specs.Sockets.Udp.{IsDatagram}
+use Rattle.host_machine.specs.Receive.Ethernet.{is_for}
+use Rattle.host_machine.specs.Send.Hops.{IsNextHop}
+use Rattle.host_machine.specs.Send.Dispatch.{destination_of}
+use Rattle.host_machine.specs.Interface.Egress.{Egress}
+use Rattle.host_machine.specs.Sockets.Offers.{packet_from}
+use Rattle.host_machine.specs.Interface.Ingress.{Ingress}
+use Rattle.host_machine.specs.Icmp.Icmpv6.{IsMessage}
+use Rattle.host_machine.specs.Discovery.Ndisc.{solicited_flag}
+use Rattle.host_machine.specs.Discovery.RouterSolicitation.{rs_poll_at}
+use Rattle.host_machine.specs.Multicast.Igmp.{igmp_poll_at}
+use Rattle.host_machine.specs.Multicast.Mld.{mld_timeout_of}
+use Rattle.host_machine.specs.Interface.Due.{Due}
+use Rattle.host_machine.specs.Sockets.Polling.{SocketDue}
+use Rattle.host_machine.specs.Discovery.Polling.{sync_poll_at}
+use Rattle.host_machine.specs.Multicast.Polling.{group_poll_at}
+use Rattle.host_machine.specs.Interface.Polling.{Polls}
 
 -- Frames received
 

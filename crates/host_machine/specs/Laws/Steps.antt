@@ -14,18 +14,20 @@ use Rattle.ipv6_wire.specs.Ipv6Packet.{IsIpv6}
 use Rattle.host_machine.specs.declared.results.PollIngressSingleResult.{PollIngressSingleResult}
 use Rattle.host_machine.specs.declared.results.DispatchError.TheVariants.{NeighborPending}
 use Rattle.fragmentation.specs.Cuts.{Piece, pieces_of}
-use Rattle.host_machine.specs.State.Note.{Note, Cut, PieceSent, asks, cut_notes}
-use Rattle.host_machine.specs.State.Host.{Host, without_expired}
+use Rattle.host_machine.specs.Context.Note.{Note, Cut, PieceSent, asks, cut_notes}
+use Rattle.host_machine.specs.Context.Host.{Host, without_expired}
 use Rattle.ip_address.specs.Hardware.{IsOf}
-use Rattle.host_machine.specs.Sending.Packet.{Packet, PacketV4}
-use Rattle.host_machine.specs.Sending.Packet as packet
-use Rattle.host_machine.specs.Sending.Frame.{ip_frame, piece_frame}
-use Rattle.host_machine.specs.Sending.Dispatch.{Outcome, Dispatches, datagram_of}
-use Rattle.host_machine.specs.Polling.Ingress.{Ingress}
+use Rattle.host_machine.specs.Packet.Packet.{Packet, PacketV4}
+use Rattle.host_machine.specs.Packet.Packet as packet
+use Rattle.host_machine.specs.Packet.Frame.{ip_frame, piece_frame}
+use Rattle.host_machine.specs.Send.Outcome.{Outcome}
+use Rattle.host_machine.specs.Send.Dispatch.{Dispatches}
+use Rattle.host_machine.specs.Context.Pieces.{datagram_of}
+use Rattle.host_machine.specs.Interface.Ingress.{Ingress}
 use Rattle.host_machine.specs.Laws.Frames.{ArrivesInFrames}
 use Rattle.host_machine.specs.Laws.Real.{IsReal, IsRegular}
 use Rattle.host_machine.specs.Laws.Requests.{NoSocketSpeaks, is_request, requests_in}
-use Rattle.host_machine.specs.Polling.Run.{Transition, Run, notes_in}
+use Rattle.host_machine.specs.Interface.Run.{Transition, Run, notes_in}
 use Rattle.host_machine.specs.Laws.Ran.{Laws}
 
 -- a frame with a malformed header of Ethernet, ARP, IPv4 or IPv6

@@ -12,15 +12,15 @@ use Rattle.fragmentation.specs.declared.key.FragKey.{FragKey}
 use Rattle.fragmentation.specs.Keys.{same_key, key_of}
 use Rattle.fragmentation.specs.Fragments.{Fragment}
 use Rattle.fragmentation.specs.Cuts.{Datagram, HasForm, cut, piece_of}
-use Rattle.host_machine.specs.State.Note.{CutNote, Cut, PieceSent, cut_notes}
-use Rattle.host_machine.specs.State.Host.{Host}
-use Rattle.host_machine.specs.State.Addresses.{may_be_source}
-use Rattle.host_machine.specs.Receiving.Ethernet.{is_for}
-use Rattle.host_machine.specs.Sending.Frame.{piece_frame}
+use Rattle.host_machine.specs.Context.Note.{CutNote, Cut, PieceSent, cut_notes}
+use Rattle.host_machine.specs.Context.Host.{Host}
+use Rattle.host_machine.specs.Context.Addresses.{may_be_source}
+use Rattle.host_machine.specs.Receive.Ethernet.{is_for}
+use Rattle.host_machine.specs.Packet.Frame.{piece_frame}
 use Rattle.host_machine.specs.Laws.Frames.{Brings}
 use Rattle.ip_address.specs.Hardware.{IsOf}
 use Rattle.host_machine.specs.Laws.Real.{IsReal}
-use Rattle.host_machine.specs.Polling.Run.{Transition, Run, events_in, notes_in}
+use Rattle.host_machine.specs.Interface.Run.{Transition, Run, events_in, notes_in}
 use Rattle.host_machine.specs.Laws.Arrivals.{rebuilt, slot_notes_in}
 
 -- the packets that were fragmented, in order

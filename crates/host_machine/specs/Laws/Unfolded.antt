@@ -3,8 +3,8 @@ use Rattle.std.specs.Prelude.{◌≡◌, List}
 use Rattle.std.specs.List.{AllByRecursion}
 use Rattle.host_machine.specs.declared.command.Command.{Command}
 use Rattle.host_machine.specs.declared.command.Command.TheVariants.{Poll}
-use Rattle.host_machine.specs.State.Host.{Host}
-use Rattle.host_machine.specs.Polling.Run.{Transition, Run, events_in, acts_in, notes_in}
+use Rattle.host_machine.specs.Context.Host.{Host}
+use Rattle.host_machine.specs.Interface.Run.{Transition, Run, events_in, acts_in, notes_in}
 
 -- a call that is not a poll, so that it receives at most one frame
 abbrev pub IsSingle : Command → Type 0

@@ -5,13 +5,13 @@ use Rattle.net_base.specs.Device.{sent_frames}
 use Rattle.fragmentation.specs.declared.key.FragKey.{FragKey}
 use Rattle.fragmentation.specs.Fragments.{Fragment}
 use Rattle.fragmentation.specs.Cuts.{Datagram, Piece}
-use Rattle.host_machine.specs.State.Note.{CutNote, Cut, PieceSent, cut_notes}
-use Rattle.host_machine.specs.State.Host.{Host}
-use Rattle.host_machine.specs.Sending.Frame.{piece_frame}
+use Rattle.host_machine.specs.Context.Note.{CutNote, Cut, PieceSent, cut_notes}
+use Rattle.host_machine.specs.Context.Host.{Host}
+use Rattle.host_machine.specs.Packet.Frame.{piece_frame}
 use Rattle.host_machine.specs.Laws.Frames.{Brings}
 use Rattle.ip_address.specs.Hardware.{IsOf}
 use Rattle.host_machine.specs.Laws.Real.{IsReal}
-use Rattle.host_machine.specs.Polling.Run.{Transition, Run, events_in, notes_in}
+use Rattle.host_machine.specs.Interface.Run.{Transition, Run, events_in, notes_in}
 
 -- no host on the medium reads a frame as a fragment
 abbrev pub BringsNone : Medium → List ℕ → Type 0

@@ -1,5 +1,5 @@
 use Rattle.std.proofs.Common.{ap, sym, ◌∙◌}
-use Rattle.host_machine.specs.State.Host.{Host, no_sockets}
+use Rattle.host_machine.specs.Context.Host.{Host, no_sockets}
 use Rattle.interface_client.proofs.Refusals.{group_refused}
 use Rattle.interface_client.proofs.joins_no_other_address.Goals as goal
 

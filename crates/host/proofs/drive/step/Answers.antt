@@ -2,11 +2,11 @@ use Rattle.std.proofs.Common.{ap, sym, ◌∙◌}
 use Rattle.host_machine.specs.declared.command.Command.TheVariants as command
 use Rattle.host_machine.specs.declared.command.Answer.TheVariants as answer
 use Rattle.iface_tables.specs.Route.{first, ipv4_gateway, ipv6_gateway, is_ipv4_gateway, is_ipv6_gateway, old_or_full, with_default, without_first}
-use Rattle.host_machine.specs.Polling.Step.{UpdatedIpAddrs, JoinedGroup, LeftGroup, TookHardwareAddr, TookReassemblyTimeout}
-use Rattle.host_machine.specs.Polling.Step.{TookAnyIp, UpdatedRoutes, AddedDefaultIpv4Route, RemovedDefaultIpv4Route}
-use Rattle.host_machine.specs.Polling.Step.{AddedDefaultIpv6Route, RemovedDefaultIpv6Route, PolledMaintenance, PolledAt, PolledDelay}
-use Rattle.host_machine.specs.State.Host.{Host, at}
-use Rattle.host_machine.specs.Polling.Polling.{after_maintenance}
+use Rattle.host_machine.specs.Interface.Step.{UpdatedIpAddrs, JoinedGroup, LeftGroup, TookHardwareAddr, TookReassemblyTimeout}
+use Rattle.host_machine.specs.Interface.Step.{TookAnyIp, UpdatedRoutes, AddedDefaultIpv4Route, RemovedDefaultIpv4Route}
+use Rattle.host_machine.specs.Interface.Step.{AddedDefaultIpv6Route, RemovedDefaultIpv6Route, PolledMaintenance, PolledAt, PolledDelay}
+use Rattle.host_machine.specs.Context.Host.{Host, at}
+use Rattle.host_machine.specs.Interface.Polling.{after_maintenance}
 use Rattle.interface.specs.Stands.{StandsFor}
 use Rattle.host.proofs.DriveSteps.{was_led, polled, polled_egress, polled_all, untold, acted}
 use Rattle.host.proofs.drive.step.Goals as goal

@@ -1,6 +1,6 @@
 use Rattle.std.proofs.Common.{◌≡◌, List, refl, ap, rules}
 use Rattle.iface_tables.specs.declared.route.Route.{Route}
-use Rattle.iface_send.specs.Stands.{host_of}
+use Rattle.iface_context.specs.Stands.{host_of}
 use Rattle.interface.specs.Stands.{with_routes}
 use Rattle.interface.proofs.SettingCalls.{becomes}
 use Rattle.host.proofs.drive.take_routes.Goals as goal

@@ -1,7 +1,7 @@
 use Rattle.std.proofs.Common.{[], ◌∷◌, false, refl, Some, None}
 use Rattle.std.specs.Prelude.{pos}
 use Rattle.sockets.specs.declared.socket.SocketOf.TheVariants as kind
-use Rattle.host_machine.proofs.Polling.EarliestInstant.{below_none, below_more, due_least, socket_least}
+use Rattle.host_machine.proofs.Interface.EarliestInstant.{below_none, below_more, due_least, socket_least}
 use Rattle.host_laws.specs.TwoPolls.{datagram, with_queue, with_queued}
 use Rattle.host_laws.proofs.QueuedExample.{one_polled}
 use Rattle.host_laws.proofs.progress.two_polls_send_two.Goals as goal

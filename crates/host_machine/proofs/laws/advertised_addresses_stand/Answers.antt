@@ -1,4 +1,4 @@
-use Rattle.host_machine.proofs.Polling.AdvertisedAddresses.{advertised_stands}
+use Rattle.host_machine.proofs.Interface.AdvertisedAddresses.{advertised_stands}
 use Rattle.host_machine.proofs.laws.advertised_addresses_stand.Goals as goal
 
 pub returns : goal.returns

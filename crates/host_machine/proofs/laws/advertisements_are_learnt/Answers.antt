@@ -1,4 +1,4 @@
-use Rattle.host_machine.proofs.Receiving.Advertisements.{advertisements_learnt}
+use Rattle.host_machine.proofs.Discovery.Advertisements.{advertisements_learnt}
 use Rattle.host_machine.proofs.laws.advertisements_are_learnt.Goals as goal
 
 pub returns : goal.returns

@@ -1,4 +1,4 @@
-use Rattle.host_machine.proofs.Receiving.FrameReplies.{arp_served}
+use Rattle.host_machine.proofs.Receive.FrameReplies.{arp_served}
 use Rattle.host_machine.proofs.laws.arp_requests_are_answered.Goals as goal
 
 pub returns : goal.returns

@@ -1,4 +1,4 @@
-use Rattle.host_machine.proofs.Receiving.DatagramDelivery.{ports_told}
+use Rattle.host_machine.proofs.Sockets.DatagramDelivery.{ports_told}
 use Rattle.host_machine.proofs.laws.closed_ports_are_answered.Goals as goal
 
 pub returns : goal.returns

@@ -1,4 +1,4 @@
-use Rattle.host_machine.proofs.Receiving.DatagramDeliveryV6.{ports_v6_told}
+use Rattle.host_machine.proofs.Sockets.DatagramDeliveryV6.{ports_v6_told}
 use Rattle.host_machine.proofs.laws.closed_ports_v6_are_answered.Goals as goal
 
 pub returns : goal.returns

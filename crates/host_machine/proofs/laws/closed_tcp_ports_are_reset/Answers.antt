@@ -1,4 +1,4 @@
-use Rattle.host_machine.proofs.Receiving.ClosedTcpPorts.{ports_reset}
+use Rattle.host_machine.proofs.Sockets.ClosedTcpPorts.{ports_reset}
 use Rattle.host_machine.proofs.laws.closed_tcp_ports_are_reset.Goals as goal
 
 pub returns : goal.returns

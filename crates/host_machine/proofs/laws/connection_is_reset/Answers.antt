@@ -5,16 +5,17 @@ use Rattle.wire_base.specs.Pseudo.{pseudo}
 use Rattle.ip_wire.specs.Tcp as wire
 use Rattle.ip_wire.specs.Tcp.{control_of}
 use Rattle.ip_wire.specs.declared.tcp.TcpControl.TheVariants as control
-use Rattle.host_machine.specs.Receiving.Tcp as tcp
+use Rattle.host_machine.specs.Sockets.Tcp as tcp
 use Rattle.host_machine.specs.Examples.Sockets.{opening, reset, listening_socket, with_socket}
 use Rattle.host_machine.proofs.Examples.Listeners.{none_of_two}
 use Rattle.net_base.specs.Device.{Frame}
-use Rattle.host_machine.specs.Receiving.Reply.{Ip}
-use Rattle.host_machine.specs.Sending.Packet.{Ipv4}
-use Rattle.host_machine.specs.Sending.Packet as packet
-use Rattle.host_machine.specs.Receiving.Ipv4 as ipv4
-use Rattle.host_machine.specs.Receiving.Ethernet as ethernet
-use Rattle.host_machine.specs.Sending.Dispatch.{ToSpecified, ByHop, OnLink, Known, Whole}
+use Rattle.host_machine.specs.Receive.Reply.{Ip}
+use Rattle.host_machine.specs.Packet.Packet.{Ipv4}
+use Rattle.host_machine.specs.Packet.Packet as packet
+use Rattle.host_machine.specs.Receive.Ipv4 as ipv4
+use Rattle.host_machine.specs.Receive.Ethernet as ethernet
+use Rattle.host_machine.specs.Send.Dispatch.{ToSpecified, ByHop, Known, Whole}
+use Rattle.host_machine.specs.Send.Hops.{OnLink}
 use Rattle.host_machine.specs.Examples.ArpAndEcho as example
 use Rattle.host_machine.proofs.Examples.Exchange.{is_known, no_slots}
 use Rattle.std.specs.Prelude.{pos}

@@ -3,9 +3,9 @@ use Rattle.wire_base.specs.Checksum.{word_sum}
 use Rattle.wire_base.specs.Pseudo.{pseudo}
 use Rattle.net_base.specs.Device.{Frame}
 use Rattle.sockets.specs.declared.socket.SocketOf.TheVariants as kind
-use Rattle.host_machine.specs.Receiving.Udp as udp
-use Rattle.host_machine.specs.Receiving.Ipv4 as ipv4
-use Rattle.host_machine.specs.Receiving.Ethernet as ethernet
+use Rattle.host_machine.specs.Sockets.Udp as udp
+use Rattle.host_machine.specs.Receive.Ipv4 as ipv4
+use Rattle.host_machine.specs.Receive.Ethernet as ethernet
 use Rattle.host_machine.specs.Examples.ArpAndEcho as example
 use Rattle.host_machine.specs.Examples.Sockets.{datagram, listening_socket, socket_with_datagram, with_socket}
 use Rattle.host_machine.proofs.Examples.Listeners.{first_is_free}

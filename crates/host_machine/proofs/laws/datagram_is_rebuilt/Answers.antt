@@ -6,11 +6,11 @@ use Rattle.net_base.specs.Device.{Frame}
 use Rattle.iface_tables.specs.Neighbor.{Neighbors}
 use Rattle.fragmentation.specs.Slots.{live_at}
 use Rattle.fragmentation.specs.Reassembly.{Arrival, Rebuild, Rebuilt, Stood}
-use Rattle.host_machine.specs.State.Note.{OfSlots}
-use Rattle.host_machine.specs.State.Host.{with_neighbors, with_slots}
-use Rattle.host_machine.specs.Receiving.Ipv4 as ipv4
-use Rattle.host_machine.specs.Receiving.Ethernet as ethernet
-use Rattle.host_machine.specs.Sending.Reports as reports
+use Rattle.host_machine.specs.Context.Note.{OfSlots}
+use Rattle.host_machine.specs.Context.Host.{with_neighbors, with_slots}
+use Rattle.host_machine.specs.Receive.Ipv4 as ipv4
+use Rattle.host_machine.specs.Receive.Ethernet as ethernet
+use Rattle.host_machine.specs.Multicast.Igmp as reports
 use Rattle.group_wire.specs.Igmp.{IsType}
 use Rattle.host_machine.specs.Examples.Fragments as example
 use Rattle.host_machine.proofs.Examples.Exchange.{none_renewed}

@@ -1,4 +1,4 @@
-use Rattle.host_machine.proofs.Receiving.DatagramDelivery.{datagrams_queued}
+use Rattle.host_machine.proofs.Sockets.DatagramDelivery.{datagrams_queued}
 use Rattle.host_machine.proofs.laws.datagrams_are_queued.Goals as goal
 
 pub returns : goal.returns

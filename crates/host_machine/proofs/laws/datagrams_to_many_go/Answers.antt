@@ -1,4 +1,4 @@
-use Rattle.host_machine.proofs.Sending.ManyPackets.{many_go}
+use Rattle.host_machine.proofs.Sockets.ManyPackets.{many_go}
 use Rattle.host_machine.proofs.laws.datagrams_to_many_go.Goals as goal
 
 pub returns : goal.returns

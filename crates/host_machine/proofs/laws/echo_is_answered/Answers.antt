@@ -4,13 +4,14 @@ use Rattle.ip_wire.specs.Ipv4Packet.{header_with, front, back}
 use Rattle.control_wire.specs.Icmpv4.{head_with, Request}
 use Rattle.control_wire.specs.declared.icmpv4.Icmpv4Repr.TheVariants.{EchoReply}
 use Rattle.net_base.specs.Device.{Frame}
-use Rattle.host_machine.specs.Receiving.Reply.{Ip}
-use Rattle.host_machine.specs.Sending.Packet.{Ipv4}
-use Rattle.host_machine.specs.Receiving.Icmpv4 as icmpv4
-use Rattle.host_machine.specs.Receiving.Ipv4 as ipv4
-use Rattle.host_machine.specs.Receiving.Ethernet as ethernet
-use Rattle.host_machine.specs.Sending.Dispatch.{ToSpecified, ByHop, OnLink, Known, Whole}
-use Rattle.host_machine.specs.Sending.Packet as packet
+use Rattle.host_machine.specs.Receive.Reply.{Ip}
+use Rattle.host_machine.specs.Packet.Packet.{Ipv4}
+use Rattle.host_machine.specs.Icmp.Icmpv4 as icmpv4
+use Rattle.host_machine.specs.Receive.Ipv4 as ipv4
+use Rattle.host_machine.specs.Receive.Ethernet as ethernet
+use Rattle.host_machine.specs.Send.Dispatch.{ToSpecified, ByHop, Known, Whole}
+use Rattle.host_machine.specs.Send.Hops.{OnLink}
+use Rattle.host_machine.specs.Packet.Packet as packet
 use Rattle.host_machine.specs.Examples.ArpAndEcho as example
 use Rattle.host_machine.proofs.Examples.Exchange.{is_known, no_slots}
 use Rattle.std.specs.Prelude.{pos}

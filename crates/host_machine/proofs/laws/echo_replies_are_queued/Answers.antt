@@ -1,4 +1,4 @@
-use Rattle.host_machine.proofs.Receiving.EchoReplies.{replies_queued}
+use Rattle.host_machine.proofs.Icmp.EchoReplies.{replies_queued}
 use Rattle.host_machine.proofs.laws.echo_replies_are_queued.Goals as goal
 
 pub returns : goal.returns

@@ -1,4 +1,4 @@
-use Rattle.host_machine.proofs.Receiving.EchoReplies.{replies_v6_queued}
+use Rattle.host_machine.proofs.Icmp.EchoReplies.{replies_v6_queued}
 use Rattle.host_machine.proofs.laws.echo_replies_v6_are_queued.Goals as goal
 
 pub returns : goal.returns

@@ -1,4 +1,4 @@
-use Rattle.host_machine.proofs.Sending.EgressDeterminism.{egress_once}
+use Rattle.host_machine.proofs.Interface.EgressDeterminism.{egress_once}
 use Rattle.host_machine.proofs.laws.egress_is_determined.Goals as goal
 
 pub returns : goal.returns

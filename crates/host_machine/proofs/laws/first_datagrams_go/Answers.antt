@@ -1,4 +1,4 @@
-use Rattle.host_machine.proofs.Sending.GrantedEgress.{firsts_go}
+use Rattle.host_machine.proofs.Interface.GrantedEgress.{firsts_go}
 use Rattle.host_machine.proofs.laws.first_datagrams_go.Goals as goal
 
 pub returns : goal.returns

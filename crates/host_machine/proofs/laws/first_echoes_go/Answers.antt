@@ -1,4 +1,4 @@
-use Rattle.host_machine.proofs.Sending.FirstPackets.{first_echoes_go}
+use Rattle.host_machine.proofs.Sockets.FirstPackets.{first_echoes_go}
 use Rattle.host_machine.proofs.laws.first_echoes_go.Goals as goal
 
 pub returns : goal.returns

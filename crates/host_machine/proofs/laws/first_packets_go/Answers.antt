@@ -1,4 +1,4 @@
-use Rattle.host_machine.proofs.Sending.FirstPackets.{first_packets_go}
+use Rattle.host_machine.proofs.Sockets.FirstPackets.{first_packets_go}
 use Rattle.host_machine.proofs.laws.first_packets_go.Goals as goal
 
 pub returns : goal.returns

@@ -5,9 +5,9 @@ use Rattle.wire_base.specs.Checksum.{word_sum}
 use Rattle.net_base.specs.Device.{Frame}
 use Rattle.fragmentation.specs.Fragments.{Got, no_fragments}
 use Rattle.fragmentation.specs.Reassembly.{Take, Arrival, Waits, Taken}
-use Rattle.host_machine.specs.State.Note.{OfSlots}
-use Rattle.host_machine.specs.Receiving.Ipv4 as ipv4
-use Rattle.host_machine.specs.Receiving.Ethernet as ethernet
+use Rattle.host_machine.specs.Context.Note.{OfSlots}
+use Rattle.host_machine.specs.Receive.Ipv4 as ipv4
+use Rattle.host_machine.specs.Receive.Ethernet as ethernet
 use Rattle.host_machine.specs.Examples.Fragments as example
 use Rattle.host_machine.proofs.Examples.Exchange.{no_slots}
 use Rattle.host_machine.proofs.Examples.Pair.{none_yet, has_room, first_got, first_waits}

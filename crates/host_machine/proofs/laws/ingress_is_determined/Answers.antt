@@ -1,4 +1,4 @@
-use Rattle.host_machine.proofs.Polling.CallDeterminism.{ingress_once}
+use Rattle.host_machine.proofs.Interface.CallDeterminism.{ingress_once}
 use Rattle.host_machine.proofs.laws.ingress_is_determined.Goals as goal
 
 pub returns : goal.returns

@@ -1,4 +1,4 @@
-use Rattle.host_machine.proofs.Polling.OneFrameCalls.{single}
+use Rattle.host_machine.proofs.Interface.OneFrameCalls.{single}
 use Rattle.host_machine.proofs.laws.ingress_is_single.Goals as goal
 
 pub returns : goal.returns

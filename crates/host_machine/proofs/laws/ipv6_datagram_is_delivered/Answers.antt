@@ -6,9 +6,9 @@ use Rattle.wire_base.specs.Pseudo.{pseudo}
 use Rattle.ipv6_wire.specs.Ipv6Packet.{address_at}
 use Rattle.net_base.specs.Device.{Frame}
 use Rattle.sockets.specs.declared.socket.SocketOf.TheVariants as kind
-use Rattle.host_machine.specs.Receiving.Udp as udp
-use Rattle.host_machine.specs.Receiving.Ipv6 as ipv6
-use Rattle.host_machine.specs.Receiving.Ethernet as ethernet
+use Rattle.host_machine.specs.Sockets.Udp as udp
+use Rattle.host_machine.specs.Receive.Ipv6 as ipv6
+use Rattle.host_machine.specs.Receive.Ethernet as ethernet
 use Rattle.host_machine.specs.Examples.Discovery.{host}
 use Rattle.host_machine.specs.Examples.Sockets.{listening_socket, with_socket}
 use Rattle.host_machine.specs.Examples.Ipv6.{datagram, neighbors_after_renewal, socket_with_datagram}

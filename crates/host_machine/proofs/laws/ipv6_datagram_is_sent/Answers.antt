@@ -4,7 +4,8 @@ use Rattle.wire_base.specs.Checksum.{word_sum}
 use Rattle.wire_base.specs.Pseudo.{pseudo}
 use Rattle.ip_wire.specs.Udp.{header_with}
 use Rattle.ipv6_wire.specs.Ipv6Packet.{header_text, address_text}
-use Rattle.host_machine.specs.Sending.Dispatch.{ToSpecified, ByHop, OnLink, Known, Whole}
+use Rattle.host_machine.specs.Send.Dispatch.{ToSpecified, ByHop, Known, Whole}
+use Rattle.host_machine.specs.Send.Hops.{OnLink}
 use Rattle.host_machine.specs.Examples.ArpAndEcho as example
 use Rattle.host_machine.specs.Examples.Ipv6.{sender}
 use Rattle.host_machine.proofs.Examples.Exchange.{is_learnt_v6}

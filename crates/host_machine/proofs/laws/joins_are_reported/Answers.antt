@@ -7,8 +7,8 @@ use Rattle.ipv6_wire.specs.HopByHop.{option_text}
 use Rattle.icmpv6_wire.specs.Icmpv6.{head_with}
 use Rattle.group_wire.specs.Igmp.{text_with}
 use Rattle.group_wire.specs.Mld.{record_text}
-use Rattle.host_machine.specs.Sending.Dispatch.{ToSpecified, ToMulticast, Whole}
-use Rattle.host_machine.specs.Sending.Multicast.{All, Begins, Reported}
+use Rattle.host_machine.specs.Send.Dispatch.{ToSpecified, ToMulticast, Whole}
+use Rattle.host_machine.specs.Multicast.Joins.{All, Begins, Reported}
 use Rattle.host_machine.specs.Examples.ArpAndEcho.{identify}
 use Rattle.host_machine.specs.Examples.Groups as example
 use Rattle.host_machine.proofs.laws.joins_are_reported.Goals as goal

@@ -1,4 +1,4 @@
-use Rattle.host_machine.proofs.Sending.DueWork.{little_stays_due}
+use Rattle.host_machine.proofs.Interface.DueWork.{little_stays_due}
 use Rattle.host_machine.proofs.laws.little_stays_due.Goals as goal
 
 pub returns : goal.returns

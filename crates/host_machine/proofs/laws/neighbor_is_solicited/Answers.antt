@@ -10,8 +10,10 @@ use Rattle.wire_base.specs.Pseudo.{pseudo}
 use Rattle.ipv6_wire.specs.Ipv6Packet.{header_text, address_text}
 use Rattle.icmpv6_wire.specs.Icmpv6.{head_with}
 use Rattle.icmpv6_wire.specs.NdiscOption.{lladdr_text}
-use Rattle.host_machine.specs.State.Note.{OfDiscovery, OfIdentification, Ask, Identify}
-use Rattle.host_machine.specs.Sending.Dispatch.{ToSpecified, ByHop, OnLink, Unknown, Solicited}
+use Rattle.host_machine.specs.Context.Note.{OfDiscovery, OfIdentification, Ask, Identify}
+use Rattle.host_machine.specs.Send.Dispatch.{ToSpecified, ByHop, Unknown}
+use Rattle.host_machine.specs.Send.Hops.{OnLink}
+use Rattle.host_machine.specs.Send.Requests.{Solicited}
 use Rattle.host_machine.specs.Examples.ArpAndEcho.{no_neighbors}
 use Rattle.host_machine.specs.Examples.Discovery as example
 use Rattle.host_machine.proofs.laws.neighbor_is_solicited.Goals as goal

@@ -2,12 +2,14 @@ use Rattle.std.proofs.Common.{[], ◌∷◌, false, refl, lit≤}
 use Rattle.wire_base.specs.Checksum.{word_sum}
 use Rattle.ip_wire.specs.Ipv4Packet.{header_with, front, back}
 use Rattle.fragmentation.specs.Cuts.{piece_of}
-use Rattle.host_machine.specs.State.Note.{OfCuts, Cut, PieceSent}
-use Rattle.host_machine.specs.Sending.Dispatch.{ToSpecified, ByHop, OnLink, Known, InPieces}
-use Rattle.host_machine.specs.Sending.Egress.{NotGranted, PieceGoes, Begins, Whole}
+use Rattle.host_machine.specs.Context.Note.{OfCuts, Cut, PieceSent}
+use Rattle.host_machine.specs.Send.Dispatch.{ToSpecified, ByHop, Known, InPieces}
+use Rattle.host_machine.specs.Send.Hops.{OnLink}
+use Rattle.host_machine.specs.Send.Fragments.{NotGranted, PieceGoes}
+use Rattle.host_machine.specs.Sockets.Turns.{Begins, Whole}
 use Rattle.host_machine.specs.Examples.ArpAndEcho as host
 use Rattle.host_machine.specs.Examples.Fragments as example
-use Rattle.host_machine.proofs.Sending.RoundWithoutPieces.{no_groups}
+use Rattle.host_machine.proofs.Interface.RoundWithoutPieces.{no_groups}
 use Rattle.host_machine.proofs.Examples.Exchange.{is_known}
 use Rattle.host_machine.proofs.laws.packet_goes_in_pieces.Goals as goal
 

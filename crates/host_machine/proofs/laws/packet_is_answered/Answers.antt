@@ -7,13 +7,13 @@ use Rattle.std.specs.Prelude.{pos}
 use Rattle.ip_address.specs.declared.hardware.HardwareAddress.TheVariants as hardware
 use Rattle.iface_tables.specs.Neighbor.{after_renewal}
 use Rattle.net_base.specs.Device.{Frame}
-use Rattle.host_machine.specs.Receiving.Reply.{Ip}
-use Rattle.host_machine.specs.Sending.Packet.{Ipv4}
-use Rattle.host_machine.specs.Receiving.Icmpv4 as icmpv4
-use Rattle.host_machine.specs.Receiving.Ipv4 as ipv4
-use Rattle.host_machine.specs.Receiving.Ethernet as ethernet
-use Rattle.host_machine.specs.Sending.Dispatch.{ToSpecified, Whole}
-use Rattle.host_machine.specs.Sending.Packet as packet
+use Rattle.host_machine.specs.Receive.Reply.{Ip}
+use Rattle.host_machine.specs.Packet.Packet.{Ipv4}
+use Rattle.host_machine.specs.Icmp.Icmpv4 as icmpv4
+use Rattle.host_machine.specs.Receive.Ipv4 as ipv4
+use Rattle.host_machine.specs.Receive.Ethernet as ethernet
+use Rattle.host_machine.specs.Send.Dispatch.{ToSpecified, Whole}
+use Rattle.host_machine.specs.Packet.Packet as packet
 use Rattle.host_machine.specs.Examples.ArpAndEcho as example
 use Rattle.host_machine.proofs.Examples.Exchange.{no_neighbor_renewed, no_slots}
 use Rattle.host_machine.proofs.laws.packet_is_answered.Goals as goal

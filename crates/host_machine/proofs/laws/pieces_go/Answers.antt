@@ -1,4 +1,4 @@
-use Rattle.host_machine.proofs.Sending.DueWork.{pieces_go}
+use Rattle.host_machine.proofs.Interface.DueWork.{pieces_go}
 use Rattle.host_machine.proofs.laws.pieces_go.Goals as goal
 
 pub returns : goal.returns

@@ -1,4 +1,4 @@
-use Rattle.host_machine.proofs.Receiving.RequestReading.{pings_read}
+use Rattle.host_machine.proofs.Receive.RequestReading.{pings_read}
 use Rattle.host_machine.proofs.laws.ping_frames_are_read.Goals as goal
 
 pub returns : goal.returns

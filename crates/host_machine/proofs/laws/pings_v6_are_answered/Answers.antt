@@ -1,4 +1,4 @@
-use Rattle.host_machine.proofs.Receiving.FrameRepliesV6.{pings_v6_served}
+use Rattle.host_machine.proofs.Receive.FrameRepliesV6.{pings_v6_served}
 use Rattle.host_machine.proofs.laws.pings_v6_are_answered.Goals as goal
 
 pub returns : goal.returns

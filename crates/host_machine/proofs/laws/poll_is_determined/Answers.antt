@@ -1,4 +1,4 @@
-use Rattle.host_machine.proofs.Polling.CallDeterminism.{poll_once}
+use Rattle.host_machine.proofs.Interface.CallDeterminism.{poll_once}
 use Rattle.host_machine.proofs.laws.poll_is_determined.Goals as goal
 
 pub returns : goal.returns

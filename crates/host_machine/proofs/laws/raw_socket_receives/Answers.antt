@@ -3,9 +3,9 @@ use Rattle.wire_base.specs.Checksum.{word_sum}
 use Rattle.ip_wire.specs.Ipv4Packet.{header_with, front, back}
 use Rattle.wire_base.specs.Pseudo.{pseudo}
 use Rattle.net_base.specs.Device.{Frame}
-use Rattle.host_machine.specs.Receiving.Udp as udp
-use Rattle.host_machine.specs.Receiving.Ipv4 as ipv4
-use Rattle.host_machine.specs.Receiving.Ethernet as ethernet
+use Rattle.host_machine.specs.Sockets.Udp as udp
+use Rattle.host_machine.specs.Receive.Ipv4 as ipv4
+use Rattle.host_machine.specs.Receive.Ethernet as ethernet
 use Rattle.host_machine.specs.Examples.ArpAndEcho as example
 use Rattle.host_machine.specs.Examples.Sockets.{datagram, having_heard, with_raw}
 use Rattle.host_machine.proofs.Examples.Listeners.{none_of_one}

@@ -1,4 +1,4 @@
-use Rattle.host_machine.proofs.Receiving.RebuiltPings.{rebuilt_pings_served}
+use Rattle.host_machine.proofs.Icmp.RebuiltPings.{rebuilt_pings_served}
 use Rattle.host_machine.proofs.laws.rebuilt_pings_are_answered.Goals as goal
 
 pub returns : goal.returns

@@ -1,8 +1,10 @@
 use Rattle.std.proofs.Common.{refl}
-use Rattle.host_machine.specs.Sending.Egress.{NoPiece, Begins, Whole}
-use Rattle.host_machine.specs.Sending.Multicast as groups
-use Rattle.host_machine.specs.Sending.Reports as reports
-use Rattle.host_machine.specs.Sending.Slaac as slaac
+use Rattle.host_machine.specs.Send.Fragments.{NoPiece}
+use Rattle.host_machine.specs.Sockets.Turns.{Begins, Whole}
+use Rattle.host_machine.specs.Multicast.Joins as groups
+use Rattle.host_machine.specs.Multicast.Igmp as igmp
+use Rattle.host_machine.specs.Multicast.Mld as mld
+use Rattle.host_machine.specs.Discovery.RouterSolicitation as slaac
 use Rattle.host_machine.specs.Examples.Groups.{busy_host}
 use Rattle.host_machine.proofs.laws.refusals_are_apart.Goals as goal
 
@@ -41,14 +43,14 @@ returns c = record {
           told_two = _;
           notes_one = _;
           notes_two = _;
-          begins = reports.NotGranted _ refl refl refl refl refl;
+          begins = igmp.NotGranted _ refl refl refl refl refl;
           ends = record {
             mid = _;
             told_one = _;
             told_two = _;
             notes_one = _;
             notes_two = _;
-            begins = reports.GivenUp refl refl refl refl;
+            begins = mld.GivenUp refl refl refl refl;
             ends = Whole Begins;
             events = refl;
             all_notes = refl;

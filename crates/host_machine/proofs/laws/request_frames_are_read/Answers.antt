@@ -1,4 +1,4 @@
-use Rattle.host_machine.proofs.Receiving.FrameReplies.{request_frames_read}
+use Rattle.host_machine.proofs.Receive.FrameReplies.{request_frames_read}
 use Rattle.host_machine.proofs.laws.request_frames_are_read.Goals as goal
 
 pub returns : goal.returns

@@ -2,8 +2,8 @@ use Rattle.std.proofs.Common.{[], ◌∷◌, false, true, refl, arith}
 use Rattle.std.specs.Prelude.{pos}
 use Rattle.net_base.specs.Device.{Received, Frame, Nothing, Sent}
 use Rattle.host_machine.specs.declared.results.PollIngressSingleResult.TheVariants as ingress
-use Rattle.host_machine.specs.State.Host.{at}
-use Rattle.host_machine.specs.Polling.Polling as polling
+use Rattle.host_machine.specs.Context.Host.{at}
+use Rattle.host_machine.specs.Interface.Polling as polling
 use Rattle.host_machine.specs.Examples.ArpAndEcho as example
 use Rattle.host_machine.proofs.Examples.Exchange.{no_slots}
 use Rattle.host_machine.proofs.Examples.ArpExchange.{request_answered, nothing_taken, nothing_sent}

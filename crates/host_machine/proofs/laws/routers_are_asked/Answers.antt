@@ -4,8 +4,8 @@ use Rattle.wire_base.specs.Pseudo.{pseudo}
 use Rattle.ipv6_wire.specs.Ipv6Packet.{header_text, address_text}
 use Rattle.icmpv6_wire.specs.Icmpv6.{head_with}
 use Rattle.icmpv6_wire.specs.NdiscOption.{lladdr_text}
-use Rattle.host_machine.specs.Sending.Dispatch.{ToSpecified, ToMulticast, Whole}
-use Rattle.host_machine.specs.Sending.Slaac.{Goes}
+use Rattle.host_machine.specs.Send.Dispatch.{ToSpecified, ToMulticast, Whole}
+use Rattle.host_machine.specs.Discovery.RouterSolicitation.{Goes}
 use Rattle.host_machine.specs.Examples.Slaac.{solicitation}
 use Rattle.host_machine.proofs.laws.routers_are_asked.Goals as goal
 

@@ -1,4 +1,4 @@
-use Rattle.host_machine.proofs.Receiving.SocketDelivery.{segments_queued}
+use Rattle.host_machine.proofs.Sockets.SocketDelivery.{segments_queued}
 use Rattle.host_machine.proofs.laws.segments_are_queued.Goals as goal
 
 pub returns : goal.returns

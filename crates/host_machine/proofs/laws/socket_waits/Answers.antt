@@ -4,13 +4,15 @@ use Rattle.ip_wire.specs.Arp.{ipv4_over_ethernet}
 use Rattle.sockets.specs.declared.socket.SocketOf.TheVariants as kind
 use Rattle.host_machine.specs.declared.results.DispatchError.TheVariants.{NeighborPending}
 use Rattle.host_machine.specs.declared.results.Turn.TheVariants.{Idle, Deferred}
-use Rattle.host_machine.specs.Sending.Packet.{Ipv4, Udp}
-use Rattle.host_machine.specs.Sending.Dispatch.{ToSpecified, ByHop, OfHost, OnLink, Unknown, Asked}
-use Rattle.host_machine.specs.Sending.Egress.{Begins, Goes, Sent, Served, Waits, Whole}
+use Rattle.host_machine.specs.Packet.Packet.{Ipv4, Udp}
+use Rattle.host_machine.specs.Send.Dispatch.{ToSpecified, ByHop, Unknown}
+use Rattle.host_machine.specs.Send.Hops.{OfHost, OnLink}
+use Rattle.host_machine.specs.Send.Requests.{Asked}
+use Rattle.host_machine.specs.Sockets.Turns.{Begins, Goes, Sent, Served, Waits, Whole}
 use Rattle.host_machine.specs.Examples.ArpAndEcho as example
 use Rattle.host_machine.specs.Examples.Sockets.{sending, with_sending}
-use Rattle.host_machine.specs.State.Note.{OfDiscovery, Ask}
-use Rattle.host_machine.proofs.Sending.RoundWithoutPieces.{no_piece}
+use Rattle.host_machine.specs.Context.Note.{OfDiscovery, Ask}
+use Rattle.host_machine.proofs.Interface.RoundWithoutPieces.{no_piece}
 use Rattle.host_machine.proofs.Examples.Exchange.{is_silent, is_unknown, is_unknown_later}
 use Rattle.host_machine.proofs.laws.socket_waits.Goals as goal
 

@@ -1,4 +1,4 @@
-use Rattle.host_machine.proofs.Receiving.RequestReading.{solicitations_read}
+use Rattle.host_machine.proofs.Receive.RequestReading.{solicitations_read}
 use Rattle.host_machine.proofs.laws.solicitation_frames_are_read.Goals as goal
 
 pub returns : goal.returns

@@ -12,12 +12,13 @@ use Rattle.icmpv6_wire.specs.Icmpv6.{Neighbor as Message, head_with}
 use Rattle.icmpv6_wire.specs.NdiscOption.{IsOption, lladdr_text, last_of, options_from}
 use Rattle.iface_tables.specs.declared.neighbor.Neighbor.{Neighbor}
 use Rattle.ip_address.specs.declared.protocol.IpProtocol.TheVariants as protocol
-use Rattle.host_machine.specs.Receiving.Reply.{Ip}
-use Rattle.host_machine.specs.Receiving.Ndisc as ndisc
-use Rattle.host_machine.specs.Receiving.Icmpv6 as icmpv6
-use Rattle.host_machine.specs.Receiving.Ipv6 as ipv6
-use Rattle.host_machine.specs.Receiving.Ethernet as ethernet
-use Rattle.host_machine.specs.Sending.Dispatch.{ToSpecified, ByHop, OnLink, Known, Whole}
+use Rattle.host_machine.specs.Receive.Reply.{Ip}
+use Rattle.host_machine.specs.Discovery.Ndisc as ndisc
+use Rattle.host_machine.specs.Icmp.Icmpv6 as icmpv6
+use Rattle.host_machine.specs.Receive.Ipv6 as ipv6
+use Rattle.host_machine.specs.Receive.Ethernet as ethernet
+use Rattle.host_machine.specs.Send.Dispatch.{ToSpecified, ByHop, Known, Whole}
+use Rattle.host_machine.specs.Send.Hops.{OnLink}
 use Rattle.host_machine.specs.Examples.ArpAndEcho as example
 use Rattle.host_machine.specs.Examples.Discovery.{host, own, neighbor}
 use Rattle.host_machine.specs.Examples.Ipv6.{advertisement, neighbors_with_sender, sender, solicitation}

@@ -1,4 +1,4 @@
-use Rattle.host_machine.proofs.Receiving.FrameRepliesV6.{solicitations_served}
+use Rattle.host_machine.proofs.Receive.FrameRepliesV6.{solicitations_served}
 use Rattle.host_machine.proofs.laws.solicitations_are_answered.Goals as goal
 
 pub returns : goal.returns

@@ -2,8 +2,8 @@ use Rattle.std.proofs.Common.{◌≡◌, arith}
 use Rattle.std.specs.Prelude.{Result, Ok, Err}
 use Rattle.host_machine.specs.declared.results.TimeoutError.{TimeoutError}
 use Rattle.host_machine.specs.declared.results.TimeoutError.TheVariants.{TimeoutTooLong}
-use Rattle.host_machine.specs.State.Host.{Host}
-use Rattle.host_machine.specs.Polling.Step.{SetsReassemblyTimeout, WithinDay, OverDay}
+use Rattle.host_machine.specs.Context.Host.{Host}
+use Rattle.host_machine.specs.Interface.Step.{SetsReassemblyTimeout, WithinDay, OverDay}
 use Rattle.host_machine.proofs.laws.timeouts_are_tested.Goals as goal
 
 of_a_day : (answer : Result (Unit {0}) TimeoutError) (old new : Host) →

@@ -1,4 +1,4 @@
-use Rattle.host_machine.proofs.Receiving.UnknownProtocols.{options_told}
+use Rattle.host_machine.proofs.Receive.UnknownProtocols.{options_told}
 use Rattle.host_machine.proofs.laws.unknown_options_are_answered.Goals as goal
 
 pub returns : goal.returns

@@ -1,4 +1,4 @@
-use Rattle.host_machine.proofs.Receiving.UnknownProtocols.{unknown_told}
+use Rattle.host_machine.proofs.Receive.UnknownProtocols.{unknown_told}
 use Rattle.host_machine.proofs.laws.unknown_protocols_are_answered.Goals as goal
 
 pub returns : goal.returns

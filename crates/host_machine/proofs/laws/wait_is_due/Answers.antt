@@ -2,12 +2,12 @@ use Rattle.std.proofs.Common.{false, refl, arith, Some, None}
 use Rattle.std.proofs.lemmas.Int.{ints}
 use Rattle.std.specs.Prelude.{pos}
 use Rattle.sockets.specs.declared.socket.SocketOf.TheVariants as kind
-use Rattle.host_machine.specs.Sending.Dispatch.{OfHost, OnLink}
-use Rattle.host_machine.specs.Polling.Due.{Passed, Left}
+use Rattle.host_machine.specs.Send.Hops.{OfHost, OnLink}
+use Rattle.host_machine.specs.Interface.Due.{Passed, Left}
 use Rattle.host_machine.specs.Examples.ArpAndEcho as example
 use Rattle.host_machine.specs.Examples.Sockets.{sending, with_sending}
 use Rattle.host_machine.proofs.Examples.Exchange.{is_silent, is_unknown_later}
-use Rattle.host_machine.proofs.Polling.EarliestInstant.{below_none, below_more, due_least, socket_least}
+use Rattle.host_machine.proofs.Interface.EarliestInstant.{below_none, below_more, due_least, socket_least}
 use Rattle.host_machine.proofs.laws.wait_is_due.Goals as goal
 
 pub returns : goal.returns

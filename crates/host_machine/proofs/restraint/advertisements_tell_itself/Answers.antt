@@ -1,4 +1,4 @@
-use Rattle.host_machine.proofs.Receiving.ReplyLaws.{advert_told}
+use Rattle.host_machine.proofs.Receive.ReplyLaws.{advert_told}
 use Rattle.host_machine.proofs.restraint.advertisements_tell_itself.Goals as goal
 
 pub returns : goal.returns

@@ -1,4 +1,4 @@
-use Rattle.host_machine.proofs.Receiving.ReplyLaws.{echoes_caused}
+use Rattle.host_machine.proofs.Receive.ReplyLaws.{echoes_caused}
 use Rattle.host_machine.proofs.restraint.echoes_have_cause.Goals as goal
 
 pub returns : goal.returns

@@ -1,4 +1,4 @@
-use Rattle.host_machine.proofs.Receiving.ReplyLaws.{echoes_v6_caused}
+use Rattle.host_machine.proofs.Receive.ReplyLaws.{echoes_v6_caused}
 use Rattle.host_machine.proofs.restraint.echoes_v6_have_cause.Goals as goal
 
 pub returns : goal.returns

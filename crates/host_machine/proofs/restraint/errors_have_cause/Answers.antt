@@ -1,4 +1,4 @@
-use Rattle.host_machine.proofs.Receiving.ReplyLaws.{errors_caused}
+use Rattle.host_machine.proofs.Receive.ReplyLaws.{errors_caused}
 use Rattle.host_machine.proofs.restraint.errors_have_cause.Goals as goal
 
 pub returns : goal.returns

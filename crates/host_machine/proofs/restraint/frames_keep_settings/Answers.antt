@@ -1,4 +1,4 @@
-use Rattle.host_machine.proofs.Receiving.SettingChanges.{frames_keep}
+use Rattle.host_machine.proofs.Receive.SettingChanges.{frames_keep}
 use Rattle.host_machine.proofs.restraint.frames_keep_settings.Goals as goal
 
 pub returns : goal.returns

@@ -1,4 +1,4 @@
-use Rattle.host_machine.proofs.Sending.ReportTimes.{joins_once}
+use Rattle.host_machine.proofs.Multicast.ReportTimes.{joins_once}
 use Rattle.host_machine.proofs.restraint.joins_are_told_once.Goals as goal
 
 pub returns : goal.returns

@@ -1,4 +1,4 @@
-use Rattle.host_machine.proofs.Receiving.LearntNeighbors.{neighbors_came}
+use Rattle.host_machine.proofs.Discovery.LearntNeighbors.{neighbors_came}
 use Rattle.host_machine.proofs.restraint.neighbors_come_from_frames.Goals as goal
 
 pub returns : goal.returns

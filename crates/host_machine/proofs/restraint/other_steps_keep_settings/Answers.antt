@@ -1,4 +1,4 @@
-use Rattle.host_machine.proofs.Sending.OtherSteps.{keep_settings}
+use Rattle.host_machine.proofs.Interface.OtherSteps.{keep_settings}
 use Rattle.host_machine.proofs.restraint.other_steps_keep_settings.Goals as goal
 
 pub returns : goal.returns

@@ -1,4 +1,4 @@
-use Rattle.host_machine.proofs.Sending.OtherSteps.{learn_nobody}
+use Rattle.host_machine.proofs.Interface.OtherSteps.{learn_nobody}
 use Rattle.host_machine.proofs.restraint.other_steps_learn_nobody.Goals as goal
 
 pub returns : goal.returns

@@ -1,4 +1,4 @@
-use Rattle.host_machine.proofs.Receiving.ForeignFrames.{own_taken}
+use Rattle.host_machine.proofs.Receive.ForeignFrames.{own_taken}
 use Rattle.host_machine.proofs.restraint.own_frames_are_taken.Goals as goal
 
 pub returns : goal.returns

@@ -1,4 +1,4 @@
-use Rattle.host_machine.proofs.Sending.WellFormed.{well_formed}
+use Rattle.host_machine.proofs.Packet.WellFormed.{well_formed}
 use Rattle.host_machine.proofs.restraint.packets_are_well_formed.Goals as goal
 
 pub returns : goal.returns

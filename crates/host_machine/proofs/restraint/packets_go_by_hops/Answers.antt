@@ -1,4 +1,4 @@
-use Rattle.host_machine.proofs.Sending.HopsByLists.{go_by_hops}
+use Rattle.host_machine.proofs.Send.HopsByLists.{go_by_hops}
 use Rattle.host_machine.proofs.restraint.packets_go_by_hops.Goals as goal
 
 pub returns : goal.returns

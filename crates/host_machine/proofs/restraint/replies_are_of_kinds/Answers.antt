@@ -1,4 +1,4 @@
-use Rattle.host_machine.proofs.Receiving.ReplyLaws.{kinds_of_replies}
+use Rattle.host_machine.proofs.Receive.ReplyLaws.{kinds_of_replies}
 use Rattle.host_machine.proofs.restraint.replies_are_of_kinds.Goals as goal
 
 pub returns : goal.returns

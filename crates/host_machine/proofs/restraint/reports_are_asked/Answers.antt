@@ -1,4 +1,4 @@
-use Rattle.host_machine.proofs.Receiving.SettingChanges.{reports_asked}
+use Rattle.host_machine.proofs.Receive.SettingChanges.{reports_asked}
 use Rattle.host_machine.proofs.restraint.reports_are_asked.Goals as goal
 
 pub returns : goal.returns

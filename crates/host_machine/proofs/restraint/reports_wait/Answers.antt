@@ -1,4 +1,4 @@
-use Rattle.host_machine.proofs.Sending.ReportTimes.{reports_wait}
+use Rattle.host_machine.proofs.Multicast.ReportTimes.{reports_wait}
 use Rattle.host_machine.proofs.restraint.reports_wait.Goals as goal
 
 pub returns : goal.returns

@@ -1,4 +1,4 @@
-use Rattle.host_machine.proofs.Receiving.ReplyLaws.{resets_caused}
+use Rattle.host_machine.proofs.Receive.ReplyLaws.{resets_caused}
 use Rattle.host_machine.proofs.restraint.resets_have_cause.Goals as goal
 
 pub returns : goal.returns

@@ -1,4 +1,4 @@
-use Rattle.host_machine.proofs.Sending.SettledFields.{sending_settled}
+use Rattle.host_machine.proofs.Interface.SettledFields.{sending_settled}
 use Rattle.host_machine.proofs.restraint.sending_keeps_settings.Goals as goal
 
 pub returns : goal.returns

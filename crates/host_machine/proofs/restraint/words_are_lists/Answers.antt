@@ -1,4 +1,4 @@
-use Rattle.host_machine.proofs.Receiving.WordsByLists.{words_by_lists}
+use Rattle.host_machine.proofs.Receive.WordsByLists.{words_by_lists}
 use Rattle.host_machine.proofs.restraint.words_are_lists.Goals as goal
 
 pub returns : goal.returns

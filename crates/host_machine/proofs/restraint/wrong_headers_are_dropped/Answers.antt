@@ -1,4 +1,4 @@
-use Rattle.host_machine.proofs.Receiving.WrongSums.{headers_dropped}
+use Rattle.host_machine.proofs.Receive.WrongSums.{headers_dropped}
 use Rattle.host_machine.proofs.restraint.wrong_headers_are_dropped.Goals as goal
 
 pub returns : goal.returns

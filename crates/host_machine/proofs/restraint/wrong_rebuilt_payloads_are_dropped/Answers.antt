@@ -1,4 +1,4 @@
-use Rattle.host_machine.proofs.Receiving.WrongRebuilt.{rebuilt_dropped}
+use Rattle.host_machine.proofs.Receive.WrongRebuilt.{rebuilt_dropped}
 use Rattle.host_machine.proofs.restraint.wrong_rebuilt_payloads_are_dropped.Goals as goal
 
 pub returns : goal.returns

@@ -16,8 +16,8 @@ use Rattle.ipv6_wire.specs.Ipv6Packet.{ipv6_in}
 use Rattle.ipv6_wire.specs.HopByHop.{hop_by_hop_in, first_failure}
 use Rattle.ipv6_wire.specs.declared.hop_by_hop.Ipv6OptionFailureType.TheVariants.{Skip}
 use Rattle.iface_tables.specs.Neighbor.{Neighbors}
-use Rattle.host_machine.specs.State.Note.{Note}
-use Rattle.host_machine.specs.State.Host.{Host, Storage, with_neighbors, with_places, without_expired}
+use Rattle.host_machine.specs.Context.Note.{Note}
+use Rattle.host_machine.specs.Context.Host.{Host, Storage, with_neighbors, with_places, without_expired}
 use Rattle.host_machine.specs.Laws.Restraint.Readings.{AreSameButRaw, CarriesV4, CarriesV6, IsRenewed, Receives}
 use Rattle.host_machine.specs.Laws.Restraint.Readings.{receiver_v4, receiver_v6, sender_v4, sender_v6}
 use Rattle.host_machine.specs.Laws.Restraint.Foreign.{HasNoEffect}

@@ -22,9 +22,9 @@ use Rattle.iface_tables.specs.declared.route.Route.{Route}
 use Rattle.fragmentation.specs.Slots.{Slots}
 use Rattle.group_table.specs.declared.groups.Group.{Group}
 use Rattle.group_table.specs.declared.groups.GroupState.TheVariants.{Leaving}
-use Rattle.host_machine.specs.State.Note.{Note}
-use Rattle.host_machine.specs.State.Host.{Host, Storage, at, with_places, with_slots, without_expired}
-use Rattle.host_machine.specs.Receiving.Ethernet.{is_for}
+use Rattle.host_machine.specs.Context.Note.{Note}
+use Rattle.host_machine.specs.Context.Host.{Host, Storage, at, with_places, with_slots, without_expired}
+use Rattle.host_machine.specs.Receive.Ethernet.{is_for}
 use Rattle.host_machine.specs.Laws.Restraint.Readings.{AreSameButRaw, CarriesV4, CarriesV6, Receives}
 
 -- the last of the 2 ^ k addresses that differ from one in the last k bits alone: those are ones

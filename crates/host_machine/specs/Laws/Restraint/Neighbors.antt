@@ -28,9 +28,9 @@ use Rattle.iface_tables.specs.declared.route.Route.{Route}
 use Rattle.host_machine.specs.declared.command.Command.{Command}
 use Rattle.host_machine.specs.declared.command.Command.TheVariants.{Poll, PollIngressSingle}
 use Rattle.host_machine.specs.declared.command.Answer.{Answer}
-use Rattle.host_machine.specs.State.Note.{Note}
-use Rattle.host_machine.specs.State.Host.{Host}
-use Rattle.host_machine.specs.Polling.Step.{Act, Step}
+use Rattle.host_machine.specs.Context.Note.{Note}
+use Rattle.host_machine.specs.Context.Host.{Host}
+use Rattle.host_machine.specs.Interface.Step.{Act, Step}
 use Rattle.host_machine.specs.Laws.Restraint.Foreign.{HasPrefixOf}
 use Rattle.host_machine.specs.Laws.Restraint.Readings.{CarriesV4, CarriesV6, Receives, sender_v4, sender_v6}
 

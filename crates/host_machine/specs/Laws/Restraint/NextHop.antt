@@ -25,13 +25,15 @@ use Rattle.iface_tables.specs.declared.neighbor.Neighbor.{Neighbor}
 use Rattle.iface_tables.specs.declared.route.Route.{Route}
 use Rattle.iface_tables.specs.Neighbor.{answer_of}
 use Rattle.host_machine.specs.declared.results.DispatchError.TheVariants.{NoRoute, NeighborPending}
-use Rattle.host_machine.specs.State.Note.{Note}
-use Rattle.host_machine.specs.State.Host.{Host}
-use Rattle.host_machine.specs.State.Addresses.{source_for}
-use Rattle.host_machine.specs.Sending.Packet.{Packet, PacketV4, Icmpv6}
-use Rattle.host_machine.specs.Sending.Packet as packet
-use Rattle.host_machine.specs.Sending.Frame.{arp_frame, ip_frame, piece_frame}
-use Rattle.host_machine.specs.Sending.Dispatch.{Outcome, Dispatches, datagram_of, destination_of}
+use Rattle.host_machine.specs.Context.Note.{Note}
+use Rattle.host_machine.specs.Context.Host.{Host}
+use Rattle.host_machine.specs.Context.Addresses.{source_for}
+use Rattle.host_machine.specs.Packet.Packet.{Packet, PacketV4, Icmpv6}
+use Rattle.host_machine.specs.Packet.Packet as packet
+use Rattle.host_machine.specs.Packet.Frame.{arp_frame, ip_frame, piece_frame}
+use Rattle.host_machine.specs.Send.Outcome.{Outcome}
+use Rattle.host_machine.specs.Send.Dispatch.{Dispatches, destination_of}
+use Rattle.host_machine.specs.Context.Pieces.{datagram_of}
 use Rattle.host_machine.specs.Laws.Restraint.Chosen.{IsChosenFor}
 use Rattle.host_machine.specs.Laws.Restraint.Foreign.{HasPrefixOf, last_address}
 use Rattle.host_machine.specs.Laws.Restraint.Neighbors.{IsNear}

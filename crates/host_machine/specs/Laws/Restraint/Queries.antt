@@ -25,10 +25,11 @@ use Rattle.group_table.specs.declared.report.IgmpReportState.{IgmpReportState}
 use Rattle.group_table.specs.declared.report.IgmpReportState.TheVariants as igmp
 use Rattle.group_table.specs.declared.report.MldReportState.{MldReportState}
 use Rattle.group_table.specs.declared.report.MldReportState.TheVariants as mld
-use Rattle.host_machine.specs.State.Note.{Note}
-use Rattle.host_machine.specs.State.Host.{Host}
-use Rattle.host_machine.specs.Sending.Multicast.{JoinsEgress}
-use Rattle.host_machine.specs.Sending.Reports.{IgmpEgress, MldEgress}
+use Rattle.host_machine.specs.Context.Note.{Note}
+use Rattle.host_machine.specs.Context.Host.{Host}
+use Rattle.host_machine.specs.Multicast.Joins.{JoinsEgress}
+use Rattle.host_machine.specs.Multicast.Igmp.{IgmpEgress}
+use Rattle.host_machine.specs.Multicast.Mld.{MldEgress}
 use Rattle.host_machine.specs.Laws.Restraint.Neighbors.{HasMessage}
 use Rattle.host_machine.specs.Laws.Restraint.Readings.{CarriesV4, CarriesV6, Receives, receiver_v6, sender_v6}
 use Rattle.host_machine.specs.Laws.Restraint.Replies.{BringsV4}

@@ -7,9 +7,9 @@ use Rattle.ip_wire.specs.Ipv4Packet.{ipv4_in, is_fragment}
 use Rattle.fragmentation.specs.Reassembly.{SlotNote}
 use Rattle.fragmentation.specs.Slots.{Slots}
 use Rattle.iface_tables.specs.Neighbor.{Neighbors}
-use Rattle.host_machine.specs.State.Note.{Note, OfSlots, slot_notes}
-use Rattle.host_machine.specs.State.Host.{Host, Storage, at, with_neighbors, with_places, with_slots}
-use Rattle.host_machine.specs.Receiving.Ipv4.{key_in}
+use Rattle.host_machine.specs.Context.Note.{Note, OfSlots, slot_notes}
+use Rattle.host_machine.specs.Context.Host.{Host, Storage, at, with_neighbors, with_places, with_slots}
+use Rattle.host_machine.specs.Receive.Ipv4.{key_in}
 use Rattle.host_machine.specs.Laws.Arrivals.{rebuilt}
 use Rattle.host_machine.specs.Laws.Restraint.Checksums.{HasWrongSumV4}
 use Rattle.host_machine.specs.Laws.Restraint.Readings.{AreSameButRaw, CarriesV4, IsRenewed, Receives}

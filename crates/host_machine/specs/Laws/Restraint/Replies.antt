@@ -39,11 +39,11 @@ use Rattle.icmpv6_wire.specs.declared.ndisc.NdiscRepr.{NdiscRepr}
 use Rattle.icmpv6_wire.specs.declared.ndisc.NdiscRepr.TheVariants.{NeighborAdvert}
 use Rattle.sockets.specs.declared.socket.SocketOf.TheVariants.{Raw, Icmp, Udp, Tcp}
 use Rattle.transport_sockets.specs.Tcp.{TcpSocket}
-use Rattle.host_machine.specs.State.Note.{Note}
-use Rattle.host_machine.specs.State.Host.{Host, Storage}
-use Rattle.host_machine.specs.Receiving.Reply.{Reply, Arp, Ip}
-use Rattle.host_machine.specs.Sending.Packet.{IpPayload, Packet, PacketV4, PacketV6}
-use Rattle.host_machine.specs.Sending.Packet as packet
+use Rattle.host_machine.specs.Context.Note.{Note}
+use Rattle.host_machine.specs.Context.Host.{Host, Storage}
+use Rattle.host_machine.specs.Receive.Reply.{Reply, Arp, Ip}
+use Rattle.host_machine.specs.Packet.Packet.{IpPayload, Packet, PacketV4, PacketV6}
+use Rattle.host_machine.specs.Packet.Packet as packet
 use Rattle.host_machine.specs.Laws.Restraint.Foreign.{IsNoBroadcastOf}
 use Rattle.host_machine.specs.Laws.Restraint.Neighbors.{IsOwn}
 use Rattle.host_machine.specs.Laws.Restraint.Readings.{CarriesV4, CarriesV6, Receives}

@@ -23,15 +23,18 @@ use Rattle.group_table.specs.declared.report.IgmpReportState.{IgmpReportState}
 use Rattle.group_table.specs.declared.report.IgmpReportState.TheVariants as igmp
 use Rattle.group_table.specs.declared.report.MldReportState.{MldReportState}
 use Rattle.group_table.specs.declared.report.MldReportState.TheVariants as mld
-use Rattle.host_machine.specs.State.Note.{Note}
-use Rattle.host_machine.specs.State.Host.{Host, Socket}
-use Rattle.host_machine.specs.Receiving.Reply.{Reply, Arp, Ip}
-use Rattle.host_machine.specs.Sending.Packet.{Packet}
-use Rattle.host_machine.specs.Sending.Frame.{arp_frame, piece_frame}
-use Rattle.host_machine.specs.Sending.Dispatch.{Outcome, Dispatches, destination_of}
-use Rattle.host_machine.specs.Sending.Multicast.{igmp_report, join_packet, leave_packet, mld_report}
-use Rattle.host_machine.specs.Sending.Slaac.{due_solicitation}
-use Rattle.host_machine.specs.Sending.Egress.{packet_from}
+use Rattle.host_machine.specs.Context.Note.{Note}
+use Rattle.host_machine.specs.Context.Host.{Host, Socket}
+use Rattle.host_machine.specs.Receive.Reply.{Reply, Arp, Ip}
+use Rattle.host_machine.specs.Packet.Packet.{Packet}
+use Rattle.host_machine.specs.Packet.Frame.{arp_frame, piece_frame}
+use Rattle.host_machine.specs.Send.Outcome.{Outcome}
+use Rattle.host_machine.specs.Send.Dispatch.{Dispatches, destination_of}
+use Rattle.host_machine.specs.Multicast.Igmp.{igmp_report}
+use Rattle.host_machine.specs.Multicast.Joins.{join_packet, leave_packet}
+use Rattle.host_machine.specs.Multicast.Mld.{mld_report}
+use Rattle.host_machine.specs.Discovery.RouterSolicitation.{due_solicitation}
+use Rattle.host_machine.specs.Sockets.Offers.{packet_from}
 use Rattle.host_machine.specs.Laws.Restraint.NextHop.{AreApart, GoesByHop, HopIs, IsGroup, IsOfGroup, IsOneHost}
 use Rattle.host_machine.specs.Laws.Restraint.NextHop.{IsSentTo, IsToAll}
 use Rattle.host_machine.specs.Laws.Restraint.Queries.{HasGroup, IsMldPendingUntil, IsPendingUntil}

@@ -17,11 +17,11 @@ use Rattle.host_machine.specs.declared.command.Command.TheVariants.{PollMaintena
 use Rattle.host_machine.specs.declared.command.Command.TheVariants.{RemoveDefaultIpv6Route, UpdateIpAddrs, UpdateRoutes}
 use Rattle.host_machine.specs.declared.command.Answer.{Answer}
 use Rattle.host_machine.specs.declared.results.PollResult.{PollResult}
-use Rattle.host_machine.specs.State.Note.{Note}
-use Rattle.host_machine.specs.State.Host.{Host}
-use Rattle.host_machine.specs.Polling.Step.{Act, Step}
-use Rattle.host_machine.specs.Polling.Run.{Transition, Run}
-use Rattle.host_machine.specs.Sending.Egress.{Egress}
+use Rattle.host_machine.specs.Context.Note.{Note}
+use Rattle.host_machine.specs.Context.Host.{Host}
+use Rattle.host_machine.specs.Interface.Step.{Act, Step}
+use Rattle.host_machine.specs.Interface.Run.{Transition, Run}
+use Rattle.host_machine.specs.Interface.Egress.{Egress}
 use Rattle.host_machine.specs.Laws.Restraint.Neighbors.{HasMessage}
 use Rattle.host_machine.specs.Laws.Restraint.Readings.{CarriesV6, Receives}
 

@@ -12,13 +12,14 @@ use Rattle.ip_wire.specs.declared.tcp.TcpRepr.{TcpRepr}
 use Rattle.ip_wire.specs.IpPacket.{src_addr}
 use Rattle.sockets.specs.declared.socket.SocketOf.TheVariants as kind
 use Rattle.host_machine.specs.declared.results.PollResult.{PollResult}
-use Rattle.host_machine.specs.State.Note.{Note}
-use Rattle.host_machine.specs.State.Host.{Host, Socket, at}
-use Rattle.host_machine.specs.Receiving.Reply.{Reply, Ip}
-use Rattle.host_machine.specs.Sending.Dispatch.{destination_of}
-use Rattle.host_machine.specs.Sending.Egress.{Egress, packet_from}
-use Rattle.host_machine.specs.Sending.Packet.{Packet, header_of, payload_of}
-use Rattle.host_machine.specs.Sending.Packet as packet
+use Rattle.host_machine.specs.Context.Note.{Note}
+use Rattle.host_machine.specs.Context.Host.{Host, Socket, at}
+use Rattle.host_machine.specs.Receive.Reply.{Reply, Ip}
+use Rattle.host_machine.specs.Send.Dispatch.{destination_of}
+use Rattle.host_machine.specs.Interface.Egress.{Egress}
+use Rattle.host_machine.specs.Sockets.Offers.{packet_from}
+use Rattle.host_machine.specs.Packet.Packet.{Packet, header_of, payload_of}
+use Rattle.host_machine.specs.Packet.Packet as packet
 use Rattle.host_machine.specs.Laws.Restraint.Chosen.{IsChosenFor}
 use Rattle.host_machine.specs.Laws.Restraint.Neighbors.{IsOwn}
 use Rattle.host_machine.specs.Laws.Restraint.NextHop.{IsOneHost}

@@ -16,12 +16,12 @@ use Rattle.ip_wire.specs.Udp.{IsUdp}
 use Rattle.ip_wire.specs.Tcp.{IsTcp}
 use Rattle.ipv6_wire.specs.declared.ipv6_packet.Ipv6Repr.{Ipv6Repr}
 use Rattle.icmpv6_wire.specs.Icmpv6.{IsIcmpv6}
-use Rattle.host_machine.specs.State.Host.{Host, in_same_network, is_assigned}
+use Rattle.host_machine.specs.Context.Host.{Host, in_same_network, is_assigned}
 use Rattle.transport_sockets.specs.Udp.{UdpSocket, accepts}
-use Rattle.host_machine.specs.State.Addresses.{has_solicited_node, is_broadcast, is_unicast_v4}
-use Rattle.host_machine.specs.Receiving.Udp.{IsDatagram}
-use Rattle.host_machine.specs.Receiving.Tcp.{IsSegment}
-use Rattle.host_machine.specs.Receiving.Icmpv6.{IsMessage}
+use Rattle.host_machine.specs.Context.Addresses.{has_solicited_node, is_broadcast, is_unicast_v4}
+use Rattle.host_machine.specs.Sockets.Udp.{IsDatagram}
+use Rattle.host_machine.specs.Sockets.Tcp.{IsSegment}
+use Rattle.host_machine.specs.Icmp.Icmpv6.{IsMessage}
 use Rattle.host_machine.specs.Laws.Restraint.Neighbors.{IsAssigned, IsNear}
 use Rattle.host_machine.specs.Laws.Restraint.NextHop.{IsGroup, IsToAll}
 use Rattle.host_machine.specs.Laws.Restraint.Replies.{IsOneHostV4}

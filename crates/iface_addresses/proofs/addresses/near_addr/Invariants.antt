@@ -1,5 +1,5 @@
 use Rattle.std.proofs.Common.{◌≡◌, drop}
-use Rattle.host_machine.specs.State.Addresses.{near_addr}
+use Rattle.host_machine.specs.Context.Addresses.{near_addr}
 use Rattle.iface_addresses.proofs.addresses.near_addr.Given as goal
 
 abbrev pub invariant-loop-cidr : goal.invariant-loop-cidr

@@ -1,8 +1,8 @@
 use Rattle.std.proofs.Common.{refl, ap, sym, ◌∙◌}
-use Rattle.host_machine.specs.State.Host.{no_sockets, with_slots}
-use Rattle.host_machine.specs.Receiving.Arp.{Malformed}
-use Rattle.iface_send.specs.Stands.{host_in, host_of}
-use Rattle.iface_send.proofs.Processing.{answered, dropped, unanswered}
+use Rattle.host_machine.specs.Context.Host.{no_sockets, with_slots}
+use Rattle.host_machine.specs.Discovery.Arp.{Malformed}
+use Rattle.iface_context.specs.Stands.{host_in, host_of}
+use Rattle.iface_context.proofs.Processing.{answered, dropped, unanswered}
 use Rattle.iface_discovery.proofs.ArpRules.{arp_learnt, arp_not_accepted}
 use Rattle.iface_discovery.proofs.arp.process_arp.Goals as goal
 

@@ -1,6 +1,6 @@
 use Rattle.std.proofs.Common.{ap, refl}
-use Rattle.host_machine.specs.State.Host.{no_sockets, with_slots}
-use Rattle.iface_send.specs.Stands.{host_of}
+use Rattle.host_machine.specs.Context.Host.{no_sockets, with_slots}
+use Rattle.iface_context.specs.Stands.{host_of}
 use Rattle.iface_discovery.proofs.ndisc.learn.Goals as goal
 
 pub returns-in_default : goal.returns-in_default

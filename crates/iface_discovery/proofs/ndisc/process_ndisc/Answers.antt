@@ -1,8 +1,8 @@
 use Rattle.std.proofs.Common.{refl, sym, ◌∙◌}
 use Rattle.std.proofs.lemmas.Bool.{eq-eqb, ne_eqb}
-use Rattle.host_machine.specs.Receiving.Ndisc.{Advertised, FromAfar, WithoutAddresses}
-use Rattle.iface_send.specs.Stands.{host_in}
-use Rattle.iface_send.proofs.Processing.{by_rule, dropped, unanswered}
+use Rattle.host_machine.specs.Discovery.Ndisc.{Advertised, FromAfar, WithoutAddresses}
+use Rattle.iface_context.specs.Stands.{host_in}
+use Rattle.iface_context.proofs.Processing.{by_rule, dropped, unanswered}
 use Rattle.iface_discovery.proofs.NeighborMessages.{from_neighbor}
 use Rattle.iface_discovery.proofs.ndisc.process_ndisc.Goals as goal
 

@@ -1,8 +1,8 @@
 use Rattle.std.proofs.Common.{Some, refl, sym, ◌∙◌}
-use Rattle.host_machine.specs.Receiving.Reply.{Ip}
-use Rattle.host_machine.specs.Receiving.Ndisc.{NoUnicast, advertisement_of}
-use Rattle.iface_send.specs.Stands.{host_in}
-use Rattle.iface_send.proofs.Processing.{answered, dispatched, dropped, unanswered}
+use Rattle.host_machine.specs.Receive.Reply.{Ip}
+use Rattle.host_machine.specs.Discovery.Ndisc.{NoUnicast, advertisement_of}
+use Rattle.iface_context.specs.Stands.{host_in}
+use Rattle.iface_context.proofs.Processing.{answered, dispatched, dropped, unanswered}
 use Rattle.iface_discovery.proofs.NeighborMessages.{solicited_by}
 use Rattle.iface_discovery.proofs.ndisc.process_solicitation.Goals as goal
 

@@ -1,5 +1,5 @@
 use Rattle.std.proofs.Common.{ap, sym, ◌∙◌}
-use Rattle.host_machine.specs.State.Host.{with_slots}
+use Rattle.host_machine.specs.Context.Host.{with_slots}
 use Rattle.iface_discovery.proofs.renewal.renew_sender.Goals as goal
 
 pub returns-then-is_unicast : goal.returns-then-is_unicast

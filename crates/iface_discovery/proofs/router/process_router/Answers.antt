@@ -1,5 +1,5 @@
 use Rattle.std.proofs.Common.{refl, sym, ap, ◌∙◌}
-use Rattle.host_machine.specs.State.Host.{with_slots}
+use Rattle.host_machine.specs.Context.Host.{with_slots}
 use Rattle.iface_discovery.proofs.router.process_router.Goals as goal
 
 pub returns-in-RouterSolicit : goal.returns-in-RouterSolicit

@@ -1,6 +1,6 @@
 use Rattle.std.proofs.Common.{◌≡◌, List, rules, subst}
 use Rattle.ip_address.specs.declared.cidr.IpCidr.{IpCidr}
-use Rattle.host_machine.specs.Polling.Step.{UpdatesIpAddrs}
+use Rattle.host_machine.specs.Interface.Step.{UpdatesIpAddrs}
 use Rattle.interface.specs.Stands.{HostRefines}
 use Rattle.iface_host.proofs.addresses.put_addresses.Goals as goal
 

@@ -1,8 +1,8 @@
 use Rattle.std.proofs.Common.{◌≡◌, ◌<◌, List, length, rules, subst, ap, ◌∙◌, arith}
 use Rattle.std.specs.List.{remove}
 use Rattle.ip_address.specs.declared.cidr.IpCidr.{IpCidr}
-use Rattle.host_machine.specs.State.Host.{no_sockets}
-use Rattle.host_machine.specs.Polling.Step.{UpdatesIpAddrs}
+use Rattle.host_machine.specs.Context.Host.{no_sockets}
+use Rattle.host_machine.specs.Interface.Step.{UpdatesIpAddrs}
 use Rattle.interface.specs.Stands.{HostRefines}
 use Rattle.iface_host.proofs.addresses.take_address.Goals as goal
 

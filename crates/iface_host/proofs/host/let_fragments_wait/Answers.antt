@@ -1,5 +1,5 @@
 use Rattle.std.proofs.Common.{◌≤◌, rules}
-use Rattle.host_machine.specs.State.Host.{no_sockets}
+use Rattle.host_machine.specs.Context.Host.{no_sockets}
 use Rattle.iface_host.proofs.FrameCalls.{timed}
 use Rattle.iface_host.proofs.RefusalCalls.{waits_within}
 use Rattle.iface_host.proofs.host.let_fragments_wait.Goals as goal

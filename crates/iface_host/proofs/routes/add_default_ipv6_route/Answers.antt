@@ -1,7 +1,7 @@
 use Rattle.std.proofs.Common.{List, refl, ap, ◌∙◌}
 use Rattle.iface_tables.specs.declared.route.Route.{Route}
 use Rattle.iface_tables.specs.Route.{is_ipv6_gateway, ipv6_gateway, old_or_full, with_default}
-use Rattle.iface_send.specs.Stands.{host_of}
+use Rattle.iface_context.specs.Stands.{host_of}
 use Rattle.interface.specs.Stands.{with_routes}
 use Rattle.interface.proofs.SettingCalls.{becomes}
 use Rattle.iface_host.proofs.routes.add_default_ipv6_route.Goals as goal

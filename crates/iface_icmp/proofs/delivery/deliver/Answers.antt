@@ -1,5 +1,5 @@
 use Rattle.socket_set.specs.SocketSet.{socket_at}
-use Rattle.host_machine.specs.Receiving.Icmp.{accepts}
+use Rattle.host_machine.specs.Icmp.Delivery.{accepts}
 use Rattle.iface_icmp.proofs.SocketIteration.{set_kept}
 use Rattle.iface_icmp.proofs.OtherPorts.{none_accepts_at_all, not_icmp}
 use Rattle.iface_icmp.proofs.delivery.deliver.Goals as goal

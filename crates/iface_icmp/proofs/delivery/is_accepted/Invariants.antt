@@ -1,5 +1,5 @@
 use Rattle.std.proofs.Common.{◌≤◌, ◌-◌, length}
-use Rattle.host_machine.specs.Receiving.Icmp.{accepts}
+use Rattle.host_machine.specs.Icmp.Delivery.{accepts}
 use Rattle.iface_icmp.proofs.OtherPorts.{NoneBefore}
 use Rattle.iface_icmp.proofs.delivery.is_accepted.Given as goal
 

@@ -1,7 +1,7 @@
 use Rattle.std.proofs.Common.{ap, ◌∙◌, refl}
 use Rattle.net_base.specs.Checksum.{is_rx}
-use Rattle.iface_send.specs.Stands.{host_in}
-use Rattle.iface_send.proofs.Processing.{answered, unanswered}
+use Rattle.iface_context.specs.Stands.{host_in}
+use Rattle.iface_context.proofs.Processing.{answered, unanswered}
 use Rattle.iface_icmp.proofs.IcmpRules.{icmpv4_malformed, icmpv4_taken}
 use Rattle.iface_icmp.proofs.icmpv4.process_icmpv4.Goals as goal
 

@@ -1,4 +1,4 @@
-use Rattle.iface_send.proofs.Processing.{dispatched}
+use Rattle.iface_context.proofs.Processing.{dispatched}
 use Rattle.iface_icmp.proofs.icmpv4.send_icmpv4_reply.Goals as goal
 
 pub returns : goal.returns

@@ -3,13 +3,13 @@ use Rattle.ip_address.specs.declared.ip.IpAddress.TheVariants.{Ipv6}
 use Rattle.control_wire.specs.declared.icmp.IcmpRepr.TheVariants.{Ipv6 as Ipv6Message}
 use Rattle.icmpv6_wire.specs.Icmpv6.{Request, echo_reply_to, echo_request_in}
 use Rattle.socket_set.specs.SocketSet.{with_places}
-use Rattle.host_machine.specs.Receiving.Delivery.{to_each}
-use Rattle.host_machine.specs.State.Host.{SocketSet, no_sockets}
-use Rattle.host_machine.specs.Receiving.Icmp.{accepts, storage_after_delivery}
-use Rattle.host_machine.specs.Receiving.Icmpv6.{message_back}
+use Rattle.host_machine.specs.Sockets.Delivery.{to_each}
+use Rattle.host_machine.specs.Context.Host.{SocketSet, no_sockets}
+use Rattle.host_machine.specs.Icmp.Delivery.{accepts, storage_after_delivery}
+use Rattle.host_machine.specs.Icmp.Icmpv6.{message_back}
 use Rattle.std.proofs.lemmas.List.{take_rest}
-use Rattle.iface_send.specs.Stands.{host_in, host_of}
-use Rattle.iface_send.proofs.Processing.{answered}
+use Rattle.iface_context.specs.Stands.{host_in, host_of}
+use Rattle.iface_context.proofs.Processing.{answered}
 use Rattle.iface_icmp.proofs.Messages.{of_request}
 use Rattle.iface_icmp.proofs.IcmpRules.{icmpv6_taken}
 use Rattle.iface_icmp.proofs.icmpv6.process_echo_request.Goals as goal

@@ -1,7 +1,7 @@
 use Rattle.std.proofs.Common.{ap, ◌∙◌}
 use Rattle.net_base.specs.Checksum.{is_rx}
-use Rattle.iface_send.specs.Stands.{host_in}
-use Rattle.iface_send.proofs.Processing.{unanswered}
+use Rattle.iface_context.specs.Stands.{host_in}
+use Rattle.iface_context.proofs.Processing.{unanswered}
 use Rattle.iface_icmp.proofs.IcmpRules.{icmpv6_malformed}
 use Rattle.iface_icmp.proofs.icmpv6.process_icmpv6.Goals as goal
 

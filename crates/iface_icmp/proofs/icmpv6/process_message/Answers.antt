@@ -1,6 +1,6 @@
 use Rattle.std.proofs.Common.{refl}
-use Rattle.iface_send.specs.Stands.{host_in}
-use Rattle.iface_send.proofs.Processing.{answered, unanswered}
+use Rattle.iface_context.specs.Stands.{host_in}
+use Rattle.iface_context.proofs.Processing.{answered, unanswered}
 use Rattle.iface_icmp.proofs.Messages.{echoed, of_groups, of_routers, unheeded}
 use Rattle.iface_icmp.proofs.icmpv6.process_message.Goals as goal
 

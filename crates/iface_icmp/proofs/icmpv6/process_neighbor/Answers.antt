@@ -1,8 +1,8 @@
 use Rattle.std.proofs.Common.{[], refl}
 use Rattle.icmpv6_wire.specs.declared.icmpv6.Icmpv6Repr.TheVariants.{Ndisc}
 use Rattle.icmpv6_wire.specs.Icmpv6.{Neighbor}
-use Rattle.iface_send.specs.Stands.{host_in}
-use Rattle.iface_send.proofs.Processing.{by_rule, unanswered}
+use Rattle.iface_context.specs.Stands.{host_in}
+use Rattle.iface_context.proofs.Processing.{by_rule, unanswered}
 use Rattle.iface_icmp.proofs.Messages.{a_neighbor, of_neighbors}
 use Rattle.iface_icmp.proofs.IcmpRules.{icmpv6_malformed, icmpv6_taken}
 use Rattle.iface_icmp.proofs.icmpv6.process_neighbor.Goals as goal

@@ -1,7 +1,7 @@
 use Rattle.std.proofs.Common.{ℕ, List, refl, ap, sym, ◌∙◌}
 use Rattle.icmpv6_wire.specs.declared.icmpv6.Icmpv6Repr.{Icmpv6Repr}
-use Rattle.iface_send.specs.Stands.{host_in}
-use Rattle.iface_send.proofs.Processing.{by_rule, unanswered}
+use Rattle.iface_context.specs.Stands.{host_in}
+use Rattle.iface_context.proofs.Processing.{by_rule, unanswered}
 use Rattle.iface_icmp.proofs.Messages.{no_neighbor}
 use Rattle.iface_icmp.proofs.IcmpRules.{icmpv6_malformed, icmpv6_taken}
 use Rattle.iface_icmp.proofs.icmpv6.process_other.Goals as goal

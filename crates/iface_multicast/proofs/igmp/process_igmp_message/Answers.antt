@@ -1,7 +1,6 @@
 use Rattle.std.proofs.Common.{ap, ◌∙◌}
-use Rattle.host_machine.specs.State.Host.{with_slots}
-use Rattle.host_machine.specs.Sending.Reports.{with_igmp_report}
-use Rattle.iface_send.specs.Stands.{host_in}
+use Rattle.host_machine.specs.Context.Host.{with_slots, with_igmp_report}
+use Rattle.iface_context.specs.Stands.{host_in}
 use Rattle.iface_multicast.proofs.igmp.process_igmp_message.Goals as goal
 
 pub returns-in-MembershipQuery : goal.returns-in-MembershipQuery

@@ -1,9 +1,9 @@
 use Rattle.std.proofs.Common.{true}
 use Rattle.group_table.specs.declared.groups.GroupState.TheVariants.{Joining}
 use Rattle.group_table.specs.Groups.{count_in, join_reported}
-use Rattle.host_machine.specs.Sending.Multicast.{join_packet}
+use Rattle.host_machine.specs.Multicast.Joins.{join_packet}
 use Rattle.iface_send.specs.Offered.{HasPart}
-use Rattle.iface_send.specs.Refines.{RefinesTelling}
+use Rattle.iface_context.specs.Refines.{RefinesTelling}
 use Rattle.iface_multicast.proofs.JoinReports.{ReportsSo}
 use Rattle.iface_multicast.proofs.joins.joins_egress.Given as goal
 

@@ -1,7 +1,7 @@
 use Rattle.std.proofs.Common.{refl, ap}
 use Rattle.group_table.specs.Groups.{leave_reported}
-use Rattle.host_machine.specs.State.Host.{with_slots}
-use Rattle.host_machine.specs.Sending.Multicast.{leave_packet}
+use Rattle.host_machine.specs.Context.Host.{with_slots}
+use Rattle.host_machine.specs.Multicast.Joins.{leave_packet}
 use Rattle.iface_multicast.proofs.JoinReports.{reported_it}
 use Rattle.iface_multicast.proofs.joins.report_leave.Goals as goal
 

@@ -1,4 +1,4 @@
-use Rattle.iface_send.specs.Stands.{host_in}
+use Rattle.iface_context.specs.Stands.{host_in}
 use Rattle.iface_multicast.proofs.GroupQueries.{mld_taken}
 use Rattle.iface_multicast.proofs.mld.process_mld.Goals as goal
 

@@ -1,9 +1,9 @@
 use Rattle.std.proofs.Common.{◌≡◌, ap, sym, ◌∙◌}
 use Rattle.std.specs.Prelude.{ℤ, pos, ◌+ℤ◌}
 use Rattle.group_table.specs.declared.report.MldReportState.{MldReportState}
-use Rattle.host_machine.specs.State.Host.{Host, no_sockets, with_slots}
-use Rattle.host_machine.specs.Sending.Reports.{delay, random_after_draw, mld_report_for, with_mld_report}
-use Rattle.iface_send.specs.Stands.{host_in, host_of}
+use Rattle.host_machine.specs.Context.Host.{Host, no_sockets, with_slots, with_mld_report}
+use Rattle.host_machine.specs.Multicast.Mld.{delay, random_after_draw, mld_report_for}
+use Rattle.iface_context.specs.Stands.{host_in, host_of}
 use Rattle.iface_multicast.proofs.GroupQueries.{from_near}
 use Rattle.iface_multicast.proofs.mld.process_mld_query.Goals as goal
 

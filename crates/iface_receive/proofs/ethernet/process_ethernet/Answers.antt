@@ -1,7 +1,7 @@
 use Rattle.std.proofs.Common.{sym, ◌∙◌}
-use Rattle.host_machine.specs.Receiving.Ethernet.{Malformed}
-use Rattle.iface_send.specs.Stands.{host_in}
-use Rattle.iface_send.proofs.Processing.{by_law, dropped, in_place, unanswered}
+use Rattle.host_machine.specs.Receive.Ethernet.{Malformed}
+use Rattle.iface_context.specs.Stands.{host_in}
+use Rattle.iface_context.proofs.Processing.{by_law, dropped, in_place, unanswered}
 use Rattle.iface_receive.proofs.PacketRules.{ethernet_read, ethernet_refused}
 use Rattle.iface_receive.proofs.ethernet.process_ethernet.Goals as goal
 

@@ -1,5 +1,5 @@
-use Rattle.iface_send.specs.Stands.{host_in}
-use Rattle.iface_send.proofs.Processing.{in_place, unanswered}
+use Rattle.iface_context.specs.Stands.{host_in}
+use Rattle.iface_context.proofs.Processing.{in_place, unanswered}
 use Rattle.iface_receive.proofs.PacketRules.{payload_dropped}
 use Rattle.iface_receive.proofs.ethernet.process_ethertype.Goals as goal
 

@@ -1,5 +1,5 @@
 use Rattle.std.proofs.Common.{ap, sym, ◌∙◌}
-use Rattle.iface_send.proofs.Processing.{by_law}
+use Rattle.iface_context.proofs.Processing.{by_law}
 use Rattle.iface_receive.proofs.PacketRules.{frame_taken, packet_taken}
 use Rattle.iface_receive.proofs.ethernet.process_frame.Goals as goal
 

@@ -1,6 +1,6 @@
-use Rattle.host_machine.specs.Receiving.Ethernet.{Ipv4, Ipv6, OtherVersion}
-use Rattle.iface_send.specs.Stands.{host_in}
-use Rattle.iface_send.proofs.Processing.{by_law, dropped, in_place, unanswered}
+use Rattle.host_machine.specs.Receive.Ethernet.{Ipv4, Ipv6, OtherVersion}
+use Rattle.iface_context.specs.Stands.{host_in}
+use Rattle.iface_context.proofs.Processing.{by_law, dropped, in_place, unanswered}
 use Rattle.iface_receive.proofs.ethernet.process_ip.Goals as goal
 
 pub returns-in-4 : goal.returns-in-4

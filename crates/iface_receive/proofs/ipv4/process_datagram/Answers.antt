@@ -1,7 +1,7 @@
 use Rattle.std.proofs.Common.{ap, sym, ◌∙◌}
-use Rattle.host_machine.specs.State.Host.{with_slots}
-use Rattle.iface_send.specs.Stands.{host_in}
-use Rattle.iface_send.proofs.Processing.{by_rule, unanswered}
+use Rattle.host_machine.specs.Context.Host.{with_slots}
+use Rattle.iface_context.specs.Stands.{host_in}
+use Rattle.iface_context.proofs.Processing.{by_rule, unanswered}
 use Rattle.iface_receive.proofs.PacketRules.{packet_accepted, packet_for_others}
 use Rattle.iface_receive.proofs.ipv4.process_datagram.Goals as goal
 

@@ -1,9 +1,9 @@
 use Rattle.std.proofs.Common.{ap, sym, ◌∙◌}
 use Rattle.net_base.specs.Checksum.{is_rx}
 use Rattle.std.specs.Prelude.{option_map}
-use Rattle.host_machine.specs.Receiving.Ipv4.{FromNoHost}
-use Rattle.iface_send.specs.Stands.{host_in}
-use Rattle.iface_send.proofs.Processing.{by_law, dropped, in_place, unanswered}
+use Rattle.host_machine.specs.Receive.Ipv4.{FromNoHost}
+use Rattle.iface_context.specs.Stands.{host_in}
+use Rattle.iface_context.proofs.Processing.{by_law, dropped, in_place, unanswered}
 use Rattle.iface_receive.proofs.FragmentHandling.{a_datagram, no_datagram, own_header}
 use Rattle.iface_receive.proofs.PacketRules.{ipv4_malformed, ipv4_read}
 use Rattle.iface_receive.proofs.ipv4.process_ipv4.Goals as goal

@@ -1,5 +1,5 @@
-use Rattle.iface_send.specs.Stands.{host_in}
-use Rattle.iface_send.proofs.Processing.{answered, by_rule, unanswered}
+use Rattle.iface_context.specs.Stands.{host_in}
+use Rattle.iface_context.proofs.Processing.{answered, by_rule, unanswered}
 use Rattle.iface_receive.proofs.PacketRules.{protocol_refused, taken_by_protocol}
 use Rattle.iface_receive.proofs.ipv4.process_protocol.Goals as goal
 

@@ -1,5 +1,5 @@
-use Rattle.iface_send.specs.Stands.{host_in}
-use Rattle.iface_send.proofs.Processing.{answered, unanswered}
+use Rattle.iface_context.specs.Stands.{host_in}
+use Rattle.iface_context.proofs.Processing.{answered, unanswered}
 use Rattle.iface_receive.proofs.PacketRulesV6.{options_discarded, options_malformed}
 use Rattle.iface_receive.proofs.ipv6.payload_behind_options.Goals as goal
 

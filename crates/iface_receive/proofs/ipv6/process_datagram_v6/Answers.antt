@@ -1,8 +1,8 @@
 use Rattle.std.proofs.Common.{ap, sym, ◌∙◌}
-use Rattle.host_machine.specs.State.Host.{with_slots}
-use Rattle.host_machine.specs.Receiving.Ipv6.{NotForUs}
-use Rattle.iface_send.specs.Stands.{host_in}
-use Rattle.iface_send.proofs.Processing.{by_rule, dropped, unanswered}
+use Rattle.host_machine.specs.Context.Host.{with_slots}
+use Rattle.host_machine.specs.Receive.Ipv6.{NotForUs}
+use Rattle.iface_context.specs.Stands.{host_in}
+use Rattle.iface_context.proofs.Processing.{by_rule, dropped, unanswered}
 use Rattle.iface_receive.proofs.PacketRulesV6.{payload_accepted}
 use Rattle.iface_receive.proofs.ipv6.process_datagram_v6.Goals as goal
 

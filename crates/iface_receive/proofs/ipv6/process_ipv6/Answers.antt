@@ -1,7 +1,7 @@
 use Rattle.std.proofs.Common.{refl, sym, ◌∙◌}
-use Rattle.host_machine.specs.Receiving.Ipv6.{FromNoHost, WithOptions}
-use Rattle.iface_send.specs.Stands.{host_in}
-use Rattle.iface_send.proofs.Processing.{by_rule, dropped, unanswered}
+use Rattle.host_machine.specs.Receive.Ipv6.{FromNoHost, WithOptions}
+use Rattle.iface_context.specs.Stands.{host_in}
+use Rattle.iface_context.proofs.Processing.{by_rule, dropped, unanswered}
 use Rattle.iface_receive.proofs.PacketRulesV6.{begun, ipv6_malformed, ipv6_read}
 use Rattle.iface_receive.proofs.ipv6.process_ipv6.Goals as goal
 

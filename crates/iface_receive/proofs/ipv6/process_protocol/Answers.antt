@@ -1,5 +1,5 @@
-use Rattle.iface_send.specs.Stands.{host_in}
-use Rattle.iface_send.proofs.Processing.{answered, by_rule}
+use Rattle.iface_context.specs.Stands.{host_in}
+use Rattle.iface_context.proofs.Processing.{answered, by_rule}
 use Rattle.iface_receive.proofs.PacketRulesV6.{protocol_refused_v6, taken_by_protocol_v6}
 use Rattle.iface_receive.proofs.ipv6.process_protocol.Goals as goal
 

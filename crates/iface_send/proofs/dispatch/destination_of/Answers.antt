@@ -1,5 +1,5 @@
 use Rattle.std.proofs.Common.{sym, ◌∙◌, rules}
-use Rattle.iface_send.proofs.Building.{nothing, by_rule}
+use Rattle.iface_context.proofs.Building.{nothing, by_rule}
 use Rattle.iface_send.proofs.Destinations.{by_medium, to_many, to_neighbor, no_hop, silent, asked}
 use Rattle.iface_send.proofs.dispatch.destination_of.Goals as goal
 

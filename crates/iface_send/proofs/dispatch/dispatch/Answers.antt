@@ -2,15 +2,15 @@ use Rattle.std.proofs.Common.{◌≡◌, ◌≤◌, ℕ, List, [], ◌∷◌, �
 use Rattle.ip_address.specs.declared.ip.IpAddress.{IpAddress}
 use Rattle.ip_wire.specs.declared.ethernet.EthernetProtocol.{EthernetProtocol}
 use Rattle.net_base.specs.Checksum.{ip_mtu_of}
-use Rattle.host_machine.specs.Sending.Packet.{total_len}
-use Rattle.host_machine.specs.State.Note.{OfIdentification, Identify}
-use Rattle.host_machine.specs.State.Host.{no_sockets}
-use Rattle.host_machine.specs.Sending.Frame.{ip_frame, link_header, packet_text}
-use Rattle.host_machine.specs.Sending.Dispatch.{Emits, ToUnspecified, ToSpecified, Whole}
-use Rattle.iface_send.specs.declared.context.Context.{Context}
+use Rattle.host_machine.specs.Packet.Packet.{total_len}
+use Rattle.host_machine.specs.Context.Note.{OfIdentification, Identify}
+use Rattle.host_machine.specs.Context.Host.{no_sockets}
+use Rattle.host_machine.specs.Packet.Frame.{ip_frame, link_header, packet_text}
+use Rattle.host_machine.specs.Send.Dispatch.{Emits, ToUnspecified, ToSpecified, Whole}
+use Rattle.iface_context.specs.declared.context.Context.{Context}
 use Rattle.iface_send.specs.Destination.{ethertype_to}
-use Rattle.iface_send.specs.Stands.{host_in, host_of}
-use Rattle.iface_send.proofs.Building.{unsent, nothing, noting, one}
+use Rattle.iface_context.specs.Stands.{host_in, host_of}
+use Rattle.iface_context.proofs.Building.{unsent, nothing, noting, one}
 use Rattle.iface_send.proofs.Destinations.{same_ethertype, some_octets}
 use Rattle.iface_send.proofs.Identified.{with_id}
 use Rattle.iface_send.proofs.dispatch.dispatch.Goals as goal

@@ -1,9 +1,9 @@
 use Rattle.std.proofs.Common.{◌≡◌, sym, subst, Ok, Err, rules}
-use Rattle.host_machine.specs.Sending.Dispatch.{Emits}
+use Rattle.host_machine.specs.Send.Dispatch.{Emits}
 use Rattle.iface_packet.specs.PacketValues as value_of
-use Rattle.iface_send.specs.declared.context.Context.{Context}
-use Rattle.iface_send.specs.Stands.{host_in}
-use Rattle.iface_send.proofs.Building.{by_rule}
+use Rattle.iface_context.specs.declared.context.Context.{Context}
+use Rattle.iface_context.specs.Stands.{host_in}
+use Rattle.iface_context.proofs.Building.{by_rule}
 use Rattle.iface_send.proofs.dispatch.dispatch_long.Goals as goal
 
 pub returns-in_err-destination : goal.returns-in_err-destination

@@ -1,5 +1,5 @@
 use Rattle.iface_packet.specs.PacketValues as value_of
-use Rattle.iface_send.proofs.Cutting.{begins}
+use Rattle.iface_context.proofs.Cutting.{begins}
 use Rattle.iface_send.proofs.fragments.emit_fragmented.Goals as goal
 
 pub returns : goal.returns

@@ -1,6 +1,6 @@
 use Rattle.std.proofs.Common.{sym, ◌∙◌, ap, refl, Some, None}
 use Rattle.iface_tables.specs.Neighbor.{is_found}
-use Rattle.host_machine.specs.Sending.Dispatch.{OfHost}
+use Rattle.host_machine.specs.Send.Hops.{OfHost}
 use Rattle.iface_send.proofs.hops.has_neighbor.Goals as goal
 
 pub returns-in-Some : goal.returns-in-Some

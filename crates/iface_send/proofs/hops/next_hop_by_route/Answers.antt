@@ -1,5 +1,5 @@
 use Rattle.std.proofs.Common.{refl}
-use Rattle.host_machine.specs.Sending.Dispatch.{ByRouter}
+use Rattle.host_machine.specs.Send.Hops.{ByRouter}
 use Rattle.iface_send.proofs.hops.next_hop_by_route.Goals as goal
 
 pub returns-in_err-router-clause-hop : goal.returns-in_err-router-clause-hop

@@ -1,10 +1,10 @@
 use Rattle.std.proofs.Common.{[], ◌∷◌, refl, sym, ◌∙◌, ap, arith}
-use Rattle.host_machine.specs.State.Note.{OfDiscovery, Ask}
-use Rattle.host_machine.specs.State.Host.{Host, with_slots}
-use Rattle.host_machine.specs.Receiving.Arp.{request_for}
-use Rattle.host_machine.specs.Sending.Frame.{arp_frame}
-use Rattle.host_machine.specs.Sending.Dispatch.{Asked, NoSource}
-use Rattle.iface_send.proofs.Building.{unsent, nothing, one}
+use Rattle.host_machine.specs.Context.Note.{OfDiscovery, Ask}
+use Rattle.host_machine.specs.Context.Host.{Host, with_slots}
+use Rattle.host_machine.specs.Discovery.Arp.{request_for}
+use Rattle.host_machine.specs.Packet.Frame.{arp_frame}
+use Rattle.host_machine.specs.Send.Requests.{Asked, NoSource}
+use Rattle.iface_context.proofs.Building.{unsent, nothing, one}
 use Rattle.iface_send.proofs.requests.send_arp_request.Goals as goal
 
 pub returns-in_default : goal.returns-in_default

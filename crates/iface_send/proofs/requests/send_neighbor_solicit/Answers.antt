@@ -1,18 +1,19 @@
 use Rattle.std.proofs.Common.{◌≡◌, [], ◌∷◌, refl, ◌∙◌, ap, arith}
 use Rattle.ip_address.specs.declared.ethernet_address.EthernetAddress.{EthernetAddress}
 use Rattle.ip_address.specs.declared.ipv6.Ipv6Address.{Ipv6Address}
-use Rattle.host_machine.specs.Sending.Packet.{Packet}
+use Rattle.host_machine.specs.Packet.Packet.{Packet}
 use Rattle.iface_packet.specs.PacketValues as value_of
 use Rattle.ip_address.specs.declared.hardware.HardwareAddress.TheVariants as hardware
 use Rattle.ip_address.specs.Ipv6.{solicited_node}
 use Rattle.address_selection.specs.Ipv6.{source_v6}
-use Rattle.host_machine.specs.State.Note.{OfDiscovery, OfIdentification, Ask, Identify}
-use Rattle.host_machine.specs.State.Host.{Host, no_sockets, with_neighbors, with_slots}
-use Rattle.host_machine.specs.Receiving.Ndisc.{solicitation_for}
-use Rattle.host_machine.specs.Sending.Frame.{ip_frame}
-use Rattle.host_machine.specs.Sending.Dispatch.{Solicited, group_address_v6, with_next_id, with_silence}
-use Rattle.iface_send.specs.Stands.{host_of}
-use Rattle.iface_send.proofs.Building.{one}
+use Rattle.host_machine.specs.Context.Note.{OfDiscovery, OfIdentification, Ask, Identify}
+use Rattle.host_machine.specs.Context.Host.{Host, no_sockets, with_neighbors, with_slots, with_next_id}
+use Rattle.host_machine.specs.Discovery.Ndisc.{solicitation_for}
+use Rattle.host_machine.specs.Packet.Frame.{ip_frame}
+use Rattle.host_machine.specs.Send.Requests.{Solicited, with_silence}
+use Rattle.host_machine.specs.Send.Hops.{group_address_v6}
+use Rattle.iface_context.specs.Stands.{host_of}
+use Rattle.iface_context.proofs.Building.{one}
 use Rattle.iface_send.proofs.requests.send_neighbor_solicit.Goals as goal
 
 pub returns : goal.returns

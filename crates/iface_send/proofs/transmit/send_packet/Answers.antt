@@ -1,6 +1,6 @@
 use Rattle.std.proofs.Common.{refl}
 use Rattle.std.specs.FinMap as map
-use Rattle.host_machine.specs.State.Host.{no_sockets}
+use Rattle.host_machine.specs.Context.Host.{no_sockets}
 use Rattle.iface_packet.specs.PacketValues as value_of
 use Rattle.iface_send.proofs.DispatchFrame.{groups_stay}
 use Rattle.iface_send.proofs.Offered.{not_granted, goes}

@@ -1,7 +1,7 @@
 use Rattle.std.proofs.Common.{◌≡◌, ◌+◌, None, arith, length}
-use Rattle.host_machine.specs.Polling.Due.{instant_of}
-use Rattle.host_machine.proofs.Polling.EarliestInstant.{own_least, below_more, below_none, sockets_least}
-use Rattle.iface_send.specs.Stands.{host_in}
+use Rattle.host_machine.specs.Sockets.Polling.{instant_of}
+use Rattle.host_machine.proofs.Interface.EarliestInstant.{own_least, below_more, below_none, sockets_least}
+use Rattle.iface_context.specs.Stands.{host_in}
 use Rattle.iface_sockets.proofs.IdleSockets.{below_passed}
 use Rattle.iface_sockets.proofs.polling.sockets_poll_at.Goals as goal
 

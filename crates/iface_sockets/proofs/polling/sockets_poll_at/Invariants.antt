@@ -1,8 +1,8 @@
 use Rattle.std.proofs.Common.{◌≤◌, ◌-◌, length}
 use Rattle.fragmentation.specs.Slots.{Slots}
-use Rattle.host_machine.specs.Polling.Due.{IsLeast}
-use Rattle.host_machine.proofs.Polling.EarliestInstant.{DueBelow}
-use Rattle.iface_send.specs.Stands.{host_in}
+use Rattle.host_machine.specs.Interface.Due.{IsLeast}
+use Rattle.host_machine.proofs.Interface.EarliestInstant.{DueBelow}
+use Rattle.iface_context.specs.Stands.{host_in}
 use Rattle.iface_sockets.proofs.polling.sockets_poll_at.Given as goal
 
 abbrev pub invariant-loop-index : goal.invariant-loop-index

@@ -1,7 +1,7 @@
 use Rattle.std.proofs.Common.{sym}
 use Rattle.socket_set.specs.SocketSet.{socket_at}
-use Rattle.host_machine.specs.Receiving.Raw.{takes}
-use Rattle.iface_send.specs.Stands.{host_of}
+use Rattle.host_machine.specs.Sockets.Raw.{takes}
+use Rattle.iface_context.specs.Stands.{host_of}
 use Rattle.iface_icmp.proofs.SocketIteration.{none_delivered}
 use Rattle.iface_icmp.proofs.OtherPorts.{none_accepts_at_all, not_raw}
 use Rattle.iface_sockets.proofs.raw.deliver.Goals as goal

@@ -1,5 +1,5 @@
 use Rattle.std.proofs.Common.{◌∙◌, sym}
-use Rattle.iface_send.specs.Stands.{host_of}
+use Rattle.iface_context.specs.Stands.{host_of}
 use Rattle.iface_icmp.proofs.SocketIteration.{none_delivered}
 use Rattle.iface_sockets.proofs.raw.deliver_to_accepting.Goals as goal
 

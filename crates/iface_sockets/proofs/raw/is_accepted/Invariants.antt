@@ -1,5 +1,5 @@
 use Rattle.std.proofs.Common.{◌≤◌, ◌-◌, length}
-use Rattle.host_machine.specs.Receiving.Raw.{takes}
+use Rattle.host_machine.specs.Sockets.Raw.{takes}
 use Rattle.iface_icmp.proofs.OtherPorts.{NoneBefore}
 use Rattle.iface_sockets.proofs.raw.is_accepted.Given as goal
 

@@ -1,5 +1,5 @@
 use Rattle.std.proofs.Common.{◌≤◌, ◌-◌, length}
-use Rattle.host_machine.specs.Receiving.Tcp.{accepts}
+use Rattle.host_machine.specs.Sockets.Tcp.{accepts}
 use Rattle.iface_icmp.proofs.OtherPorts.{NoneBefore}
 use Rattle.iface_sockets.proofs.tcp.find_socket.Given as goal
 

@@ -1,9 +1,9 @@
 use Rattle.std.proofs.Common.{ap, sym, ◌∙◌, refl}
 use Rattle.net_base.specs.Checksum.{is_rx}
 use Rattle.socket_set.specs.SocketSet.{Sockets}
-use Rattle.host_machine.specs.Receiving.Tcp.{BetweenUnspecified}
-use Rattle.iface_send.specs.Stands.{host_in}
-use Rattle.iface_send.proofs.Processing.{answered, dropped, unanswered}
+use Rattle.host_machine.specs.Sockets.Tcp.{BetweenUnspecified}
+use Rattle.iface_context.specs.Stands.{host_in}
+use Rattle.iface_context.proofs.Processing.{answered, dropped, unanswered}
 use Rattle.iface_sockets.proofs.PayloadRules.{tcp_delivered, tcp_malformed, tcp_not_accepted}
 use Rattle.iface_sockets.proofs.tcp.process_tcp.Goals as goal
 

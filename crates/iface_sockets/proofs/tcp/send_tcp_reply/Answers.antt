@@ -1,4 +1,4 @@
-use Rattle.iface_send.proofs.Processing.{dispatched}
+use Rattle.iface_context.proofs.Processing.{dispatched}
 use Rattle.iface_sockets.proofs.tcp.send_tcp_reply.Goals as goal
 
 pub returns-in-Ipv4 : goal.returns-in-Ipv4

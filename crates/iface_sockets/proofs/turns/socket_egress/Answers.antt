@@ -1,6 +1,6 @@
 use Rattle.std.proofs.Common.{◌∙◌, ◌+◌, ◌≡◌, arith, length, refl, sym}
 use Rattle.fragmentation.specs.Slots.{Slots}
-use Rattle.iface_send.specs.Stands.{host_in}
+use Rattle.iface_context.specs.Stands.{host_in}
 use Rattle.iface_sockets.proofs.SocketTurns.{none_served, one_served, all_served, idle_passed, one_refused}
 use Rattle.iface_sockets.proofs.turns.socket_egress.Goals as goal
 

@@ -1,8 +1,8 @@
 use Rattle.std.proofs.Common.{◌≡◌, ◌≤◌, ◌-◌, length, true}
-use Rattle.iface_send.specs.Stands.{host_in}
+use Rattle.iface_context.specs.Stands.{host_in}
 use Rattle.fragmentation.specs.Slots.{Slots}
-use Rattle.iface_send.specs.Refines.{RefinesTelling}
-use Rattle.host_machine.specs.Sending.Egress.{Walks}
+use Rattle.iface_context.specs.Refines.{RefinesTelling}
+use Rattle.host_machine.specs.Sockets.Turns.{Walks}
 use Rattle.iface_sockets.proofs.turns.socket_egress.Given as goal
 
 abbrev pub invariant-loop-index : goal.invariant-loop-index

@@ -1,6 +1,6 @@
 use Rattle.std.proofs.Common.{◌∙◌}
-use Rattle.host_machine.specs.State.Host.{no_sockets}
-use Rattle.iface_send.specs.Stands.{host_of}
+use Rattle.host_machine.specs.Context.Host.{no_sockets}
+use Rattle.iface_context.specs.Stands.{host_of}
 use Rattle.iface_sockets.proofs.UdpDelivery.{accepted_at}
 use Rattle.iface_sockets.proofs.udp.deliver_at.Goals as goal
 

@@ -1,8 +1,8 @@
 use Rattle.std.proofs.Common.{◌∙◌, sym}
 use Rattle.socket_set.specs.SocketSet.{socket_at}
-use Rattle.host_machine.specs.State.Host.{no_sockets}
-use Rattle.host_machine.specs.Receiving.Udp.{accepts}
-use Rattle.iface_send.specs.Stands.{host_of}
+use Rattle.host_machine.specs.Context.Host.{no_sockets}
+use Rattle.host_machine.specs.Sockets.Udp.{accepts}
+use Rattle.iface_context.specs.Stands.{host_of}
 use Rattle.iface_icmp.proofs.OtherPorts.{none_passed, not_udp, one_passed}
 use Rattle.iface_sockets.proofs.udp.find_among_several.Goals as goal
 

@@ -1,8 +1,8 @@
 use Rattle.std.proofs.Common.{ap, ◌∙◌, refl}
 use Rattle.net_base.specs.Checksum.{is_rx}
 use Rattle.socket_set.specs.SocketSet.{Sockets}
-use Rattle.iface_send.specs.Stands.{host_in}
-use Rattle.iface_send.proofs.Processing.{answered, unanswered}
+use Rattle.iface_context.specs.Stands.{host_in}
+use Rattle.iface_context.proofs.Processing.{answered, unanswered}
 use Rattle.iface_sockets.proofs.PayloadRules.{udp_delivered, udp_malformed, udp_not_accepted}
 use Rattle.iface_sockets.proofs.udp.process_udp.Goals as goal
 

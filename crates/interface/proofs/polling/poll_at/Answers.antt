@@ -1,5 +1,5 @@
-use Rattle.host_machine.proofs.Polling.EarliestInstant.{soonest_least}
-use Rattle.iface_send.specs.Stands.{host_in}
+use Rattle.host_machine.proofs.Interface.EarliestInstant.{soonest_least}
+use Rattle.iface_context.specs.Stands.{host_in}
 use Rattle.interface.proofs.polling.poll_at.Goals as goal
 
 pub returns : goal.returns

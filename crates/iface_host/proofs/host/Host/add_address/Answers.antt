@@ -1,6 +1,6 @@
 use Rattle.std.proofs.Common.{◌≡◌, ◌<◌, ◌≤◌, List, [], ◌∷◌, ◌++◌, length, ap, rules, ◌∙◌, arith}
 use Rattle.ip_address.specs.declared.cidr.IpCidr.{IpCidr}
-use Rattle.host_machine.specs.State.Host.{no_sockets}
+use Rattle.host_machine.specs.Context.Host.{no_sockets}
 use Rattle.iface_host.proofs.RefusalCalls.{address_full, address_told, list_why}
 use Rattle.iface_host.proofs.RuleCalls.{addresses_refused, stayed, updated}
 use Rattle.iface_host.proofs.host.Host.add_address.Goals as goal

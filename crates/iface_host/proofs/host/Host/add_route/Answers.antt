@@ -1,6 +1,6 @@
 use Rattle.std.proofs.Common.{◌≡◌, ◌<◌, ◌≤◌, List, [], ◌∷◌, ◌++◌, None, length, ap, rules, ◌∙◌}
 use Rattle.iface_tables.specs.declared.route.Route.{Route}
-use Rattle.host_machine.specs.State.Host.{no_sockets}
+use Rattle.host_machine.specs.Context.Host.{no_sockets}
 use Rattle.iface_host.proofs.RefusalCalls.{route_full, route_room}
 use Rattle.iface_host.proofs.RuleCalls.{routed, untouched_if}
 use Rattle.iface_host.specs.Calls.{route_to}

@@ -3,7 +3,7 @@ use Rattle.std.specs.Prelude.{List}
 use Rattle.ip_address.specs.declared.cidr.IpCidr.{IpCidr}
 use Rattle.ip_address.specs.declared.hardware.HardwareAddress.{HardwareAddress}
 use Rattle.iface_tables.specs.Neighbor.{Neighbors}
-use Rattle.host_machine.specs.State.Host.{no_sockets}
+use Rattle.host_machine.specs.Context.Host.{no_sockets}
 use Rattle.guard.specs.Watch as guard
 use Rattle.iface_host.specs.Calls.{addresses_of}
 use Rattle.iface_host.specs.Guarded.{hardware_addr_of, no_waits}

@@ -1,4 +1,4 @@
-use Rattle.host_machine.specs.State.Host.{no_sockets}
+use Rattle.host_machine.specs.Context.Host.{no_sockets}
 use Rattle.iface_host.proofs.RefusalCalls.{ethernet_told}
 use Rattle.iface_host.proofs.host.Host.hardware_address.Goals as goal
 

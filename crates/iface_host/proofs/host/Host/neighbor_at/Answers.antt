@@ -1,7 +1,7 @@
 use Rattle.std.proofs.Common.{ap, ◌∙◌}
 use Rattle.std.specs.Option.{option_and_then}
 use Rattle.iface_tables.specs.Neighbor.{Neighbors}
-use Rattle.host_machine.specs.State.Host.{no_sockets}
+use Rattle.host_machine.specs.Context.Host.{no_sockets}
 use Rattle.iface_host.specs.Neighbors.{known_as}
 use Rattle.iface_host.proofs.host.Host.neighbor_at.Goals as goal
 

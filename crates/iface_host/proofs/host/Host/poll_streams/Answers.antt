@@ -1,5 +1,5 @@
 use Rattle.std.proofs.Common.{◌≡◌, pos, refl, rules}
-use Rattle.host_machine.specs.State.Host.{no_sockets}
+use Rattle.host_machine.specs.Context.Host.{no_sockets}
 use Rattle.tcp_sockets.specs.Polls.{state}
 use Rattle.tcp_sockets.proofs.PollLemmas.{polls_as}
 use Rattle.iface_host.specs.Calls.{addresses_of}

@@ -1,7 +1,7 @@
 use Rattle.std.proofs.Common.{◌≡◌, ◌<◌, ◌≤◌, ℕ, List, ap, length, rules, ◌∙◌, arith}
 use Rattle.std.specs.List.{position_or_len, remove}
 use Rattle.ip_address.specs.declared.cidr.IpCidr.{IpCidr}
-use Rattle.host_machine.specs.State.Host.{no_sockets}
+use Rattle.host_machine.specs.Context.Host.{no_sockets}
 use Rattle.iface_host.proofs.RefusalCalls.{list_why, removal_none, removal_told}
 use Rattle.iface_host.proofs.RuleCalls.{addresses_refused, stayed, updated}
 use Rattle.iface_host.specs.Calls.{addresses_of, is_same}

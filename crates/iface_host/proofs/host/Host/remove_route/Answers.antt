@@ -1,7 +1,7 @@
 use Rattle.std.proofs.Common.{◌≡◌, ◌<◌, ◌≤◌, List, length, ap, rules, ◌∙◌}
 use Rattle.std.specs.List.{position_or_len, remove}
 use Rattle.iface_tables.specs.declared.route.Route.{Route}
-use Rattle.host_machine.specs.State.Host.{no_sockets}
+use Rattle.host_machine.specs.Context.Host.{no_sockets}
 use Rattle.iface_host.proofs.RefusalCalls.{route_none, route_there}
 use Rattle.iface_host.proofs.RuleCalls.{routed}
 use Rattle.iface_host.specs.Calls.{is_to}

@@ -1,7 +1,7 @@
 use Rattle.std.proofs.Common.{List, ap, ◌∙◌}
 use Rattle.ip_address.specs.declared.cidr.IpCidr.{IpCidr}
 use Rattle.iface_tables.specs.declared.route.Route.{Route}
-use Rattle.host_machine.specs.State.Host.{no_sockets}
+use Rattle.host_machine.specs.Context.Host.{no_sockets}
 use Rattle.iface_host.specs.Leased.{addresses_with, routes_with}
 use Rattle.iface_host.proofs.LeasedCalls.{kept_same, leased, leased_why, many_addresses, many_routes, room_told}
 use Rattle.iface_host.proofs.RuleCalls.{stayed}

@@ -1,6 +1,6 @@
 use Rattle.std.proofs.Common.{◌≡◌, Bool, true, ap, rules}
 use Rattle.std.specs.Prelude.{◌||◌}
-use Rattle.host_machine.specs.State.Host.{no_sockets}
+use Rattle.host_machine.specs.Context.Host.{no_sockets}
 use Rattle.iface_host.specs.Outbox.{with_room}
 use Rattle.iface_host.proofs.FrameCalls.{rounded}
 use Rattle.iface_host.proofs.host.Host.round.Goals as goal

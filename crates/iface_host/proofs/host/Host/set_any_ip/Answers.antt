@@ -1,4 +1,4 @@
-use Rattle.host_machine.specs.State.Host.{Host as Machine}
+use Rattle.host_machine.specs.Context.Host.{Host as Machine}
 use Rattle.iface_host.proofs.RuleCalls.{changed}
 use Rattle.iface_host.proofs.host.Host.set_any_ip.Goals as goal
 

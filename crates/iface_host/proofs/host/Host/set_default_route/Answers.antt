@@ -1,7 +1,7 @@
 use Rattle.std.proofs.Common.{sym, ◌∙◌}
 use Rattle.iface_tables.specs.Route.{ipv4_gateway, ipv6_gateway, is_ipv4_gateway, is_ipv6_gateway, with_default}
-use Rattle.host_machine.specs.State.Host.{Host as Machine}
-use Rattle.host_machine.specs.State.Host.{no_sockets}
+use Rattle.host_machine.specs.Context.Host.{Host as Machine}
+use Rattle.host_machine.specs.Context.Host.{no_sockets}
 use Rattle.iface_host.proofs.RefusalCalls.{default_told}
 use Rattle.iface_host.specs.Calls.{routes_of}
 use Rattle.iface_host.proofs.RuleCalls.{changed, default_stays}

@@ -1,4 +1,4 @@
-use Rattle.host_machine.specs.State.Host.{Host as Machine}
+use Rattle.host_machine.specs.Context.Host.{Host as Machine}
 use Rattle.iface_host.proofs.RuleCalls.{changed_if, same_if}
 use Rattle.iface_host.proofs.host.Host.set_reassembly_timeout.Goals as goal
 

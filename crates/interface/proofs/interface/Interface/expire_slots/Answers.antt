@@ -1,6 +1,6 @@
 use Rattle.std.proofs.Common.{ap, sym, ◌∙◌}
 use Rattle.fragmentation.specs.Slots.{live_at}
-use Rattle.host_machine.specs.State.Host.{Host, without_expired, with_slots}
+use Rattle.host_machine.specs.Context.Host.{Host, without_expired, with_slots}
 use Rattle.interface.proofs.interface.Interface.expire_slots.Goals as goal
 
 pub returns : goal.returns

@@ -1,7 +1,7 @@
 use Rattle.std.proofs.Common.{refl, sym, ◌∙◌, ap}
 use Rattle.group_table.specs.Groups.{is_refused, groups_after_join}
-use Rattle.host_machine.specs.State.Host.{Host, with_groups}
-use Rattle.host_machine.specs.Sending.Multicast.{JoinTaken, NoGroup, NoPlace}
+use Rattle.host_machine.specs.Context.Host.{Host, with_groups}
+use Rattle.host_machine.specs.Multicast.Joins.{JoinTaken, NoGroup, NoPlace}
 use Rattle.interface.proofs.SettingCalls.{has_none, has_place, kept, led}
 use Rattle.interface.proofs.interface.Interface.join_multicast_group.Goals as goal
 

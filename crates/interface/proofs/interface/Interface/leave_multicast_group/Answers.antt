@@ -1,7 +1,7 @@
 use Rattle.std.proofs.Common.{refl, sym, ◌∙◌}
 use Rattle.group_table.specs.Groups.{groups_after_leave}
-use Rattle.host_machine.specs.State.Host.{with_groups}
-use Rattle.host_machine.specs.Sending.Multicast.{LeaveTaken, NoGroupEither}
+use Rattle.host_machine.specs.Context.Host.{with_groups}
+use Rattle.host_machine.specs.Multicast.Joins.{LeaveTaken, NoGroupEither}
 use Rattle.interface.proofs.SettingCalls.{kept, led}
 use Rattle.interface.proofs.interface.Interface.leave_multicast_group.Goals as goal
 

@@ -1,5 +1,5 @@
-use Rattle.host_machine.specs.State.Host.{at}
-use Rattle.host_machine.specs.Polling.Polling.{after_maintenance}
+use Rattle.host_machine.specs.Context.Host.{at}
+use Rattle.host_machine.specs.Interface.Polling.{after_maintenance}
 use Rattle.interface.specs.Stands.{StandsFor}
 use Rattle.interface.proofs.PollLoop.{polled_whole}
 use Rattle.interface.proofs.interface.Interface.poll.Goals as goal

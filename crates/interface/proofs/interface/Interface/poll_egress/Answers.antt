@@ -1,5 +1,5 @@
 use Rattle.std.proofs.Common.{ap, ◌∙◌, sym}
-use Rattle.host_machine.specs.State.Host.{Host, at, with_slots}
+use Rattle.host_machine.specs.Context.Host.{Host, at, with_slots}
 use Rattle.interface.proofs.EgressCall.{egressed}
 use Rattle.interface.proofs.interface.Interface.poll_egress.Goals as goal
 

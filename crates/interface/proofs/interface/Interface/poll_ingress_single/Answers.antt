@@ -1,8 +1,8 @@
 use Rattle.std.proofs.Common.{ℕ, List, [], ◌∷◌, take, arith}
 use Rattle.std.proofs.lemmas.Grind.{common_steps}
 use Rattle.net_base.specs.Device.{Received, Frame}
-use Rattle.host_machine.specs.State.Host.{without_expired}
-use Rattle.host_machine.specs.Sending.Frame.{frames_in, sends}
+use Rattle.host_machine.specs.Context.Host.{without_expired}
+use Rattle.host_machine.specs.Packet.Frame.{frames_in, sends}
 use Rattle.interface.proofs.IngressCall.{nothing_came, frame_came, answers_none, answers_some}
 use Rattle.interface.proofs.interface.Interface.poll_ingress_single.Goals as goal
 

@@ -1,5 +1,5 @@
 use Rattle.std.proofs.Common.{ap, sym, ◌∙◌}
-use Rattle.host_machine.specs.Sending.Slaac.{after_sync}
+use Rattle.host_machine.specs.Context.Autoconfiguration.{after_sync}
 use Rattle.interface.proofs.interface.Interface.poll_maintenance.Goals as goal
 
 pub returns : goal.returns

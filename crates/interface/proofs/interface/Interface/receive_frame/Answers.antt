@@ -1,5 +1,5 @@
 use Rattle.std.proofs.Common.{rules, refl, None, Some}
-use Rattle.host_machine.specs.State.Host.{without_expired}
+use Rattle.host_machine.specs.Context.Host.{without_expired}
 use Rattle.interface.proofs.IngressCall.{frame_received, shows_none, shows_some}
 use Rattle.interface.proofs.interface.Interface.receive_frame.Goals as goal
 

@@ -1,7 +1,7 @@
 use Rattle.std.proofs.Common.{◌≡◌, ◌∙◌, arith}
-use Rattle.host_machine.specs.Polling.Ingress.{Ingress}
+use Rattle.host_machine.specs.Interface.Ingress.{Ingress}
 use Rattle.host_machine.specs.declared.results.PollIngressSingleResult.TheVariants.{None as Nothing}
-use Rattle.host_machine.specs.Polling.Polling.{may_change}
+use Rattle.host_machine.specs.Interface.Polling.{may_change}
 use Rattle.interface.specs.Stands.{StandsFor}
 use Rattle.interface.proofs.PollLoop.{begins, again, spent, done, or_true, or_false}
 use Rattle.interface.proofs.interface.Interface.receive_until.Goals.{in-PacketProcessed, in-SocketStateChanged}

@@ -1,7 +1,7 @@
 use Rattle.std.proofs.Common.{◌≡◌, true, arith}
-use Rattle.host_machine.specs.Sending.Egress.{Egress}
+use Rattle.host_machine.specs.Interface.Egress.{Egress}
 use Rattle.host_machine.specs.declared.results.PollResult.TheVariants.{None as Nothing}
-use Rattle.host_machine.specs.Polling.Polling.{is_changed}
+use Rattle.host_machine.specs.Interface.Polling.{is_changed}
 use Rattle.interface.specs.Stands.{StandsFor}
 use Rattle.interface.proofs.PollLoop.{begins, again, spent, done, or_true}
 use Rattle.interface.proofs.interface.Interface.send_until.Goals as goal

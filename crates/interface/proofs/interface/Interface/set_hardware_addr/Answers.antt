@@ -1,7 +1,7 @@
 use Rattle.std.proofs.Common.{refl, ap, sym, ◌∙◌}
-use Rattle.host_machine.specs.State.Host.{Host}
-use Rattle.host_machine.specs.State.Config.{hardware_refusal_of}
-use Rattle.host_machine.specs.Polling.Step.{Taken, NotTaken}
+use Rattle.host_machine.specs.Context.Host.{Host}
+use Rattle.host_machine.specs.Interface.Config.{hardware_refusal_of}
+use Rattle.host_machine.specs.Interface.Step.{Taken, NotTaken}
 use Rattle.interface.proofs.SettingCalls.{kept, led}
 use Rattle.interface.proofs.interface.Interface.set_hardware_addr.Goals as goal
 

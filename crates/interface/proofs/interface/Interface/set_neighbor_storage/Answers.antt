@@ -1,6 +1,6 @@
 use Rattle.std.proofs.Common.{refl, vec_capacity}
 use Rattle.interface.proofs.SettingCalls.{becomes}
-use Rattle.host_machine.specs.State.Host.{with_neighbor_room}
+use Rattle.host_machine.specs.Context.Host.{with_neighbor_room}
 use Rattle.iface_tables.specs.Neighbor.{room_over}
 use Rattle.interface.proofs.interface.Interface.set_neighbor_storage.Goals as goal
 

@@ -1,5 +1,5 @@
 use Rattle.std.proofs.Common.{◌<◌, ◌≤◌, refl, rules}
-use Rattle.host_machine.specs.Polling.Step.{WithinDay, OverDay}
+use Rattle.host_machine.specs.Interface.Step.{WithinDay, OverDay}
 use Rattle.interface.proofs.SettingCalls.{kept, led}
 use Rattle.interface.proofs.interface.Interface.set_reassembly_timeout.Goals as goal
 

@@ -1,5 +1,5 @@
 use Rattle.std.proofs.Common.{refl}
-use Rattle.iface_send.specs.Stands.{host_in}
+use Rattle.iface_context.specs.Stands.{host_in}
 use Rattle.interface.proofs.interface.Interface.stands_for_a_host.Goals as goal
 
 pub returns : goal.returns

@@ -1,6 +1,6 @@
 use Rattle.std.proofs.Common.{refl, sym, ◌∙◌}
-use Rattle.host_machine.specs.Sending.Multicast.{after_address_change}
-use Rattle.host_machine.specs.Polling.Step.{Accepted, Refused}
+use Rattle.host_machine.specs.Context.Settings.{after_address_change}
+use Rattle.host_machine.specs.Interface.Step.{Accepted, Refused}
 use Rattle.interface.proofs.SettingCalls.{kept, led}
 use Rattle.interface.proofs.interface.Interface.update_ip_addrs.Goals as goal
 

@@ -1,0 +1,5 @@
+pub mod NotedRequests
+pub mod Advertisements
+pub mod LearntNeighbors
+pub mod NeighborOrigins
+pub mod RoomMade

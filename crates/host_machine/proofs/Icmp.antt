@@ -1,0 +1,2 @@
+pub mod EchoReplies
+pub mod RebuiltPings

@@ -1,0 +1,4 @@
+pub mod GroupChanges
+pub mod GroupReports
+pub mod ReportTimes
+pub mod HeardQueries

@@ -1,5 +1,0 @@
-pub mod NotesBySubject
-pub mod Keys
-pub mod MediumAddresses
-pub mod UnchangedFields
-pub mod EarlierNeighbors

@@ -1,0 +1,5 @@
+pub mod Joins
+pub mod Igmp
+pub mod Mld
+pub mod Timeout
+pub mod Polling

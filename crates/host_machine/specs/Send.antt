@@ -1,0 +1,5 @@
+pub mod Dispatch
+pub mod Hops
+pub mod Requests
+pub mod Outcome
+pub mod Fragments

@@ -1,4 +1,0 @@
-pub mod Note
-pub mod Host
-pub mod Addresses
-pub mod Config

@@ -1,0 +1,6 @@
+mod Broadcasts
+pub mod Building
+pub mod Cutting
+pub mod Processing
+mod Routing
+mod Syncing

@@ -1,0 +1,20 @@
+use Rattle.std.proofs.Common.{refl}
+use Rattle.iface_context.proofs.neighbors.limit_rate.Goals as goal
+
+pub returns : goal.returns
+returns c = λ sockets. rw c.limit_rate.ensures refl
+
+pub invariant_of-context : goal.invariant_of-context
+invariant_of-context c =
+    let k = c.args.context.now in
+    record {
+      timely = k.timely;
+      short = k.short;
+      long = k.long;
+      within_a_day = k.within_a_day;
+      cut_to_fit = k.cut_to_fit;
+      of_medium = k.of_medium;
+      own = k.own;
+      neighbors = rw c.limit_rate.ensures k.neighbors;
+      pending = k.pending;
+    }

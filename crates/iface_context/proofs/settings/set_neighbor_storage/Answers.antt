@@ -1,0 +1,16 @@
+use Rattle.iface_context.proofs.settings.set_neighbor_storage.Goals as goal
+
+pub invariant_of-context : goal.invariant_of-context
+invariant_of-context c =
+    let k = c.args.context.now in
+    record {
+      timely = k.timely;
+      short = k.short;
+      long = k.long;
+      within_a_day = k.within_a_day;
+      cut_to_fit = k.cut_to_fit;
+      of_medium = k.of_medium;
+      own = k.own;
+      neighbors = c.set_storage.ensures.of k.capabilities.medium;
+      pending = k.pending;
+    }

@@ -1,0 +1,4 @@
+pub mod Multicast
+pub mod Pieces
+pub mod Refines
+pub mod Stands

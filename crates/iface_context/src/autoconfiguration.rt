@@ -1,0 +1,125 @@
+//! Stateless address autoconfiguration (SLAAC) on the state of an interface (RFC 4862 5.5, RFC 4861 6.3).
+ghost use Rattle.std.specs.Prelude.{◌≡◌, ◌≤◌, length};
+ghost use Rattle.host_machine.specs.Context.Host.{SocketSet, no_sockets, with_slaac};
+ghost use Rattle.host_machine.specs.Context.Settings.{after_address_change};
+ghost use Rattle.host_machine.specs.Context.Autoconfiguration.{with_slaac_applied, after_sync};
+ghost use Rattle.fragmentation.specs.Slots.{Slots};
+ghost use Rattle.iface_context.specs.Stands.{host_in, host_of};
+ghost use Rattle.slaac.specs.Slaac as learnt;
+ghost use Rattle.slaac.specs.Slaac.{IsLifetime, slaac_after_message, slaac_after_update};
+ghost use Rattle.slaac.specs.Sync.{synced_addrs, synced_routes};
+
+use crate::context::Context;
+use crate::settings::set_ip_addrs;
+use arrayvec::ArrayVec;
+use icmpv6_wire::NdiscPrefixInformation;
+use iface_tables::route::{IFACE_MAX_ROUTE_COUNT, Route};
+use ip_wire::Ipv6Address;
+use net_base::time::{Duration, Instant};
+use slaac::Slaac;
+use slaac::sync::{synced_addrs, synced_routes};
+
+impl Context {
+    ghost use Rattle.std.specs.Prelude.{◌≡◌};
+    ghost use Rattle.host_machine.specs.Context.Host.{no_sockets};
+    ghost use Rattle.iface_context.specs.Stands.{host_of};
+
+    /// Whether the interface takes IPv6 addresses from router advertisements.
+    pub fn is_slaac_enabled(&self) -> bool
+        ensures { result ≡ (host_of self.now no_sockets).slaac_enabled }
+    {
+        self.slaac_enabled
+    }
+
+    /// The prefixes and routers learnt from advertisements, and the state of router discovery.
+    pub fn slaac(&self) -> &Slaac
+        ensures { result.now ≡ (host_of self.now no_sockets).slaac }
+    {
+        &self.slaac
+    }
+
+    /// When addresses and routes were last synchronized with them; [`Instant::ZERO`] before the first time.
+    pub fn slaac_updated_at(&self) -> Instant
+        ensures { result ≡ (host_of self.now no_sockets).slaac_updated_at }
+    {
+        self.slaac_updated_at
+    }
+}
+
+/// Processes a router advertisement: the router that sent it, its lifetime as a default router, and a prefix, if it
+/// carries one. The lifetime must be below 2^32 s.
+pub fn process_advertisement(
+    context: &mut Context,
+    router: &Ipv6Address,
+    router_lifetime: Duration,
+    prefix: Option<NdiscPrefixInformation>,
+)
+    requires { IsLifetime router_lifetime }
+    ensures { (sockets : SocketSet) → host_of context.new sockets ≡ with_slaac (host_of context.old sockets)
+        (slaac_after_message (host_of context.old no_sockets).slaac router.now router_lifetime prefix
+        (host_of context.old no_sockets).moment) }
+{
+    let now = context.moment;
+    context
+        .slaac
+        .process_advertisement(router, router_lifetime, prefix, now);
+}
+
+/// Records that a router solicitation was sent at the interface's moment.
+pub fn rs_sent(context: &mut Context)
+    ensures { (sockets : SocketSet) → host_of context.new sockets ≡ with_slaac (host_of context.old sockets)
+        (learnt.rs_sent (host_of context.old no_sockets).slaac (host_of context.old no_sockets).moment) }
+{
+    let now = context.moment;
+    context.slaac.rs_sent(now);
+}
+
+/// Synchronizes addresses and routes with the prefixes and routers learnt, if one of these is new, was withdrawn or has
+/// expired. Then, as with any change of addresses, all neighbours are forgotten, and solicited-node groups are left and
+/// joined. What has expired is forgotten.
+pub fn sync_slaac(context: &mut Context)
+    ensures { (slots : Slots) (sockets : SocketSet) →
+        host_in context.new slots sockets ≡ after_sync (host_in context.old slots sockets) }
+{
+    if context.slaac.sync_required(context.moment) {
+        apply_slaac(context);
+    }
+}
+
+/// Synchronizes addresses and routes with the prefixes and routers learnt.
+#[inline(never)]
+fn apply_slaac(context: &mut Context)
+    ensures { (sockets : SocketSet) → host_of context.new sockets ≡ with_slaac_applied (host_of context.old sockets) }
+{
+    let now = context.moment;
+    let list = synced_addrs(
+        context.ip_addrs.as_slice(),
+        &context.hardware_addr,
+        context.slaac.prefix(),
+        now,
+    );
+    let routes = synced_routes(context.routes.as_slice(), context.slaac.routes(), now);
+    set_ip_addrs(context, list);
+    set_routes(context, routes);
+    finish_sync(context);
+}
+
+/// Ends a sync: forgets what has expired, and records the moment.
+fn finish_sync(context: &mut Context)
+    ensures { (sockets : SocketSet) → host_of context.new sockets ≡ record (host_of context.old sockets) {
+      slaac = slaac_after_update (host_of context.old no_sockets).slaac (host_of context.old no_sockets).moment;
+      slaac_updated_at = (host_of context.old no_sockets).moment;
+    } }
+{
+    let now = context.moment;
+    context.slaac.update_slaac_state(now);
+    context.slaac_updated_at = now;
+}
+
+/// Replaces the routes.
+fn set_routes(context: &mut Context, routes: ArrayVec<Route, IFACE_MAX_ROUTE_COUNT>)
+    ensures { (sockets : SocketSet) →
+        host_of context.new sockets ≡ record (host_of context.old sockets) { routes = routes.items } }
+{
+    context.routes.update(move |_| routes);
+}

@@ -1,0 +1,154 @@
+//! The settings that calls of an interface change in its context.
+ghost use Rattle.std.specs.Prelude.{◌≡◌, ◌≤◌, List, [], false, pos, vec_capacity};
+ghost use Rattle.std.specs.FinMap as map;
+ghost use Rattle.net_base.specs.Time.{IsMoment};
+ghost use Rattle.net_base.specs.Checksum.{ip_mtu_of};
+ghost use Rattle.ip_address.specs.Hardware.{IsOf, medium_of};
+ghost use Rattle.host_machine.specs.Context.Host.{SocketSet, at, no_sockets, with_neighbor_room};
+ghost use Rattle.host_machine.specs.Context.Settings.{after_address_change};
+ghost use Rattle.group_table.specs.declared.report.IgmpReportState.TheVariants as igmp;
+ghost use Rattle.group_table.specs.declared.report.MldReportState.TheVariants as mld;
+ghost use Rattle.iface_tables.specs.Neighbor.{first_neighbors, room_over};
+ghost use Rattle.slaac.specs.Slaac.{initial_state};
+ghost use Rattle.iface_context.specs.Stands.{host_of, with_routes};
+ghost use Rattle.std.specs.Borrow.{sem, Lends};
+ghost use Rattle.iface_tables.specs.contracts.route.Routes.{the_row as routes_row};
+ghost use Rattle.iface_context.specs.contracts.context.Context.{the_row as context_row};
+
+use crate::context::{Context, IFACE_MAX_ADDR_COUNT};
+use crate::membership::{Membership, update_solicited_node_groups};
+use arrayvec::ArrayVec;
+use fragmentation::Fragmenter;
+use iface_tables::neighbor::{Cache, Hints, Neighbor};
+use iface_tables::route::Routes;
+use ip_wire::{HardwareAddress, IpAddress, IpCidr};
+use net_base::phy::DeviceCapabilities;
+use net_base::rand::Rand;
+use net_base::time::{Duration, Instant};
+use slaac::Slaac;
+
+/// The context of a new interface over a device with these capabilities: no address, route, neighbour or group, and
+/// nothing learnt from routers. `slaac` says whether it takes addresses from routers.
+pub fn new(
+    capabilities: DeviceCapabilities,
+    hardware_addr: HardwareAddress,
+    ipv4_id: u16,
+    rand: Rand,
+    slaac: bool,
+    now: Instant,
+) -> Context
+    requires timely { IsMoment now }
+    requires short { capabilities.max_transmission_unit ≤ 1514 }
+    requires long { 576 ≤ ip_mtu_of capabilities }
+    requires of_medium { medium_of hardware_addr ≡ capabilities.medium }
+    requires own { IsOf capabilities.medium hardware_addr }
+    ensures { (sockets : SocketSet) → host_of result sockets ≡ record {
+      capabilities = capabilities;
+      hardware_addr = hardware_addr;
+      moment = now;
+      ip_addrs = [];
+      any_ip = false;
+      routes = [];
+      neighbors = first_neighbors 4;
+      ipv4_id = ipv4_id;
+      reassembly_timeout = 60000000;
+      slots = map.empty;
+      left = [];
+      groups = [];
+      igmp_report = igmp.Inactive;
+      mld_report = mld.Inactive;
+      slaac_enabled = slaac;
+      slaac = initial_state;
+      slaac_updated_at = pos 0;
+      random = rand;
+      sockets = sockets;
+    } }
+{
+    Context {
+        capabilities,
+        hardware_addr,
+        moment: now,
+        ip_addrs: ArrayVec::new(),
+        any_ip: false,
+        routes: Routes::new(),
+        neighbor_cache: Cache::new(),
+        ipv4_id,
+        reassembly_timeout: Duration::from_secs(60),
+        fragmenter: Fragmenter::new(),
+        multicast: Membership::new(),
+        slaac_enabled: slaac,
+        slaac: Slaac::new(),
+        slaac_updated_at: Instant::ZERO,
+        rand,
+    }
+}
+
+/// Sets the moment.
+pub fn set_moment(context: &mut Context, now: Instant)
+    requires { IsMoment now }
+    ensures { (sockets : SocketSet) → host_of context.new sockets ≡ at (host_of context.old sockets) now }
+{
+    context.moment = now;
+}
+
+/// Replaces the addresses, forgets all neighbours, and leaves and joins solicited-node groups to match the addresses.
+pub fn set_ip_addrs(context: &mut Context, list: ArrayVec<IpCidr, IFACE_MAX_ADDR_COUNT>)
+    ensures { (sockets : SocketSet) →
+        host_of context.new sockets ≡ after_address_change (host_of context.old sockets) list.items }
+{
+    context.ip_addrs = list;
+    context.neighbor_cache.flush();
+    update_solicited_node_groups(
+        &context.hardware_addr,
+        context.ip_addrs.as_slice(),
+        &mut context.multicast.groups,
+    );
+}
+
+/// Forgets all neighbours, and keeps them from now on in this storage: as many as it has capacity for. Without capacity
+/// there is room for four. As many hints make lookups fast.
+pub fn set_neighbor_storage(
+    context: &mut Context,
+    storage: Vec<(IpAddress, Neighbor)>,
+    hints: Vec<Hints>,
+)
+    ensures { (sockets : SocketSet) → host_of context.new sockets
+        ≡ with_neighbor_room (host_of context.old sockets) (room_over (vec_capacity storage)) }
+{
+    context.neighbor_cache.set_storage(storage, hints);
+}
+
+/// Turns AnyIP on or off: whether addresses that are routed to the interface count as its own.
+pub fn set_any_ip(context: &mut Context, any_ip: bool)
+    ensures { (sockets : SocketSet) →
+        host_of context.new sockets ≡ record (host_of context.old sockets) { any_ip = any_ip } }
+{
+    context.any_ip = any_ip;
+}
+
+/// Sets the reassembly timeout of slots that are taken from now on, at most a day.
+pub fn set_reassembly_timeout(context: &mut Context, timeout: Duration)
+    requires { timeout ≤ 86400000000 }
+    ensures { (sockets : SocketSet) →
+        host_of context.new sockets ≡ record (host_of context.old sockets) { reassembly_timeout = timeout } }
+{
+    context.reassembly_timeout = timeout;
+}
+
+/// Sets the hardware address, which must be of the interface's medium.
+pub fn set_hardware_addr(context: &mut Context, hardware_addr: HardwareAddress)
+    requires of_medium { medium_of hardware_addr ≡ (host_of context.old no_sockets).capabilities.medium }
+    requires own { IsOf (host_of context.old no_sockets).capabilities.medium hardware_addr }
+    ensures { (sockets : SocketSet) →
+        host_of context.new sockets ≡ record (host_of context.old sockets) { hardware_addr = hardware_addr } }
+{
+    context.hardware_addr = hardware_addr;
+}
+
+/// Mutable access to the routes.
+pub fn routes_mut(context: &mut Context) -> &mut Routes
+    ensures* lends { sem 𝓛 (Lends context_row routes_row context.entry result (λ w. with_routes context.old w)) }
+    ensures value { result.now ≡ (host_of context.old no_sockets).routes }
+{
+    &mut context.routes
+}

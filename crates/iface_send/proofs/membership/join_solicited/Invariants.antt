@@ -1,6 +1,0 @@
-use Rattle.std.proofs.Common.{◌≡◌, drop}
-use Rattle.host_machine.specs.Sending.Multicast.{groups_after_joins}
-use Rattle.iface_send.proofs.membership.join_solicited.Given as goal
-
-abbrev pub invariant-loop-cidr : goal.invariant-loop-cidr
-invariant-loop-cidr l = groups_after_joins l.groups (drop l.cidr-index l.own) ≡ groups_after_joins l.fn.groups l.own
