@@ -31,7 +31,7 @@ use Rattle.host_machine.specs.Context.Host.{Host}
 use Rattle.host_machine.specs.Context.Addresses.{ipv4_addr}
 use Rattle.host_machine.specs.Packet.Packet.{Packet}
 use Rattle.host_machine.specs.Multicast.Joins.{ReportsEach, ReportsAll}
-use Rattle.host_machine.specs.Context.Membership.{groups_after_joins, groups_after_leaves, groups_for, is_idle}
+use Rattle.host_machine.specs.Context.Membership.{groups_after_joins, groups_after_leaves, groups_for, is_unneeded_group}
 use Rattle.host_machine.specs.Multicast.Igmp.{igmp_report, IgmpEgress, igmp_poll_at, igmp_report_after, igmp_timeout_of, next_group, next_report}
 use Rattle.host_machine.specs.Multicast.Joins as multicast
 use Rattle.host_machine.specs.Multicast.Timeout.{has_passed}
@@ -143,7 +143,7 @@ joins_least groups (cidr.Ipv6 n ∷ own) =
 pub groups_for_least : (h : HardwareAddress) (own : List IpCidr) (groups : List Group) → number_v4 (groups_for h own groups) ≤ number_v4 groups
 groups_for_least hardware.Ip own groups = omega arith
 groups_for_least (hardware.Ethernet e) own groups =
-    let idle : List IpAddress = filter (is_idle own) (map (λ (g : Group). g.addr) groups) in
+    let idle : List IpAddress = filter (is_unneeded_group own) (map (λ (g : Group). g.addr) groups) in
     omega (arith, joins_least (groups_after_leaves groups idle) own, leaves_least groups idle)
 
 module _ (state : GroupState) (packet_for : List IpCidr → IpAddress → Option Packet) (after_report : List Group → IpAddress → List Group)

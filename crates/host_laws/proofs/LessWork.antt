@@ -49,7 +49,7 @@ use Rattle.host_machine.proofs.Interface.SlaacPolls.{polls_sync_slaac}
 use Rattle.host_machine.proofs.Interface.GrantedEgress.{all_untouched, dispatched_gone, given_parts, groups_way}
 use Rattle.host_machine.proofs.Interface.GrantedEgress.{routers_way, to_sockets}
 use Rattle.host_machine.proofs.Interface.DueWork.{all_kept, due_done, groups_kept, igmp_kept, mld_kept, piece_gone}
-use Rattle.host_laws.specs.Progress.{ComeToRest, PollsComeToRest, RunsComeToRest, PollsMakeProgress, IsBusy, IsSound, to_name, work}
+use Rattle.host_laws.specs.Progress.{ComeToRest, PollsComeToRest, RunsComeToRest, PollsMakeProgress, LeavesWorkDue, IsSound, to_name, work}
 use Rattle.host_laws.proofs.QueuesAfterTurns.{CallLoads, NoLoad, LessLoad, call_loads, call_works}
 use Rattle.host_laws.proofs.QueuesAfterTurns.{one_less_apart}
 use Rattle.host_laws.proofs.GroupsToName.{groups_for_least, groups_least, igmp_less, igmp_named, join_reported_least}
@@ -340,7 +340,7 @@ polls_of other e = absurd cc
 
 pub come_to_rest : PollsComeToRest
 come_to_rest t first last transitions run busy sound = by run busy sound where
-  by : {first last : Host} {transitions : List Transition} → Run first transitions last → AllByRecursion (IsBusy t) transitions → IsSound first →
+  by : {first last : Host} {transitions : List Transition} → Run first transitions last → AllByRecursion (LeavesWorkDue t) transitions → IsSound first →
       length transitions + work last ≤ work first
   by Ends busy s = omega arith
   by (Then {old = old} {mid = mid} {told = told} {notes = notes} s run) busy sound =

@@ -35,8 +35,8 @@ abbrev pub WereSentBySome : List Host → Runs → List Transition → Type 0
 WereSentBySome hosts runs qs = AllByRecursion (SentBySome hosts runs) (handed_frames (events_in qs))
 
 -- no other host's UDP socket sends from this address
-abbrev pub IsAddressOf : List Host → Runs → IpAddress → ℕ → Type 0
-IsAddressOf hosts runs address j =
+abbrev pub IsOnlySenderFrom : List Host → Runs → IpAddress → ℕ → Type 0
+IsOnlySenderFrom hosts runs address j =
     (k : ℕ) (d : Delivery) → IsHost hosts k → WasSent (runs k) d → d.source.addr ≡ address → k ≡ j
 
 -- A datagram was sent by a UDP socket of one of the hosts; and if no other host sends from its source address than one,
@@ -45,7 +45,7 @@ pub record WasSentBySome (hosts : List Host) (runs : Runs) (d : Delivery) : Type
   pub sender : ℕ
   pub is_host : IsHost hosts sender
   pub sent : WasSent (runs sender) d
-  pub by_owner : (j : ℕ) → IsAddressOf hosts runs d.source.addr j → WasSent (runs j) d
+  pub by_owner : (j : ℕ) → IsOnlySenderFrom hosts runs d.source.addr j → WasSent (runs j) d
 
 -- a datagram that arrived in one packet was sent; of one that arrived in fragments nothing is said
 abbrev pub WasSentWhole : List Host → Runs → Delivery →

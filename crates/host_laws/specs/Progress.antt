@@ -77,7 +77,7 @@ PollsMakeProgress =
     IsSound old → Due (at new t) x → x ≤ℤ t → work new < work old
 
 -- such a poll at t, after which something is due at t or before
-pub record IsBusy (t : ℤ) (p : Transition) : Type 0 where
+pub record LeavesWorkDue (t : ℤ) (p : Transition) : Type 0 where
   pub budget : ℕ
   pub poll : p.command ≡ Poll t budget
   pub some : 1 ≤ budget
@@ -91,7 +91,7 @@ pub record IsBusy (t : ℤ) (p : Transition) : Type 0 where
 -- after which nothing is due
 abbrev pub PollsComeToRest : Type 0
 PollsComeToRest = (t : ℤ) (first last : Host) (transitions : List Transition) →
-    Run first transitions last → AllByRecursion (IsBusy t) transitions → IsSound first →
+    Run first transitions last → AllByRecursion (LeavesWorkDue t) transitions → IsSound first →
     length transitions + work last ≤ work first
 
 -- from each transition of a run on: polls at one moment, one after another, after each of which something is due at it,
@@ -100,7 +100,7 @@ abbrev pub ComeToRest : List Transition → Type 0
 ComeToRest [] = Unit {0}
 ComeToRest (p ∷ ps) = (
     IsSound p.before → (t : ℤ) (busy others : List Transition) → p ∷ ps ≡ busy ++ others →
-    AllByRecursion (IsBusy t) busy → length busy ≤ work p.before
+    AllByRecursion (LeavesWorkDue t) busy → length busy ≤ work p.before
     ) × ComeToRest ps
 
 abbrev pub RunsComeToRest : Type 0

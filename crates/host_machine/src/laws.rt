@@ -181,7 +181,7 @@ pub fn pieces_are_read()
 {}
 
 /// A fragment that follows at most three others leaves at most four separate ranges.
-pub fn few_are_kept()
+pub fn fragments_leave_few_ranges()
     ensures { FewAreKept }
 {}
 
@@ -326,7 +326,7 @@ pub fn queries_are_answered()
 
 /// A worked example: without transmit tokens, joins, leaves and reports each ask for one of their own; an IGMP report
 /// stays due, and an MLD report is dropped.
-pub fn refusals_are_apart()
+pub fn each_part_asks_for_a_token()
     ensures { RefusalsAreApart }
 {}
 

@@ -92,8 +92,8 @@ pub fn link_local_addr(own: &[IpCidr]) -> Option<Ipv6Address>
 }
 
 /// The first IPv4 address of a list whose network contains another.
-pub fn near_addr(own: &[IpCidr], address: &Ipv4Address) -> Option<Ipv4Address>
-    ensures { result ≡ addresses.near_addr own.now address.now }
+pub fn on_link_addr(own: &[IpCidr], address: &Ipv4Address) -> Option<Ipv4Address>
+    ensures { result ≡ addresses.on_link_addr own.now address.now }
 {
     for cidr in own {
         if let IpCidr::Ipv4(cidr) = cidr {

@@ -8,7 +8,7 @@ use Rattle.std.specs.contracts.impls.GlobalAllocator.TheImpl.{ghosts, dict}
 use Rattle.std.proofs.alloc.Global.TheLaws as heap
 use Rattle.iface_dns.specs.contracts.dns.Dns as Dns
 use Rattle.iface_dns.proofs.dns.Dns.TheLaws as dns
-use Rattle.iface_c.specs.contracts.loose.Loose as Loose
+use Rattle.iface_c.specs.contracts.raw_box.RawBox as RawBox
 use Rattle.iface_c.specs.contracts.dns_handle.DnsSlot as Transition
 
 abbrev pub E : Bx
@@ -18,8 +18,8 @@ E = record {
   al = record { row = Heap.the_row; laws = heap.the_row_laws; g = ghosts; d = dict; drops = impl [] tnil dnil };
 }
 
-abbrev pub FromLoose : Slot 0
-FromLoose = plain (λ _. Loose.the_row Dns.the_row Heap.the_row ghosts)
+abbrev pub FromRawBox : Slot 0
+FromRawBox = plain (λ _. RawBox.the_row Dns.the_row Heap.the_row ghosts)
 
 abbrev pub FromPlace : Slot 0
 FromPlace = plain (λ _. Transition.the_row)

@@ -5,7 +5,7 @@ ghost use Rattle.iface_dhcp.specs.declared.dhcp.Dhcp.{Dhcp};
 ghost use Rattle.iface_c.specs.OwnedDhcp.{dhcp_coded, is_tag, slot_owns};
 
 use crate::handle::crosses;
-use crate::loose::Loose;
+use crate::raw_box::RawBox;
 use iface_dhcp::Dhcp;
 use std::alloc::Global;
 use std::marker::Model;
@@ -37,10 +37,10 @@ impl DhcpSlot {
     }
 
     /// A place that owns a client.
-    fn of(client: Loose<Dhcp, Global>) -> DhcpSlot
+    fn of(client: RawBox<Dhcp, Global>) -> DhcpSlot
         ensures { result.client ≡ Some client.value }
     {
-        let Loose { at, alloc } = client;
+        let RawBox { at, alloc } = client;
         DhcpSlot {
             at: at as *mut u8,
             alloc,
@@ -55,12 +55,12 @@ impl DhcpSlot {
     }
 
     /// The client that a place owns.
-    fn into_loose(self) -> Loose<Dhcp, Global>
+    fn into_raw_box(self) -> RawBox<Dhcp, Global>
         requires { IsSome self.client }
         ensures { Some result.value ≡ self.client }
     {
         let DhcpSlot { at, alloc } = self;
-        Loose {
+        RawBox {
             at: at as *mut Dhcp,
             alloc,
         }
@@ -100,7 +100,7 @@ impl IfaceDhcp {
             slot: DhcpSlot::empty(alloc),
         };
         let IfaceDhcp { tag: _, slot } = std::mem::replace(self, empty);
-        Some(slot.into_loose().into_box())
+        Some(slot.into_raw_box().into_box())
     }
 
     /// Puts a client in, where it owns none.
@@ -110,7 +110,7 @@ impl IfaceDhcp {
     {
         let full = IfaceDhcp {
             tag: TAG,
-            slot: DhcpSlot::of(Loose::of(client)),
+            slot: DhcpSlot::of(RawBox::of(client)),
         };
         let IfaceDhcp { tag: _, slot } = std::mem::replace(self, full);
         slot.forget();

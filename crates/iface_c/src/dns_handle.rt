@@ -5,7 +5,7 @@ ghost use Rattle.iface_dns.specs.declared.dns.Dns.{Dns};
 ghost use Rattle.iface_c.specs.OwnedDns.{dns_coded, is_tag, slot_owns};
 
 use crate::handle::crosses;
-use crate::loose::Loose;
+use crate::raw_box::RawBox;
 use iface_dns::Dns;
 use std::alloc::Global;
 use std::marker::Model;
@@ -37,10 +37,10 @@ impl DnsSlot {
     }
 
     /// A place that owns a client.
-    fn of(client: Loose<Dns, Global>) -> DnsSlot
+    fn of(client: RawBox<Dns, Global>) -> DnsSlot
         ensures { result.client ≡ Some client.value }
     {
-        let Loose { at, alloc } = client;
+        let RawBox { at, alloc } = client;
         DnsSlot {
             at: at as *mut u8,
             alloc,
@@ -55,12 +55,12 @@ impl DnsSlot {
     }
 
     /// The client that a place owns.
-    fn into_loose(self) -> Loose<Dns, Global>
+    fn into_raw_box(self) -> RawBox<Dns, Global>
         requires { IsSome self.client }
         ensures { Some result.value ≡ self.client }
     {
         let DnsSlot { at, alloc } = self;
-        Loose {
+        RawBox {
             at: at as *mut Dns,
             alloc,
         }
@@ -100,7 +100,7 @@ impl IfaceDns {
             slot: DnsSlot::empty(alloc),
         };
         let IfaceDns { tag: _, slot } = std::mem::replace(self, empty);
-        Some(slot.into_loose().into_box())
+        Some(slot.into_raw_box().into_box())
     }
 
     /// Puts a client in, where it owns none.
@@ -110,7 +110,7 @@ impl IfaceDns {
     {
         let full = IfaceDns {
             tag: TAG,
-            slot: DnsSlot::of(Loose::of(client)),
+            slot: DnsSlot::of(RawBox::of(client)),
         };
         let IfaceDns { tag: _, slot } = std::mem::replace(self, full);
         slot.forget();

@@ -4,7 +4,7 @@ ghost use Rattle.std.specs.Option.{option_map};
 ghost use Rattle.iface_host.specs.declared.host.Host.{Host};
 ghost use Rattle.iface_c.specs.Owned.{host_coded, is_tag, slot_owns};
 
-use crate::loose::Loose;
+use crate::raw_box::RawBox;
 use iface_host::Host;
 use std::alloc::Global;
 use std::marker::Model;
@@ -36,10 +36,10 @@ impl Slot {
     }
 
     /// A place that owns a host.
-    fn of(host: Loose<Host, Global>) -> Slot
+    fn of(host: RawBox<Host, Global>) -> Slot
         ensures { result.host ≡ Some host.value }
     {
-        let Loose { at, alloc } = host;
+        let RawBox { at, alloc } = host;
         Slot {
             at: at as *mut u8,
             alloc,
@@ -54,12 +54,12 @@ impl Slot {
     }
 
     /// The host that a place owns.
-    fn into_loose(self) -> Loose<Host, Global>
+    fn into_raw_box(self) -> RawBox<Host, Global>
         requires { IsSome self.host }
         ensures { Some result.value ≡ self.host }
     {
         let Slot { at, alloc } = self;
-        Loose {
+        RawBox {
             at: at as *mut Host,
             alloc,
         }
@@ -99,7 +99,7 @@ impl Iface {
             slot: Slot::empty(alloc),
         };
         let Iface { tag: _, slot } = std::mem::replace(self, empty);
-        Some(slot.into_loose().into_box())
+        Some(slot.into_raw_box().into_box())
     }
 
     /// Puts a host in, where it owns none.
@@ -109,7 +109,7 @@ impl Iface {
     {
         let full = Iface {
             tag: TAG,
-            slot: Slot::of(Loose::of(host)),
+            slot: Slot::of(RawBox::of(host)),
         };
         let Iface { tag: _, slot } = std::mem::replace(self, full);
         slot.forget();

@@ -5,7 +5,7 @@ ghost use Rattle.iface_streams.specs.declared.streams.Streams.{Streams};
 ghost use Rattle.iface_c.specs.OwnedStreams.{streams_coded, is_tag, slot_owns};
 
 use crate::handle::crosses;
-use crate::loose::Loose;
+use crate::raw_box::RawBox;
 use iface_streams::Streams;
 use std::alloc::Global;
 use std::marker::Model;
@@ -37,10 +37,10 @@ impl StreamsSlot {
     }
 
     /// A place that owns connections.
-    fn of(streams: Loose<Streams, Global>) -> StreamsSlot
+    fn of(streams: RawBox<Streams, Global>) -> StreamsSlot
         ensures { result.streams ≡ Some streams.value }
     {
-        let Loose { at, alloc } = streams;
+        let RawBox { at, alloc } = streams;
         StreamsSlot {
             at: at as *mut u8,
             alloc,
@@ -55,12 +55,12 @@ impl StreamsSlot {
     }
 
     /// The connections that a place owns.
-    fn into_loose(self) -> Loose<Streams, Global>
+    fn into_raw_box(self) -> RawBox<Streams, Global>
         requires { IsSome self.streams }
         ensures { Some result.value ≡ self.streams }
     {
         let StreamsSlot { at, alloc } = self;
-        Loose {
+        RawBox {
             at: at as *mut Streams,
             alloc,
         }
@@ -100,7 +100,7 @@ impl IfaceStreams {
             slot: StreamsSlot::empty(alloc),
         };
         let IfaceStreams { tag: _, slot } = std::mem::replace(self, empty);
-        Some(slot.into_loose().into_box())
+        Some(slot.into_raw_box().into_box())
     }
 
     /// Puts connections in, where it owns none.
@@ -110,7 +110,7 @@ impl IfaceStreams {
     {
         let full = IfaceStreams {
             tag: TAG,
-            slot: StreamsSlot::of(Loose::of(streams)),
+            slot: StreamsSlot::of(RawBox::of(streams)),
         };
         let IfaceStreams { tag: _, slot } = std::mem::replace(self, full);
         slot.forget();

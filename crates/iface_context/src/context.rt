@@ -15,7 +15,7 @@ use arrayvec::ArrayVec;
 use fragmentation::Fragmenter;
 use iface_addresses::addresses::{
     ends_a_network, has_solicited_node, ipv4_addr, is_assigned, is_loopback, link_local_addr,
-    near_addr,
+    on_link_addr,
 };
 use iface_tables::neighbor::Cache;
 use iface_tables::route::Routes;
@@ -306,7 +306,7 @@ impl Context {
     pub fn get_source_address_ipv4(&self, dst_addr: &Ipv4Address) -> Option<Ipv4Address>
         ensures { result ≡ addresses.source_v4 (host_of self.now no_sockets).ip_addrs dst_addr.now }
     {
-        match near_addr(self.ip_addrs.as_slice(), dst_addr) {
+        match on_link_addr(self.ip_addrs.as_slice(), dst_addr) {
             Some(near) => Some(near),
             None => self.ipv4_addr(),
         }

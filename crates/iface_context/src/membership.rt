@@ -62,11 +62,11 @@ fn idle_groups(
     groups: &[Group],
 ) -> ArrayVec<IpAddress, IFACE_MAX_MULTICAST_GROUP_COUNT>
     requires { length groups.now ≤ 8 }
-    ensures { result.items ≡ filter (spec.is_idle own.now) (map (λ (g : Group). g.addr) groups.now) }
+    ensures { result.items ≡ filter (spec.is_unneeded_group own.now) (map (λ (g : Group). g.addr) groups.now) }
 {
     let mut idle = ArrayVec::new();
     for group in groups {
-        if is_idle(own, &group.addr) {
+        if is_unneeded_group(own, &group.addr) {
             idle.push(group.addr);
         }
     }
@@ -74,8 +74,8 @@ fn idle_groups(
 }
 
 /// Whether an address is a solicited-node group that matches no address of the interface.
-fn is_idle(own: &[IpCidr], group: &IpAddress) -> bool
-    ensures { result ≡ spec.is_idle own.now group.now }
+fn is_unneeded_group(own: &[IpCidr], group: &IpAddress) -> bool
+    ensures { result ≡ spec.is_unneeded_group own.now group.now }
 {
     match group {
         IpAddress::Ipv4(_) => false,

@@ -14,7 +14,7 @@ use Rattle.ip_address.specs.declared.ip.IpAddress.TheVariants.{Ipv4, Ipv6}
 use Rattle.ip_address.specs.declared.ipv4.Ipv4Address.{Ipv4Address}
 use Rattle.ip_address.specs.declared.ipv6.Ipv6Address.{Ipv6Address}
 use Rattle.address_selection.specs.Ipv6.{first_best, ipv6_addr, is_best, loopback, or_loopback, source_v6}
-use Rattle.host_machine.specs.Context.Addresses.{ipv4_addr, link_local_addr, near_addr, or_else, source_for, source_v4}
+use Rattle.host_machine.specs.Context.Addresses.{ipv4_addr, link_local_addr, on_link_addr, or_else, source_for, source_v4}
 use Rattle.host_machine.specs.Laws.Restraint.Chosen.{HasNoIpv6, IsChosenFor, Given, Loopback}
 use Rattle.host_machine.specs.Laws.Restraint.Neighbors.{IsAssigned}
 
@@ -27,18 +27,18 @@ first_assigned [] s e = absurd cc
 first_assigned (cidr.Ipv4 n ∷ own) s e = let same : n.address ≡ s = cc in (0, cidr.Ipv4 n, refl, ap Ipv4 same)
 first_assigned (cidr.Ipv6 n ∷ own) s e = further (cidr.Ipv6 n) own (Ipv4 s) (first_assigned own s e)
 
-near_assigned : (own : List IpCidr) (a s : Ipv4Address) → near_addr own a ≡ Some s → IsAssigned own (Ipv4 s)
+near_assigned : (own : List IpCidr) (a s : Ipv4Address) → on_link_addr own a ≡ Some s → IsAssigned own (Ipv4 s)
 near_assigned [] a s e = absurd cc
 near_assigned (cidr.Ipv6 n ∷ own) a s e = further (cidr.Ipv6 n) own (Ipv4 s) (near_assigned own a s e)
 near_assigned (cidr.Ipv4 n ∷ own) a s e = by (contains4 n a) (near_assigned own a s) e where
-  by : (b : Bool) → (near_addr own a ≡ Some s → IsAssigned own (Ipv4 s)) → (if b then Some n.address else near_addr own a) ≡ Some s →
+  by : (b : Bool) → (on_link_addr own a ≡ Some s → IsAssigned own (Ipv4 s)) → (if b then Some n.address else on_link_addr own a) ≡ Some s →
       IsAssigned (cidr.Ipv4 n ∷ own) (Ipv4 s)
   by true rest q = let same : n.address ≡ s = cc in (0, cidr.Ipv4 n, refl, ap Ipv4 same)
   by false rest q = further (cidr.Ipv4 n) own (Ipv4 s) (rest q)
 
 pub source_assigned : (own : List IpCidr) (a s : Ipv4Address) → source_v4 own a ≡ Some s → IsAssigned own (Ipv4 s)
-source_assigned own a s e = by (near_addr own a) refl e where
-  by : (o : Option Ipv4Address) → near_addr own a ≡ o → or_else o (ipv4_addr own) ≡ Some s → IsAssigned own (Ipv4 s)
+source_assigned own a s e = by (on_link_addr own a) refl e where
+  by : (o : Option Ipv4Address) → on_link_addr own a ≡ o → or_else o (ipv4_addr own) ≡ Some s → IsAssigned own (Ipv4 s)
   by None n q = first_assigned own s q
   by (Some x) n q = near_assigned own a s (n ∙ q)
 

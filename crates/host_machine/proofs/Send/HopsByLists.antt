@@ -38,7 +38,7 @@ use Rattle.iface_tables.specs.Neighbor.{answer_from, answer_of, answer_without_e
 use Rattle.iface_tables.specs.Route.{IsBest, IsBestAt, is_live, is_until, matches}
 use Rattle.host_machine.specs.Context.Note.{Note}
 use Rattle.host_machine.specs.Context.Host.{Host, in_same_network, with_next_id}
-use Rattle.host_machine.specs.Context.Addresses.{ipv4_addr, is_broadcast, is_broadcast_of, near_addr, or_else, source_v4}
+use Rattle.host_machine.specs.Context.Addresses.{ipv4_addr, is_broadcast, is_broadcast_of, on_link_addr, or_else, source_v4}
 use Rattle.host_machine.specs.Packet.Packet.{Packet}
 use Rattle.host_machine.specs.Send.Outcome.{Outcome}
 use Rattle.host_machine.specs.Send.Hops.{IsNextHop, OnLink, ByRouter, group_address_v4, group_address_v6, if_unicast, multicast_hardware_addr}
@@ -186,11 +186,11 @@ behind c other n = record {
 no_prefix : (c : IpCidr) (a : IpAddress) → contains c a ≡ false → HasPrefixOf c a → ⊥
 no_prefix c a e p = let there = contains_it c a p in cc
 
-nearest : (own : List IpCidr) (a s : Ipv4Address) → near_addr own a ≡ Some s → IsNearest own a s
+nearest : (own : List IpCidr) (a s : Ipv4Address) → on_link_addr own a ≡ Some s → IsNearest own a s
 nearest [] a s e = absurd cc
 nearest (cidr.Ipv4 n ∷ own) a s e = by (contains (cidr.Ipv4 n) (Ipv4 a)) refl e (nearest own a s) where
-  by : (b : Bool) → contains (cidr.Ipv4 n) (Ipv4 a) ≡ b → (if b then Some n.address else near_addr own a) ≡ Some s →
-      (near_addr own a ≡ Some s → IsNearest own a s) → IsNearest (cidr.Ipv4 n ∷ own) a s
+  by : (b : Bool) → contains (cidr.Ipv4 n) (Ipv4 a) ≡ b → (if b then Some n.address else on_link_addr own a) ≡ Some s →
+      (on_link_addr own a ≡ Some s → IsNearest own a s) → IsNearest (cidr.Ipv4 n ∷ own) a s
   by true c q rest = let there : n.address ≡ s = cc in record {
     front = [];
     back = own;
@@ -203,11 +203,11 @@ nearest (cidr.Ipv4 n ∷ own) a s e = by (contains (cidr.Ipv4 n) (Ipv4 a)) refl 
   by false c q rest = behind (cidr.Ipv4 n) (no_prefix (cidr.Ipv4 n) (Ipv4 a) c) (rest q)
 nearest (cidr.Ipv6 n ∷ own) a s e = behind (cidr.Ipv6 n) (λ p. p) (nearest own a s e)
 
-none_near : (own : List IpCidr) (a : Ipv4Address) → near_addr own a ≡ None → AreApart own (Ipv4 a)
+none_near : (own : List IpCidr) (a : Ipv4Address) → on_link_addr own a ≡ None → AreApart own (Ipv4 a)
 none_near [] a e = tt
 none_near (cidr.Ipv4 n ∷ own) a e = by (contains (cidr.Ipv4 n) (Ipv4 a)) refl e (none_near own a) where
-  by : (b : Bool) → contains (cidr.Ipv4 n) (Ipv4 a) ≡ b → (if b then Some n.address else near_addr own a) ≡ None →
-      (near_addr own a ≡ None → AreApart own (Ipv4 a)) → AreApart (cidr.Ipv4 n ∷ own) (Ipv4 a)
+  by : (b : Bool) → contains (cidr.Ipv4 n) (Ipv4 a) ≡ b → (if b then Some n.address else on_link_addr own a) ≡ None →
+      (on_link_addr own a ≡ None → AreApart own (Ipv4 a)) → AreApart (cidr.Ipv4 n ∷ own) (Ipv4 a)
   by true c q rest = absurd cc
   by false c q rest = (no_prefix (cidr.Ipv4 n) (Ipv4 a) c, rest q)
 none_near (cidr.Ipv6 n ∷ own) a e = ((λ p. p), none_near own a e)
@@ -243,13 +243,13 @@ no_v4 (cidr.Ipv4 n ∷ own) e = absurd cc
 no_v4 (cidr.Ipv6 n ∷ own) e = ((λ m q. absurd cc), no_v4 own e)
 
 source_is : (own : List IpCidr) (a s : Ipv4Address) → source_v4 own a ≡ Some s → IsSourceFor own a s
-source_is own a s e = by (near_addr own a) refl e where
-  by : (o : Option Ipv4Address) → near_addr own a ≡ o → or_else o (ipv4_addr own) ≡ Some s → IsSourceFor own a s
+source_is own a s e = by (on_link_addr own a) refl e where
+  by : (o : Option Ipv4Address) → on_link_addr own a ≡ o → or_else o (ipv4_addr own) ≡ Some s → IsSourceFor own a s
   by (Some x) is q = let n = nearest own a s (is ∙ q) in law.OnNetwork n.front n.back n.network n.is n.apart n.prefix n.same
   by None is q = let f = first_v4 own s q in law.FirstOfAll f.front f.back f.network f.is (none_near own a is) f.none f.same
 
 no_source : (own : List IpCidr) (a : Ipv4Address) → source_v4 own a ≡ None → NoneOfV4 own
-no_source own a e = by (near_addr own a) e where
+no_source own a e = by (on_link_addr own a) e where
   by : (o : Option Ipv4Address) → or_else o (ipv4_addr own) ≡ None → NoneOfV4 own
   by (Some x) q = absurd cc
   by None q = no_v4 own q

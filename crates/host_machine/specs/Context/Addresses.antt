@@ -86,10 +86,10 @@ link_local_addr (cidr.Ipv4 n ∷ own) = link_local_addr own
 link_local_addr (cidr.Ipv6 n ∷ own) = if is_link_local n.address then Some n.address else link_local_addr own
 
 -- the first IPv4 address of the host whose network contains another address
-abbrev pub near_addr : List IpCidr → Ipv4Address → Option Ipv4Address
-near_addr [] a = None
-near_addr (cidr.Ipv4 n ∷ own) a = if contains4 n a then Some n.address else near_addr own a
-near_addr (cidr.Ipv6 n ∷ own) a = near_addr own a
+abbrev pub on_link_addr : List IpCidr → Ipv4Address → Option Ipv4Address
+on_link_addr [] a = None
+on_link_addr (cidr.Ipv4 n ∷ own) a = if contains4 n a then Some n.address else on_link_addr own a
+on_link_addr (cidr.Ipv6 n ∷ own) a = on_link_addr own a
 
 -- the first of two addresses that is there
 abbrev pub or_else : Option Ipv4Address → Option Ipv4Address → Option Ipv4Address
@@ -98,7 +98,7 @@ or_else None other = other
 
 -- the source address for a destination: the first address whose network contains it, otherwise the first IPv4 address
 abbrev pub source_v4 : List IpCidr → Ipv4Address → Option Ipv4Address
-source_v4 own a = or_else (near_addr own a) (ipv4_addr own)
+source_v4 own a = or_else (on_link_addr own a) (ipv4_addr own)
 
 -- the source address for a destination of either family; over IPv6 there is always one (RFC 6724)
 abbrev pub source_for : List IpCidr → IpAddress → Option IpAddress

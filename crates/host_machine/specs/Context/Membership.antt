@@ -17,9 +17,9 @@ abbrev pub is_solicited_node_v6 : Ipv6Address → Bool
 is_solicited_node_v6 a = a.bits / 2 ^ 24 == 0xff02_0000_0000_0000_0000_0001_ff
 
 -- a solicited-node group that matches no address of the host
-abbrev pub is_idle : List IpCidr → IpAddress → Bool
-is_idle own (Ipv4 a) = false
-is_idle own (Ipv6 a) = is_solicited_node_v6 a && not (has_solicited_node own a)
+abbrev pub is_unneeded_group : List IpCidr → IpAddress → Bool
+is_unneeded_group own (Ipv4 a) = false
+is_unneeded_group own (Ipv6 a) = is_solicited_node_v6 a && not (has_solicited_node own a)
 
 -- several groups are left, one after another
 abbrev pub groups_after_leaves : List Group → List IpAddress → List Group
@@ -37,5 +37,5 @@ groups_after_joins groups (cidr.Ipv6 n ∷ own) =
 -- none of them are left, in the order of the table; then those of the addresses are joined (RFC 4861 7.2.1)
 abbrev pub groups_for : HardwareAddress → List IpCidr → List Group → List Group
 groups_for (hardware.Ethernet e) own groups =
-    groups_after_joins (groups_after_leaves groups (filter (is_idle own) (map (λ (g : Group). g.addr) groups))) own
+    groups_after_joins (groups_after_leaves groups (filter (is_unneeded_group own) (map (λ (g : Group). g.addr) groups))) own
 groups_for hardware.Ip own groups = groups

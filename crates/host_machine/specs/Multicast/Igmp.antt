@@ -112,22 +112,25 @@ igmp_report_after (igmp.ToGeneralQuery version timeout interval next_index) now 
     igmp.ToGeneralQuery version (later_of (timeout +ℤ pos interval) now) interval (next_index + 1)
 igmp_report_after (igmp.ToSpecificQuery version timeout group) now = igmp.Inactive
 
+-- whether a report is due
+abbrev pub is_igmp_due : Host → Bool
+is_igmp_due H = has_passed (igmp_timeout_of H.igmp_report) H.moment
+
 -- a part of a round: a report that is due is sent, if the device grants a transmit token, and otherwise stays due; if
 -- there is no further group to report the answer ends; without an address the report stays due
 pub data IgmpEgress (H : Host) (told : List Event) (notes : List Note) (new : Host) : Type 0 where
-  NotDue : has_passed (igmp_timeout_of H.igmp_report) H.moment ≡ false → told ≡ [] → notes ≡ [] →
+  NotDue : is_igmp_due H ≡ false → told ≡ [] → notes ≡ [] →
       new ≡ H → IgmpEgress H told notes new
-  NoFurtherGroup : has_passed (igmp_timeout_of H.igmp_report) H.moment ≡ true →
+  NoFurtherGroup : is_igmp_due H ≡ true →
       next_group H H.igmp_report ≡ None → told ≡ [] → notes ≡ [] →
       new ≡ with_igmp_report H igmp.Inactive → IgmpEgress H told notes new
-  NoAddress : (next : IgmpVersion × Ipv4Address) → has_passed (igmp_timeout_of H.igmp_report) H.moment ≡ true →
+  NoAddress : (next : IgmpVersion × Ipv4Address) → is_igmp_due H ≡ true →
       next_group H H.igmp_report ≡ Some next →
       ipv4_addr H.ip_addrs ≡ None → told ≡ [] → notes ≡ [] → new ≡ H → IgmpEgress H told notes new
-  NotGranted : (p : Packet) → has_passed (igmp_timeout_of H.igmp_report) H.moment ≡ true →
+  NotGranted : (p : Packet) → is_igmp_due H ≡ true →
       next_report H ≡ Some p → told ≡ Asked H.moment false ∷ [] →
       notes ≡ [] → new ≡ H → IgmpEgress H told notes new
-  Sent : (p : Packet) (outcome : Outcome) (frames : List (List ℕ)) (mid : Host) →
-      has_passed (igmp_timeout_of H.igmp_report) H.moment ≡ true →
+  Sent : (p : Packet) (outcome : Outcome) (frames : List (List ℕ)) (mid : Host) → is_igmp_due H ≡ true →
       next_report H ≡ Some p → Dispatches p outcome H frames notes mid → told ≡ Asked H.moment true ∷ sends frames →
       new ≡ with_igmp_report mid (igmp_report_after H.igmp_report H.moment) → IgmpEgress H told notes new
 

@@ -107,14 +107,17 @@ reported_groups H (mld.ToSpecificQuery group timeout) = group ∷ []
 abbrev pub next_mld_report : Host → Packet
 next_mld_report H = mld_report H.ip_addrs ModeIsExclude (reported_groups H H.mld_report)
 
+-- whether a report is due
+abbrev pub is_mld_due : Host → Bool
+is_mld_due H = has_passed (mld_timeout_of H.mld_report) H.moment
+
 -- a part of a round: a report that is due is sent, if the device grants a transmit token, and otherwise dropped
 pub data MldEgress (H : Host) (told : List Event) (notes : List Note) (new : Host) : Type 0 where
-  NotYet : has_passed (mld_timeout_of H.mld_report) H.moment ≡ false → told ≡ [] → notes ≡ [] →
+  NotYet : is_mld_due H ≡ false → told ≡ [] → notes ≡ [] →
       new ≡ H → MldEgress H told notes new
-  GivenUp : has_passed (mld_timeout_of H.mld_report) H.moment ≡ true → told ≡ Asked H.moment false ∷ [] → notes ≡ [] →
+  GivenUp : is_mld_due H ≡ true → told ≡ Asked H.moment false ∷ [] → notes ≡ [] →
       new ≡ with_mld_report H mld.Inactive → MldEgress H told notes new
-  ReportGoes : (outcome : Outcome) (frames : List (List ℕ)) (mid : Host) →
-      has_passed (mld_timeout_of H.mld_report) H.moment ≡ true →
+  ReportGoes : (outcome : Outcome) (frames : List (List ℕ)) (mid : Host) → is_mld_due H ≡ true →
       Dispatches (next_mld_report H) outcome H frames notes mid → told ≡ Asked H.moment true ∷ sends frames →
       new ≡ with_mld_report mid mld.Inactive → MldEgress H told notes new
 

@@ -26,7 +26,7 @@ use denote.Triple.Walked.{says, Stays, stay_dropped, walk_of, ends_at, walk_Meet
 use Rattle.std.proofs.alloc.Calls.{Goes-blank}
 use Rattle.std.proofs.BoxSteps.Form.{D, B, word, box_typed}
 use Rattle.std.proofs.BoxSteps.Steps.{box_out, box_in}
-use Rattle.iface_c.proofs.AsBoxDns.{E, FromLoose as From}
+use Rattle.iface_c.proofs.AsBoxDns.{E, FromRawBox as From}
 use Rattle.iface_c.specs.contracts.dns_handle.DnsSlot.of as F
 use Rattle.iface_c.specs.contracts.dns_handle.DnsSlot.of.Key.{name as #self}
 use Rattle.iface_c.proofs.dns_handle.DnsSlot.of.Statement as stated

@@ -26,7 +26,7 @@ use denote.Triple.Walked.{says, Stays, stay_dropped, walk_of, ends_at, walk_Meet
 use Rattle.std.proofs.alloc.Calls.{Goes-blank}
 use Rattle.std.proofs.BoxSteps.Form.{D, B, word, box_typed}
 use Rattle.std.proofs.BoxSteps.Steps.{box_out, box_in}
-use Rattle.iface_c.proofs.AsBox.{E, FromLoose as From}
+use Rattle.iface_c.proofs.AsBox.{E, FromRawBox as From}
 use Rattle.iface_c.specs.contracts.handle.Slot.of as F
 use Rattle.iface_c.specs.contracts.handle.Slot.of.Key.{name as #self}
 use Rattle.iface_c.proofs.handle.Slot.of.Statement as stated

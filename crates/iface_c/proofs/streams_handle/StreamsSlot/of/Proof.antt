@@ -26,7 +26,7 @@ use denote.Triple.Walked.{says, Stays, stay_dropped, walk_of, ends_at, walk_Meet
 use Rattle.std.proofs.alloc.Calls.{Goes-blank}
 use Rattle.std.proofs.BoxSteps.Form.{D, B, word, box_typed}
 use Rattle.std.proofs.BoxSteps.Steps.{box_out, box_in}
-use Rattle.iface_c.proofs.AsBoxStreams.{E, FromLoose as From}
+use Rattle.iface_c.proofs.AsBoxStreams.{E, FromRawBox as From}
 use Rattle.iface_c.specs.contracts.streams_handle.StreamsSlot.of as F
 use Rattle.iface_c.specs.contracts.streams_handle.StreamsSlot.of.Key.{name as #self}
 use Rattle.iface_c.proofs.streams_handle.StreamsSlot.of.Statement as stated

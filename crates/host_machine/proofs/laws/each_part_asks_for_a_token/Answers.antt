@@ -6,7 +6,7 @@ use Rattle.host_machine.specs.Multicast.Igmp as igmp
 use Rattle.host_machine.specs.Multicast.Mld as mld
 use Rattle.host_machine.specs.Discovery.RouterSolicitation as slaac
 use Rattle.host_machine.specs.Examples.Groups.{busy_host}
-use Rattle.host_machine.proofs.laws.refusals_are_apart.Goals as goal
+use Rattle.host_machine.proofs.laws.each_part_asks_for_a_token.Goals as goal
 
 pub returns : goal.returns
 returns c = record {

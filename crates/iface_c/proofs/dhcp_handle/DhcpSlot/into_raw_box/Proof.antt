@@ -1,4 +1,4 @@
--- `into_loose` moves two fields, and what they own goes with them.
+-- `into_raw_box` moves two fields, and what they own goes with them.
 use Rattle.std.specs.Prelude.{Option, Some, None, IsSome}
 use mathlib.Core.Bool.{true≢false}
 use mathlib.Core.Path.{refl, sym, subst}
@@ -29,11 +29,11 @@ use denote.Triple.Walked.{says, Stays, stay_dropped, walk_of, ends_at, Goes-drop
 use Rattle.std.specs.Global.{Global}
 use Rattle.std.proofs.BoxSteps.Form.{D, X, B, word, box_typed}
 use Rattle.std.proofs.BoxSteps.Steps.{box_out, box_in}
-use Rattle.iface_c.proofs.AsBoxStreams.{E, FromPlace as From}
-use Rattle.iface_c.specs.contracts.streams_handle.StreamsSlot.into_loose as F
-use Rattle.iface_c.specs.contracts.streams_handle.StreamsSlot.into_loose.Key.{name as #self}
-use Rattle.iface_c.proofs.streams_handle.StreamsSlot.into_loose.Statement as stated
-use Rattle.iface_c.proofs.streams_handle.StreamsSlot.into_loose.Code as code
+use Rattle.iface_c.proofs.AsBoxDhcp.{E, FromPlace as From}
+use Rattle.iface_c.specs.contracts.dhcp_handle.DhcpSlot.into_raw_box as F
+use Rattle.iface_c.specs.contracts.dhcp_handle.DhcpSlot.into_raw_box.Key.{name as #self}
+use Rattle.iface_c.proofs.dhcp_handle.DhcpSlot.into_raw_box.Statement as stated
+use Rattle.iface_c.proofs.dhcp_handle.DhcpSlot.into_raw_box.Code as code
 
 abbrev stayed : Stays (F.ended).signature.params (F.ended).kept
 stayed = (stay_dropped From yes, tt)
@@ -42,11 +42,11 @@ module _ {M : Type 1} {𝓤 : Ura M} (𝓛 : Logic 𝓤) (at_mem : Memory → SP
   open 𝓛 use {H}
 
   abbrev start : Ptr → Global → Option (X E) → List Val → (walk_of 𝓛 F.ended stayed (F.clauses 𝓛 at_mem run)).Ghost
-  start p alloc streams us = ((tt, tt, tt, (record { at = p; alloc = alloc; streams = streams }, tt), (us, tt)), tt)
+  start p alloc client us = ((tt, tt, tt, (record { at = p; alloc = alloc; client = client }, tt), (us, tt)), tt)
 
-  walk : (p : Ptr) (alloc : Global) (streams : Option (X E)) (us : List Val)
-      → ent 𝓤 ((walk_of 𝓛 F.ended stayed (F.clauses 𝓛 at_mem run)).pre (start p alloc streams us))
-      (WpFn 𝓤 H 𝓣.C 𝓣.Λ code.function (us ++ []) ((walk_of 𝓛 F.ended stayed (F.clauses 𝓛 at_mem run)).post (start p alloc streams us)))
+  walk : (p : Ptr) (alloc : Global) (client : Option (X E)) (us : List Val)
+      → ent 𝓤 ((walk_of 𝓛 F.ended stayed (F.clauses 𝓛 at_mem run)).pre (start p alloc client us))
+      (WpFn 𝓤 H 𝓣.C 𝓣.Λ code.function (us ++ []) ((walk_of 𝓛 F.ended stayed (F.clauses 𝓛 at_mem run)).post (start p alloc client us)))
   walk p alloc None us =
       let z = start p alloc None us in
       qed 𝓛 (raw (on_entry 𝓛 F.signature z.0.0 z.0.1 z.0.3 z.0.4) ∷ raw (fact 𝓤 (IsSome {T = X E} None)) ∷ []) ∵ move ! (1 ∷ []) $
@@ -72,11 +72,11 @@ module _ {M : Type 1} {𝓤 : Ura M} (𝓛 : Logic 𝓤) (at_mem : Memory → SP
       suffices ! _ (ends_at 𝓛 F.ended stayed (F.clauses 𝓛 at_mem run) z w made (tt, tt) (tt, tt)) $ says ! refl $
       nothing ! $ nothing ! $ fjoin ! $ join ! $ nothing ! $ join ! $ done !))))
 
-pub into_loose_spec : {M : Type 1} → stated.statement M
+pub into_raw_box_spec : {M : Type 1} → stated.statement M
 unfolding tables_of
-into_loose_spec 𝓤 𝓛 𝓜 𝓡 wired =
+into_raw_box_spec 𝓤 𝓛 𝓜 𝓡 wired =
     let 𝓣 : Tables 𝓤 𝓛.H = tables_of 𝓤 𝓛.H 𝓜 (tables 𝓤 𝓛.H 𝓜 𝓡 𝓡.env) in
     entered 𝓤 𝓛.H (triple_of 𝓛 F.signature (F.spec 𝓛 𝓜.mem 𝓡.returns)) 𝓣.C 𝓣.Λ #self code.function (code.unfolded 𝓤 𝓛.H 𝓜 𝓡 wired)
     (walk_Meets 𝓛 F.ended stayed (Goes-dropped 𝓛 0 From yes (λ κs x f. refl), tt) (F.clauses 𝓛 𝓜.mem 𝓡.returns)
     (WpFn 𝓤 𝓛.H 𝓣.C 𝓣.Λ code.function) (WpFn-mono 𝓤 𝓛.H 𝓛.laws 𝓣 code.function)
-    (λ z. walk 𝓛 𝓜.mem 𝓡.returns 𝓣 z.0.3.0.at z.0.3.0.alloc z.0.3.0.streams z.0.4.0))
+    (λ z. walk 𝓛 𝓜.mem 𝓡.returns 𝓣 z.0.3.0.at z.0.3.0.alloc z.0.3.0.client z.0.4.0))
