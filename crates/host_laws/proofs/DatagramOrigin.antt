@@ -31,7 +31,7 @@ use Rattle.host_machine.specs.Context.Host.{Host, without_expired}
 use Rattle.host_machine.specs.Context.Autoconfiguration.{with_slaac_applied}
 use Rattle.host_machine.specs.Context.Addresses.{may_be_source}
 use Rattle.host_machine.specs.Sockets.Offers.{packet_between}
-use Rattle.host_machine.specs.Packet.Packet.{IpPayload, Packet, PacketV4, Udp, IsFormed, header_v4, payload_of}
+use Rattle.host_machine.specs.Packet.Packet.{IpPayload, PacketV4, Udp}
 use Rattle.host_machine.specs.Packet.Packet as packet
 use Rattle.host_machine.specs.Packet.Frame.{ip_frame}
 use Rattle.host_machine.specs.Laws.Frames.{Carries}
@@ -44,7 +44,6 @@ use Rattle.host_machine.specs.Laws.TwoHosts.{WereSent, cuts, cuts_in, key_of_cut
 use Rattle.host_machine.proofs.Context.NotesBySubject.{cut_notes-append, slot_notes-append}
 use Rattle.host_machine.proofs.Receive.Pieces.{IsIn, is_in, contains_in, in_left, in_right, in_either}
 use Rattle.host_machine.proofs.Runs.ReassemblyOrigin.{test_same}
-use Rattle.host_machine.proofs.Runs.SentPieces.{run_real}
 use Rattle.host_machine.proofs.Runs.SentPieces as shown
 use Rattle.host_machine.proofs.Interface.Turns.{between_is}
 use Rattle.host_machine.proofs.Runs.TwoHosts.{cuts-append, frame_is_cut, run_rebuilds}

@@ -39,10 +39,10 @@ use Rattle.host_machine.specs.Multicast.Igmp as igmp_rules
 use Rattle.host_machine.specs.Multicast.Mld as mld_rules
 use Rattle.host_machine.specs.Multicast.Joins as joins
 use Rattle.host_machine.specs.Multicast.Igmp.{IgmpEgress, next_group, next_report}
-use Rattle.host_machine.specs.Multicast.Mld.{MldEgress, next_mld_report}
+use Rattle.host_machine.specs.Multicast.Mld.{MldEgress}
 use Rattle.host_machine.specs.Multicast.Igmp as igmp_rules
 use Rattle.host_machine.specs.Multicast.Mld as mld_rules
-use Rattle.host_machine.specs.Discovery.RouterSolicitation.{NdiscRsEgress, due_solicitation, router_solicitation, solicitation_by, solicitation_from}
+use Rattle.host_machine.specs.Discovery.RouterSolicitation.{NdiscRsEgress, due_solicitation, solicitation_by, solicitation_from}
 use Rattle.host_machine.specs.Discovery.RouterSolicitation as slaac
 use Rattle.slaac.specs.Slaac.{rs_required}
 use Rattle.host_machine.proofs.Interface.GrantedEgress.{tells_way}

@@ -30,10 +30,10 @@ use Rattle.host_machine.specs.Receive.Reply.{Reply}
 use Rattle.host_machine.specs.Discovery.Arp.{ProcessesArp}
 use Rattle.host_machine.specs.Discovery.Arp as arp
 use Rattle.host_machine.specs.Receive.Reassembly.{TakesFragment}
-use Rattle.host_machine.specs.Receive.Ipv4.{ProcessesDatagram, ProcessesPacket, ProcessesIpv4, key_in, fragment_in, datagram_header}
+use Rattle.host_machine.specs.Receive.Ipv4.{ProcessesIpv4, key_in, fragment_in, datagram_header}
 use Rattle.host_machine.specs.Receive.Ipv4 as ipv4
 use Rattle.host_machine.specs.Receive.Ipv6 as ipv6
-use Rattle.host_machine.specs.Receive.Ethernet.{ProcessesEthertype, ProcessesEthernet, ProcessesFrame, is_for, version_in}
+use Rattle.host_machine.specs.Receive.Ethernet.{ProcessesEthertype, ProcessesFrame, is_for}
 use Rattle.host_machine.specs.Receive.Ethernet as ethernet
 use Rattle.host_machine.specs.Laws.Frames.{Carries}
 use Rattle.host_machine.specs.Laws.Frames as frames

@@ -42,7 +42,7 @@ use Rattle.host_machine.specs.Laws.Requests.{is_request, is_arp_request, is_soli
 use Rattle.host_machine.proofs.Interface.OwnMessages.{is_own}
 use Rattle.host_machine.proofs.Receive.FrameReading.{number_again, same_packet, other_packet, version_six}
 use Rattle.host_machine.specs.Laws.Real.{IsPart}
-use Rattle.host_laws.specs.Deliveries.{CarriesIpv6, BringsPacket}
+use Rattle.host_laws.specs.Deliveries.{CarriesIpv6}
 use Rattle.host_laws.specs.Deliveries as spec
 use Rattle.host_laws.specs.Senders.{CarriesNoUdp, may_be_udp}
 

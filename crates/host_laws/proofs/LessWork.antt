@@ -31,7 +31,7 @@ use Rattle.host_machine.specs.Multicast.Igmp.{igmp_poll_at, igmp_timeout_of}
 use Rattle.host_machine.specs.Multicast.Mld.{mld_timeout_of}
 use Rattle.host_machine.specs.Context.Addresses.{ipv4_addr}
 use Rattle.host_machine.specs.Discovery.RouterSolicitation.{NdiscRsEgress, rs_poll_at}
-use Rattle.host_machine.specs.Context.Autoconfiguration.{after_sync, with_slaac_applied}
+use Rattle.host_machine.specs.Context.Autoconfiguration.{with_slaac_applied}
 use Rattle.host_machine.specs.Discovery.RouterSolicitation as slaac
 use Rattle.host_machine.specs.Interface.Egress.{Egress}
 use Rattle.host_machine.specs.Interface.Due.{Due}

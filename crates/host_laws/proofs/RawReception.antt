@@ -48,7 +48,7 @@ use Rattle.host_machine.proofs.Receive.Malformed.{handed_frames-sends}
 use Rattle.host_machine.proofs.Receive.SlotEffects.{handed_frames-append}
 use Rattle.host_laws.specs.Deliveries.{CarriesIpv6}
 use Rattle.host_laws.specs.Deliveries as spec
-use Rattle.host_laws.specs.RawArrivals.{RawArrival, Arrive, BringsRaw, receiver_at, socket_after_arrival, with_arrivals, without_sending}
+use Rattle.host_laws.specs.RawArrivals.{RawArrival, Arrive, BringsRaw, socket_after_arrival, with_arrivals, without_sending}
 use Rattle.host_laws.specs.RawArrivals as arrive
 use Rattle.host_laws.proofs.DatagramHandover.{seen}
 use Rattle.host_laws.proofs.FrameDatagrams.{completes}

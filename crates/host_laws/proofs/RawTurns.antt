@@ -23,7 +23,7 @@ use Rattle.host_machine.specs.Packet.Packet.{Packet, payload_of}
 use Rattle.host_machine.specs.Packet.Frame.{sends}
 use Rattle.host_machine.specs.Send.Outcome.{Outcome}
 use Rattle.host_machine.specs.Send.Dispatch.{Dispatches}
-use Rattle.host_machine.specs.Sockets.Turns.{SocketTurn, Serves, Walks, SocketEgress, with_socket}
+use Rattle.host_machine.specs.Sockets.Turns.{SocketTurn, Serves, Walks, SocketEgress}
 use Rattle.host_machine.specs.Send.Fragments.{Ipv4Egress}
 use Rattle.host_machine.specs.Interface.Egress.{Round, Egress}
 use Rattle.host_machine.specs.Sockets.Offers.{packet_from, socket_after_asking}

@@ -19,7 +19,7 @@ use Rattle.ip_wire.specs.declared.udp.UdpRepr.{UdpRepr}
 use Rattle.ip_wire.specs.IpPacket.{src_addr, dst_addr}
 use Rattle.ip_wire.specs.Ipv4Packet.{ipv4_in, whole}
 use Rattle.ip_wire.specs.Ipv4Packet as ipv4
-use Rattle.ip_wire.specs.Udp.{udp_in, udp_len, sum_of}
+use Rattle.ip_wire.specs.Udp.{udp_in, udp_len}
 use Rattle.ip_wire.specs.Udp as udp
 use Rattle.ip_wire.proofs.Ipv4Again as ipv4_again
 use Rattle.ipv6_wire.specs.declared.ipv6_packet.Ipv6Repr.{Ipv6Repr}

@@ -7,7 +7,7 @@ use Rattle.ip_address.specs.Ip.{is_unspecified}
 use Rattle.socket_base.specs.declared.endpoint.IpEndpoint.{IpEndpoint}
 use Rattle.socket_base.specs.Queue.{Queued, first_of, queue_after_pop}
 use Rattle.socket_base.specs.Source.{source_of}
-use Rattle.sockets.specs.Kinds.{down_udp, offered_packet, socket_after_offer, UdpOffer}
+use Rattle.sockets.specs.Kinds.{down_udp, offered_packet, UdpOffer}
 use Rattle.sockets.specs.Kinds as kinds
 use Rattle.sockets.specs.declared.socket.SocketOf.TheVariants.{Raw, Icmp, Udp, Tcp}
 use Rattle.transport_sockets.specs.Udp.{UdpSocket, without_first_to_send}
@@ -44,15 +44,15 @@ use Rattle.host_laws.proofs.Accounts.{nothing_carried, unsent_carry}
 use Rattle.host_laws.proofs.FramesWithoutUdp.{piece_none}
 use Rattle.host_machine.specs.Packet.Frame.{ip_frame, piece_frame}
 use Rattle.host_machine.specs.Send.Dispatch.{may_be_cut}
-use Rattle.host_machine.specs.Sockets.Turns.{SocketTurn, Serves, with_socket}
+use Rattle.host_machine.specs.Sockets.Turns.{SocketTurn}
 use Rattle.host_machine.specs.Sockets.Offers.{packet_between, packet_from, socket_after_asking}
 use Rattle.host_machine.specs.Sockets.Offers as offers_rules
 use Rattle.host_machine.specs.Sockets.Turns as turns_rules
 use Rattle.host_machine.specs.Laws.Order.{IsAmong, NoneOfNone, OneOf}
 use Rattle.host_machine.specs.Laws.TwoHosts.{cuts}
 use Rattle.host_machine.proofs.Receive.Malformed.{sent_frames-sends}
-use Rattle.host_laws.specs.Departures.{Departure, HasDeparted, Departs, Dropped, InOneFrame, InPieces, cuts_of}
-use Rattle.host_laws.specs.Departures.{departs_from, entries, frames_of, from_index, packet_of, without}
+use Rattle.host_laws.specs.Departures.{Departure, Departs, Dropped, InOneFrame, InPieces, cuts_of}
+use Rattle.host_laws.specs.Departures.{frames_of, packet_of}
 use Rattle.host_laws.specs.Departures as spec
 use Rattle.host_laws.proofs.Ways.{Goes, between}
 use Rattle.host_laws.proofs.Ways as ways

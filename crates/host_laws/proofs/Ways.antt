@@ -15,7 +15,7 @@ use Rattle.host_machine.specs.Packet.Packet.{IpPayload, Packet, PacketV4, IsForm
 use Rattle.host_machine.specs.Laws.Real.{IsReal}
 use Rattle.host_machine.specs.Packet.Packet as packet
 use Rattle.host_machine.specs.Packet.Frame.{ip_frame, piece_frame}
-use Rattle.host_machine.specs.Send.Outcome.{Outcome, IsUnsent}
+use Rattle.host_machine.specs.Send.Outcome.{Outcome}
 use Rattle.host_machine.specs.Send.Dispatch.{Emits, DispatchesByHop, DispatchesEthernet, SendsOver, Dispatches, destination_of, may_be_cut}
 use Rattle.host_machine.specs.Send.Requests.{Discovers}
 use Rattle.host_machine.specs.Context.Pieces.{datagram_of}

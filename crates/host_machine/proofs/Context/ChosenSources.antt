@@ -1,14 +1,12 @@
 -- The source that a host chooses is its own.
-use Rattle.std.proofs.Common.{◌≡◌, ◌≢◌, ◌⊎◌, ℕ, zero, suc, Bool, true, false, List, [], ◌∷◌, refl, sym, ◌∙◌, ap, subst, inl, inr, Option, Some, None}
-use Rattle.std.specs.Prelude.{◌==◌, slice_get, if◌then◌else◌}
-use Rattle.std.specs.List.{AllByRecursion}
-use Rattle.std.specs.Option.{option_map, option_and_then}
+use Rattle.std.proofs.Common.{◌≡◌, ◌≢◌, ◌⊎◌, suc, Bool, true, false, List, [], ◌∷◌, refl, ◌∙◌, ap, subst, inl, inr, Option, Some, None}
+use Rattle.std.specs.Prelude.{◌==◌, if◌then◌else◌}
+use Rattle.std.specs.Option.{option_map}
 use Rattle.std.proofs.lemmas.Bool.Decides.{Decides-eqb}
-use Rattle.ip_address.specs.Cidr.{address_of, contains4}
+use Rattle.ip_address.specs.Cidr.{contains4}
 use Rattle.ip_address.specs.Ipv6.{is_link_local, is_loopback}
 use Rattle.ip_address.specs.declared.cidr.IpCidr.{IpCidr}
 use Rattle.ip_address.specs.declared.cidr.IpCidr.TheVariants as cidr
-use Rattle.ip_address.specs.declared.cidr.Ipv6Cidr.{Ipv6Cidr}
 use Rattle.ip_address.specs.declared.ip.IpAddress.{IpAddress}
 use Rattle.ip_address.specs.declared.ip.IpAddress.TheVariants.{Ipv4, Ipv6}
 use Rattle.ip_address.specs.declared.ipv4.Ipv4Address.{Ipv4Address}

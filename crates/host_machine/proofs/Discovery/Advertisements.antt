@@ -1,7 +1,7 @@
 -- What an advertisement of a router tells is known then.
 use Rattle.std.proofs.Common.{◌≡◌, ◌≢◌, ◌⊎◌, inl, inr, ℕ, zero, suc, ◌+◌, ◌*◌, ◌/◌, ◌^◌, ◌<◌, ◌≤◌, Bool, true, false, List, [], ◌∷◌, ◌++◌, length, refl, sym}
 use Rattle.std.proofs.Common.{◌∙◌, ap, subst, Option, Some, None, T, arith, lit≤}
-use Rattle.std.specs.Prelude.{ℤ, pos, ◌+ℤ◌, ◌==◌, ◌&&◌, ◌||◌, not, nat_le, nat_lt, slice_get, slice_set, if◌then◌else◌}
+use Rattle.std.specs.Prelude.{ℤ, pos, ◌+ℤ◌, ◌==◌, ◌&&◌, ◌||◌, nat_le, nat_lt, slice_get, slice_set, if◌then◌else◌}
 use Rattle.std.specs.List.{position_or_len}
 use Rattle.std.proofs.lemmas.Bool.Decides.{Decides-eqb, nat_tests}
 use Rattle.net_base.specs.Device.{Event, sent_frames}
@@ -19,10 +19,9 @@ use Rattle.icmpv6_wire.specs.declared.prefix_information.NdiscPrefixInformation.
 use Rattle.icmpv6_wire.specs.declared.router.RouterRepr.{RouterRepr}
 use Rattle.icmpv6_wire.specs.declared.router.RouterRepr.TheVariants.{RouterAdvert}
 use Rattle.slaac.specs.Slaac.{SlaacState, advertised_prefix, cidr_by, cidr_from, default_route, info_from, is_of, is_prefix_full, is_prefix_news, is_router_full}
-use Rattle.slaac.specs.Slaac.{is_router_news, is_same, is_same_route, knows_prefix, knows_router, makes_addresses, prefix_index, prefixes_after, router_index}
-use Rattle.slaac.specs.Slaac.{routers_after, seconds, slaac_after_message, whole, with_prefix, with_router}
+use Rattle.slaac.specs.Slaac.{is_router_news, is_same, is_same_route, knows_prefix, knows_router, makes_addresses, prefix_index, router_index}
+use Rattle.slaac.specs.Slaac.{seconds, slaac_after_message, whole}
 use Rattle.slaac.specs.declared.slaac.Prefix.{Prefix}
-use Rattle.slaac.specs.declared.slaac.PrefixInfo.{PrefixInfo}
 use Rattle.slaac.specs.declared.slaac.Route.{Route}
 use Rattle.host_machine.specs.Context.Note.{Note}
 use Rattle.host_machine.specs.Context.Host.{Host, without_expired, with_slaac}

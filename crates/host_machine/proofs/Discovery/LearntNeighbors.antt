@@ -54,7 +54,7 @@ use Rattle.host_machine.specs.Context.Host.{Host, has_ip_addr, in_same_network, 
 use Rattle.host_machine.specs.Context.Host.{is_routed_here, with_neighbors}
 use Rattle.host_machine.specs.Context.Host.{without_expired}
 use Rattle.host_machine.specs.Context.Addresses.{is_unicast}
-use Rattle.host_machine.specs.Discovery.Arp.{ProcessesArp, is_for_us}
+use Rattle.host_machine.specs.Discovery.Arp.{ProcessesArp}
 use Rattle.host_machine.specs.Discovery.Arp as arp
 use Rattle.host_machine.specs.Receive.Ethernet.{ProcessesEthernet, ProcessesEthertype, ProcessesFrame}
 use Rattle.host_machine.specs.Receive.Ethernet as ethernet

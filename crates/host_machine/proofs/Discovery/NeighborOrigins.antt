@@ -19,7 +19,7 @@ use Rattle.ip_address.specs.declared.ip.IpAddress.{IpAddress}
 use Rattle.iface_tables.proofs.EntriesLemmas.{tied}
 use Rattle.iface_tables.proofs.NeighborLemmas.{address_same, address_total}
 use Rattle.iface_tables.specs.declared.neighbor.Neighbor.{Neighbor}
-use Rattle.iface_tables.specs.Neighbor.{Fills, Neighbors, Puts, after_renewal, expiry_from, is_same, renewed_from}
+use Rattle.iface_tables.specs.Neighbor.{Fills, Puts, after_renewal, expiry_from, is_same, renewed_from}
 use Rattle.host_machine.specs.Context.Host.{Host, with_neighbors}
 
 -- a neighbour that is known in a host was known so in one before; or it was known there and heard, so it is known for

@@ -37,17 +37,16 @@ use Rattle.fragmentation.specs.Cuts.{Datagram, Piece, piece_of, pieces_of}
 use Rattle.host_machine.specs.Discovery.Ndisc.{solicitation_for}
 use Rattle.host_machine.specs.Context.Note.{Note, asks, cut_notes}
 use Rattle.host_machine.specs.Context.Host.{Host, with_next_id}
-use Rattle.host_machine.specs.Packet.Packet.{Packet, PacketV4, IpPayload, payload_of}
+use Rattle.host_machine.specs.Packet.Packet.{Packet, IpPayload, payload_of}
 use Rattle.host_machine.specs.Packet.Packet as packet
 use Rattle.host_machine.specs.Discovery.Arp.{request_for}
 use Rattle.host_machine.specs.Packet.Frame.{arp_frame, ip_frame, link_header, piece_frame, piece_text}
 use Rattle.host_machine.specs.Send.Dispatch as dispatch
 use Rattle.host_machine.specs.Send.Requests as requests_rules
 use Rattle.host_machine.specs.Send.Outcome.{Outcome, IsUnsent}
-use Rattle.host_machine.specs.Send.Dispatch.{Emits, DispatchesByHop, DispatchesEthernet, SendsOver, Dispatches, destination_of}
+use Rattle.host_machine.specs.Send.Dispatch.{Emits, DispatchesByHop, DispatchesEthernet, SendsOver, destination_of}
 use Rattle.host_machine.specs.Send.Requests.{Discovers}
 use Rattle.host_machine.specs.Send.Hops.{group_address_v6}
-use Rattle.host_machine.specs.Context.Pieces.{datagram_of}
 use Rattle.host_machine.specs.Laws.Real.{IsReal}
 use Rattle.host_machine.specs.Laws.Requests.{is_request, may_ask, may_ask_v6}
 use Rattle.host_machine.specs.Laws.Steps.{SendsOneThing, Nothing, ThePacket, ItsFirstPiece, ARequest, DispatchesSendOneThing}

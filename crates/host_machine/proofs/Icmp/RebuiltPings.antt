@@ -1,20 +1,17 @@
 -- An echo request that a fragment completes is answered in the call that takes it.
-use Rattle.std.proofs.Common.{◌≡◌, ◌≤◌, ◌<◌, ℕ, ◌+◌, true, false, List, [], ◌∷◌, ◌++◌, refl, sym, ◌∙◌, ap, subst, Some, None, length}
+use Rattle.std.proofs.Common.{◌≡◌, ◌≤◌, ◌<◌, ℕ, ◌+◌, true, List, [], ◌∷◌, ◌++◌, refl, sym, ◌∙◌, ap, subst, Some, None, length}
 use Rattle.std.proofs.Common.{arith}
 use Rattle.std.specs.Prelude.{ℤ}
 use Rattle.net_base.specs.Checksum.{ip_mtu_of}
 use Rattle.net_base.specs.Device.{Event, sent_frames}
-use Rattle.ip_address.specs.Ip.{is_unspecified}
 use Rattle.ip_address.specs.declared.hardware.HardwareAddress.{HardwareAddress}
 use Rattle.ip_address.specs.declared.ip.IpAddress.TheVariants.{Ipv4}
 use Rattle.ip_wire.specs.declared.ip_packet.IpRepr.TheVariants as repr
 use Rattle.ip_wire.specs.declared.ipv4_packet.Ipv4Repr.{Ipv4Repr}
-use Rattle.control_wire.specs.declared.icmpv4.Icmpv4Repr.TheVariants.{EchoReply}
 use Rattle.host_machine.specs.Context.Note.{Note, slot_notes}
 use Rattle.fragmentation.specs.Slots.{Slots}
 use Rattle.host_machine.specs.Context.Host.{Host, at, with_slots, without_expired}
 use Rattle.host_machine.specs.Context.Addresses.{is_for_host, may_be_source}
-use Rattle.host_machine.specs.Packet.Packet.{Icmpv4}
 use Rattle.host_machine.specs.Packet.Packet as packet
 use Rattle.host_machine.specs.Icmp.Icmpv4.{ProcessesIcmpv4}
 use Rattle.host_machine.specs.Icmp.Icmpv4 as icmp

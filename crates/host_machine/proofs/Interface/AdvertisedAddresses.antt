@@ -2,13 +2,12 @@
 use Rattle.std.proofs.Common.{◌≡◌, ◌⊎◌, ℕ, zero, suc, ◌+◌, ◌<◌, ◌≤◌, Bool, true, false, List, [], ◌∷◌, ◌++◌, length, refl, sym, ◌∙◌, ap, subst}
 use Rattle.std.proofs.Common.{Option, Some, None, arith}
 use Rattle.std.specs.Prelude.{ℤ, ◌<ℤ◌, ◌==◌, ◌&&◌, ◌||◌, not, nat_le, slice_get, if◌then◌else◌}
-use Rattle.std.specs.List.{AllByRecursion, filter, list_any}
+use Rattle.std.specs.List.{filter, list_any}
 use Rattle.std.specs.Cmp.{int_cmp_is}
 use Rattle.std.specs.Ordering.{int_cmp, is_lt}
 use Rattle.std.specs.declared.cmp.Ordering.TheVariants.{Less}
 use Rattle.std.proofs.lemmas.Bool.Decides.{Decides-eqb, nat_tests}
 use Rattle.std.proofs.lemmas.List.{length-append}
-use Rattle.std.proofs.lemmas.Option.{slice_get_within}
 use Rattle.ip_address.specs.Ipv6.{is_unicast}
 use Rattle.ip_address.specs.LinkPrefix.{from_link_prefix}
 use Rattle.ip_address.specs.declared.cidr.IpCidr.{IpCidr}
@@ -17,20 +16,17 @@ use Rattle.ip_address.specs.declared.cidr.Ipv6Cidr.{Ipv6Cidr}
 use Rattle.ip_address.specs.declared.hardware.HardwareAddress.{HardwareAddress}
 use Rattle.ip_address.specs.declared.ip.IpAddress.{IpAddress}
 use Rattle.ip_address.specs.declared.ip.IpAddress.TheVariants as address
-use Rattle.ip_address.specs.declared.ipv6.Ipv6Address.{Ipv6Address}
 use Rattle.iface_tables.specs.declared.route.Route.{Route as StoredRoute}
-use Rattle.slaac.specs.Slaac.{has_ended as state_has_ended, is_before, is_prefix_valid, is_route_valid, is_same, is_same_route, sync_required}
-use Rattle.slaac.specs.Sync.{has_ended, is_cidr, is_ended_route, is_made, is_route, leads_as, stored_route, synced_addrs, synced_routes, with_addr}
+use Rattle.slaac.specs.Slaac.{is_before, is_prefix_valid, is_route_valid, is_same, sync_required}
+use Rattle.slaac.specs.Sync.{has_ended, is_cidr, is_ended_route, is_made, is_route, leads_as, stored_route, with_addr}
 use Rattle.slaac.specs.Sync.{with_addrs, with_route, with_routes}
 use Rattle.slaac.specs.declared.slaac.Prefix.{Prefix}
 use Rattle.slaac.specs.declared.slaac.Route.{Route}
 use Rattle.host_machine.specs.Context.Host.{Host, at, without_expired}
-use Rattle.host_machine.specs.Context.Autoconfiguration.{after_sync, with_slaac_applied}
-use Rattle.host_machine.specs.Interface.Polling.{after_maintenance}
+use Rattle.host_machine.specs.Context.Autoconfiguration.{with_slaac_applied}
 use Rattle.host_machine.specs.Laws.Autoconfiguration.{AddressesAreFormed, AddressesStay, AdvertisedAddressesStand, HasAddress, IsUnended, LeadsAs}
 use Rattle.host_machine.specs.Laws.Autoconfiguration.{RoutesAreFormed}
 use Rattle.host_machine.proofs.Discovery.LearntNeighbors.{and_both}
-use Rattle.host_machine.proofs.Interface.DueWork.{lt_of}
 
 before : (t x : ℤ) → t <ℤ x → is_before t x ≡ true
 before t x less = let e : is_lt (int_cmp t x) ≡ true = rw (← int_cmp_is t x Less less) refl in e

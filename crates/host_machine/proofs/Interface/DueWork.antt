@@ -33,7 +33,7 @@ use Rattle.host_machine.specs.declared.results.Turn.{Turn}
 use Rattle.host_machine.specs.Context.Addresses.{ipv4_addr}
 use Rattle.host_machine.specs.Packet.Packet.{Packet}
 use Rattle.host_machine.specs.Packet.Frame.{piece_frame}
-use Rattle.host_machine.specs.Multicast.Joins.{ReportsEach, ReportsAll, JoinsEgress, LeavesEgress, join_packet, leave_packet}
+use Rattle.host_machine.specs.Multicast.Joins.{ReportsEach, ReportsAll, LeavesEgress, join_packet, leave_packet}
 use Rattle.host_machine.specs.Multicast.Igmp.{igmp_report, IgmpEgress, igmp_poll_at, next_group, next_report, igmp_report_after, igmp_timeout_of}
 use Rattle.host_machine.specs.Multicast.Joins as multicast
 use Rattle.host_machine.specs.Multicast.Mld.{MldEgress, mld_timeout_of}
@@ -50,7 +50,6 @@ use Rattle.host_machine.specs.Discovery.Polling.{sync_poll_at}
 use Rattle.host_machine.specs.Interface.Due as due
 use Rattle.host_machine.specs.Send.Fragments.{Ipv4Egress}
 use Rattle.host_machine.specs.Sockets.Turns.{SocketTurn, Serves, Walks, SocketEgress}
-use Rattle.host_machine.specs.Interface.Egress.{Egress}
 use Rattle.host_machine.specs.Sockets.Turns as turns
 use Rattle.host_machine.specs.Send.Fragments as fragments
 use Rattle.host_machine.specs.Laws.Service.{IsDone, IsStillDue, LittleStaysDue, StillLine, StillPiece, StillReport, StillSocket}

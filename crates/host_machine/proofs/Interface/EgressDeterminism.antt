@@ -45,7 +45,7 @@ use Rattle.host_machine.specs.Send.Fragments as fragments
 use Rattle.host_machine.specs.Sockets.Turns.{SocketTurn, Serves, Walks, SocketEgress, is_exhausted, is_done, turn_of, wait_after, with_socket}
 use Rattle.host_machine.specs.Send.Fragments.{Ipv4Egress}
 use Rattle.host_machine.specs.Interface.Egress.{Round, Egress, answer_of}
-use Rattle.host_machine.specs.Sockets.Offers.{socket_after_asking, packet_from}
+use Rattle.host_machine.specs.Sockets.Offers.{socket_after_asking}
 use Rattle.host_machine.specs.Laws.Determined.{IsOneDispatch, IsOneCall, EgressIsDetermined}
 use Rattle.host_machine.proofs.Send.DispatchDeterminism.{dispatches_once}
 use Rattle.host_machine.proofs.Interface.PartDeterminism.{IsOnce, IsOncePart, Splits, split, behind, before, both_once, joined}

@@ -45,7 +45,7 @@ use Rattle.host_machine.specs.Packet.Packet.{Packet, total_len}
 use Rattle.host_machine.specs.Packet.Packet as packet
 use Rattle.host_machine.specs.Packet.Frame.{ip_frame}
 use Rattle.host_machine.specs.Send.Outcome.{Outcome, IsUnsent}
-use Rattle.host_machine.specs.Send.Hops.{IsNextHop, HasNeighbor, OfHost, is_known_hop, multicast_hardware_addr}
+use Rattle.host_machine.specs.Send.Hops.{HasNeighbor, OfHost, is_known_hop, multicast_hardware_addr}
 use Rattle.host_machine.specs.Send.Dispatch.{Emits, DispatchesByHop, DispatchesEthernet, SendsOver, Dispatches, destination_of}
 use Rattle.host_machine.specs.Send.Requests.{Discovers}
 use Rattle.host_machine.specs.Send.Dispatch as dispatch
@@ -60,8 +60,8 @@ use Rattle.host_machine.specs.Discovery.RouterSolicitation.{NdiscRsEgress}
 use Rattle.host_machine.specs.Discovery.RouterSolicitation as slaac
 use Rattle.host_machine.specs.Sockets.Turns.{SocketTurn, Serves, Walks, SocketEgress, is_exhausted, turn_of}
 use Rattle.host_machine.specs.Send.Fragments.{Ipv4Egress}
-use Rattle.host_machine.specs.Interface.Egress.{Round, Egress}
-use Rattle.host_machine.specs.Sockets.Offers.{socket_after_asking, packet_between, packet_of, packet_from}
+use Rattle.host_machine.specs.Interface.Egress.{Egress}
+use Rattle.host_machine.specs.Sockets.Offers.{socket_after_asking, packet_between, packet_from}
 use Rattle.host_machine.specs.Sockets.Turns as turns_rules
 use Rattle.host_machine.specs.Send.Fragments as fragments
 use Rattle.host_machine.specs.Laws.Service.{FirstDatagramsGo, HasFirst, IsBetween, OverIpv4, OverIpv6}

@@ -37,8 +37,7 @@ use Rattle.host_machine.specs.Sockets.Turns as turns_rules
 use Rattle.host_machine.specs.Send.Fragments as fragments
 use Rattle.host_machine.specs.Interface.Parts.{Both, Part}
 use Rattle.host_machine.specs.Send.Fragments.{Ipv4Egress}
-use Rattle.host_machine.specs.Sockets.Turns.{Serves, SocketTurn, SocketEgress, Walks, is_done, with_socket, wait_after}
-use Rattle.host_machine.specs.Interface.Egress.{answer_of}
+use Rattle.host_machine.specs.Sockets.Turns.{Serves, SocketTurn, SocketEgress, Walks, is_done, with_socket}
 use Rattle.host_machine.specs.Sockets.Offers.{socket_after_asking}
 use Rattle.host_machine.specs.Laws.Refusals.{IsOnlyAsked, NotAsked, WasAsked, RefusalsLoseNothing, grants_any, waiting_igmp, waiting_mld}
 

@@ -32,7 +32,7 @@ use Rattle.host_machine.specs.Send.Dispatch as dispatch
 use Rattle.host_machine.specs.Send.Requests as requests
 use Rattle.host_machine.specs.Sockets.Turns.{SocketTurn, Serves, Walks, SocketEgress}
 use Rattle.host_machine.specs.Send.Fragments.{Ipv4Egress}
-use Rattle.host_machine.specs.Interface.Egress.{Round, Egress}
+use Rattle.host_machine.specs.Interface.Egress.{Round}
 use Rattle.host_machine.specs.Sockets.Turns as turns
 use Rattle.host_machine.specs.Send.Fragments as fragments
 use Rattle.host_machine.specs.Multicast.Joins.{ReportsEach, ReportsAll}

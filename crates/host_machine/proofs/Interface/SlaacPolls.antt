@@ -22,7 +22,7 @@ use Rattle.host_machine.specs.Discovery.RouterSolicitation as slaac
 use Rattle.host_machine.specs.Interface.Ingress.{Ingress, Takes}
 use Rattle.host_machine.specs.Interface.Egress.{Egress}
 use Rattle.host_machine.specs.Receive.Reply.{Reply, IsDropped}
-use Rattle.host_machine.specs.Interface.Polling.{Repeats, Until, Polls, after_maintenance, is_changed, may_change}
+use Rattle.host_machine.specs.Interface.Polling.{Repeats, Until, is_changed, may_change}
 use Rattle.host_machine.specs.Interface.Polling as polling
 use Rattle.host_machine.specs.Laws.Service.{IsStillDue, PollsLeaveLittle, all_granted, EndsIn, PollsSyncSlaac, PollsEndInCalls}
 use Rattle.host_machine.specs.Interface.Due.{Due}

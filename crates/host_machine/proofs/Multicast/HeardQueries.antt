@@ -1,12 +1,11 @@
 -- A query for groups of the host makes an answer pending.
-use Rattle.std.proofs.Common.{◌≡◌, ◌≢◌, ℕ, zero, suc, ◌+◌, ◌*◌, ◌/◌, ◌%◌, ◌^◌, ◌<◌, ◌≤◌, Bool, true, false, List, [], ◌∷◌, length, refl, sym}
+use Rattle.std.proofs.Common.{◌≡◌, ◌≢◌, ℕ, zero, suc, ◌+◌, ◌*◌, ◌/◌, ◌%◌, ◌^◌, ◌<◌, ◌≤◌, true, false, List, [], ◌∷◌, length, refl, sym}
 use Rattle.std.proofs.Common.{◌∙◌, ap, subst, Option, Some, None, arith}
 use Rattle.std.specs.Prelude.{ℤ, pos, ◌+ℤ◌, ◌≤ℤ◌, ◌==◌, ◌&&◌, ◌||◌, nat_lt, slice_get, if◌then◌else◌}
-use Rattle.std.proofs.lemmas.Bool.Decides.{Decides-eqb, nat_tests}
+use Rattle.std.proofs.lemmas.Bool.Decides.{nat_tests}
 use Rattle.net_base.specs.Device.{Event}
 use Rattle.ip_address.specs.Ipv4 as ipv4_address
 use Rattle.ip_address.specs.Ipv6 as ipv6_address
-use Rattle.ip_address.specs.declared.hardware.HardwareAddress.{HardwareAddress}
 use Rattle.ip_address.specs.declared.ip.IpAddress.{IpAddress}
 use Rattle.ip_address.specs.declared.ip.IpAddress.TheVariants.{Ipv4, Ipv6}
 use Rattle.ip_address.specs.declared.ipv4.Ipv4Address.{Ipv4Address}
@@ -16,17 +15,13 @@ use Rattle.ip_wire.specs.declared.ip_packet.IpRepr.TheVariants as repr
 use Rattle.ip_wire.specs.declared.ipv4_packet.Ipv4Repr.{Ipv4Repr}
 use Rattle.ipv6_wire.specs.declared.ipv6_packet.Ipv6Repr.{Ipv6Repr}
 use Rattle.group_wire.specs.Igmp.{IsIgmp, igmp_in, query_version}
-use Rattle.group_wire.specs.declared.igmp.IgmpRepr.{IgmpRepr}
 use Rattle.group_wire.specs.declared.igmp.IgmpRepr.TheVariants.{MembershipQuery}
 use Rattle.group_wire.specs.declared.mld.MldRepr.TheVariants.{Query}
 use Rattle.icmpv6_wire.specs.Icmpv6.{icmpv6_in}
-use Rattle.icmpv6_wire.specs.declared.icmpv6.Icmpv6Repr.{Icmpv6Repr}
 use Rattle.icmpv6_wire.specs.declared.icmpv6.Icmpv6Repr.TheVariants as v6
 use Rattle.group_table.specs.Groups.{ipv4_groups, ipv6_groups, is_member}
 use Rattle.group_table.specs.declared.groups.Group.{Group}
 use Rattle.group_table.specs.declared.groups.GroupState.{GroupState}
-use Rattle.group_table.specs.declared.report.IgmpReportState.{IgmpReportState}
-use Rattle.group_table.specs.declared.report.MldReportState.{MldReportState}
 use Rattle.host_machine.specs.Context.Note.{Note}
 use Rattle.host_machine.specs.Context.Host.{Host, without_expired}
 use Rattle.host_machine.specs.Context.Addresses.{has_multicast_group, may_be_source}

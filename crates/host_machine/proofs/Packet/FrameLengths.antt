@@ -1,10 +1,10 @@
 -- How long a frame is.
-use Rattle.std.proofs.Common.{◌≡◌, ◌≢◌, ℕ, zero, suc, ◌+◌, ◌*◌, ◌/◌, ◌≤◌, Bool, true, false, List, [], ◌∷◌, ◌++◌, length, refl, sym, ◌∙◌, ap, subst, Option, Some, None, arith}
+use Rattle.std.proofs.Common.{◌≡◌, ◌≢◌, ℕ, zero, suc, ◌+◌, ◌*◌, ◌/◌, ◌≤◌, Bool, List, [], ◌∷◌, ◌++◌, length, refl, ◌∙◌, subst, arith}
 use Rattle.std.specs.Prelude.{◌-◌, ◌<◌, drop, map, take}
 use Rattle.std.specs.Int.{w16, w32, to_be_bytes}
 use Rattle.std.specs.List.{AllByRecursion}
 use Rattle.std.proofs.lemmas.List.{length-append}
-use Rattle.net_base.specs.Checksum.{ip_mtu_of, is_tx, room_in}
+use Rattle.net_base.specs.Checksum.{ip_mtu_of, room_in}
 use Rattle.net_base.specs.declared.phy.DeviceCapabilities.{DeviceCapabilities}
 use Rattle.net_base.specs.declared.phy.Medium.{Medium}
 use Rattle.net_base.specs.declared.phy.Medium.TheVariants as medium
@@ -13,11 +13,9 @@ use Rattle.ip_address.specs.declared.ethernet_address.EthernetAddress.{EthernetA
 use Rattle.ip_address.specs.declared.hardware.HardwareAddress.{HardwareAddress}
 use Rattle.ip_address.specs.declared.hardware.HardwareAddress.TheVariants as hardware
 use Rattle.ip_address.specs.declared.ip.IpAddress.{IpAddress}
-use Rattle.ip_address.specs.declared.ipv4.Ipv4Address.{Ipv4Address}
 use Rattle.ip_address.specs.declared.ipv6.Ipv6Address.{Ipv6Address}
 use Rattle.ip_wire.specs.declared.arp.ArpRepr.{ArpRepr}
 use Rattle.ip_wire.specs.declared.ethernet.EthernetProtocol.{EthernetProtocol}
-use Rattle.ip_wire.specs.declared.ip_packet.IpRepr.{IpRepr}
 use Rattle.ip_wire.specs.declared.ip_packet.IpRepr.TheVariants as repr
 use Rattle.ip_wire.specs.declared.ipv4_packet.Ipv4Fragment.{Ipv4Fragment}
 use Rattle.ip_wire.specs.declared.ipv4_packet.Ipv4Repr.{Ipv4Repr}
@@ -44,11 +42,11 @@ use Rattle.icmpv6_wire.specs.NdiscOption.{lladdr_text}
 use Rattle.group_wire.specs.declared.mld.MldRepr.TheVariants.{Report}
 use Rattle.group_wire.specs.declared.igmp.IgmpRepr.{IgmpRepr}
 use Rattle.group_wire.specs.Igmp as igmp
-use Rattle.fragmentation.specs.Cuts.{Datagram, Piece, cut, count, piece_at, piece_of, pieces_from, pieces_of}
+use Rattle.fragmentation.specs.Cuts.{Datagram, Piece, count, piece_of, pieces_from, pieces_of}
 use Rattle.host_machine.specs.Context.Host.{Host}
 use Rattle.host_machine.specs.Context.Pieces.{piece_size}
-use Rattle.host_machine.specs.Packet.Frame.{arp_frame, ip_frame, link_header, mld_options, payload_text, piece_frame, piece_text, with_limited_window}
-use Rattle.host_machine.specs.Packet.Packet.{IpPayload, Packet, header_of, payload_len, payload_of, total_len}
+use Rattle.host_machine.specs.Packet.Frame.{arp_frame, ip_frame, link_header, mld_options, payload_text, piece_frame, piece_text}
+use Rattle.host_machine.specs.Packet.Packet.{Packet, header_of, payload_len, payload_of, total_len}
 use Rattle.host_machine.specs.Packet.Packet as packet
 use Rattle.host_machine.specs.Laws.Lengths.{Fits}
 use Rattle.host_machine.proofs.Sockets.DatagramDelivery.{take_few}

@@ -1,16 +1,14 @@
 -- What a host sends is read as what it is.
-use Rattle.std.proofs.Common.{◌≡◌, ℕ, ◌+◌, ◌<◌, ◌≤◌, ◌^◌, Bool, true, false, List, [], ◌∷◌, ◌++◌, length, refl, sym, ◌∙◌, ap, subst, Option, Some, None, arith}
+use Rattle.std.proofs.Common.{◌≡◌, ℕ, ◌+◌, ◌<◌, ◌≤◌, ◌^◌, Bool, true, List, [], ◌∷◌, ◌++◌, length, refl, sym, ◌∙◌, ap, subst, Some, None, arith}
 use Rattle.std.proofs.lemmas.List.Elements.{All-cons, All-nil}
 use Rattle.std.proofs.lemmas.List.{append-nil}
 use Rattle.net_base.specs.Checksum.{is_tx}
 use Rattle.net_base.specs.declared.phy.DeviceCapabilities.{DeviceCapabilities}
 use Rattle.ip_address.specs.Protocol.{number_of, protocol_of}
-use Rattle.ip_address.specs.declared.ethernet_address.EthernetAddress.{EthernetAddress}
 use Rattle.ip_address.specs.declared.ip.IpAddress.{IpAddress}
 use Rattle.ip_address.specs.declared.ipv6.Ipv6Address.{Ipv6Address}
 use Rattle.ip_wire.specs.declared.ip_packet.IpRepr.{IpRepr}
 use Rattle.ip_wire.specs.declared.ip_packet.IpRepr.TheVariants as repr
-use Rattle.ip_wire.specs.declared.ipv4_packet.Ipv4Repr.{Ipv4Repr}
 use Rattle.ip_wire.specs.IpPacket.{header_len, src_addr, dst_addr}
 use Rattle.ip_wire.specs.Ipv4Packet.{IsIpv4, ipv4_in, whole}
 use Rattle.ip_wire.specs.Ipv4Packet as ipv4
@@ -21,11 +19,10 @@ use Rattle.ip_wire.proofs.Ipv4Again as ipv4_again
 use Rattle.ip_wire.proofs.TcpAgain as tcp_again
 use Rattle.ip_wire.proofs.UdpAgain as udp_again
 use Rattle.ipv6_wire.specs.HopByHop as hop_by_hop
-use Rattle.ipv6_wire.specs.HopByHop.{IsHopByHop, hop_by_hop_in}
+use Rattle.ipv6_wire.specs.HopByHop.{hop_by_hop_in}
 use Rattle.ipv6_wire.specs.declared.hop_by_hop.Ipv6OptionRepr.TheVariants.{PadN, RouterAlert}
 use Rattle.ipv6_wire.specs.Ipv6Packet.{IsIpv6, ipv6_in}
 use Rattle.ipv6_wire.specs.Ipv6Packet as ipv6
-use Rattle.ipv6_wire.specs.declared.ipv6_packet.Ipv6Repr.{Ipv6Repr}
 use Rattle.ipv6_wire.proofs.HopByHopAgain as hop_by_hop_again
 use Rattle.ipv6_wire.proofs.Ipv6Again as ipv6_again
 use Rattle.control_wire.specs.Icmpv4 as icmpv4
@@ -34,7 +31,6 @@ use Rattle.icmpv6_wire.specs.Icmpv6.{IsIcmpv6, icmpv6_in}
 use Rattle.icmpv6_wire.specs.Icmpv6 as icmpv6
 use Rattle.icmpv6_wire.specs.declared.icmpv6.Icmpv6Repr.{Icmpv6Repr}
 use Rattle.icmpv6_wire.specs.declared.icmpv6.Icmpv6Repr.TheVariants as v6
-use Rattle.icmpv6_wire.specs.declared.ndisc.NdiscRepr.{NdiscRepr}
 use Rattle.icmpv6_wire.specs.declared.ndisc.NdiscRepr.TheVariants.{NeighborSolicit, NeighborAdvert}
 use Rattle.icmpv6_wire.specs.declared.router.RouterRepr.TheVariants.{RouterSolicit, RouterAdvert}
 use Rattle.icmpv6_wire.proofs.Icmpv6Again as icmpv6_again
@@ -43,7 +39,7 @@ use Rattle.group_wire.specs.Igmp.{IsIgmp, igmp_in, is_group, group_of}
 use Rattle.group_wire.specs.declared.igmp.IgmpRepr.{IgmpRepr}
 use Rattle.group_wire.specs.declared.mld.MldRepr.TheVariants.{Query, Report}
 use Rattle.group_wire.proofs.IgmpAgain as igmp_again
-use Rattle.host_machine.specs.Packet.Frame.{mld_options, packet_text, payload_text, with_limited_window}
+use Rattle.host_machine.specs.Packet.Frame.{mld_options, payload_text, with_limited_window}
 use Rattle.host_machine.specs.Packet.Packet.{IpPayload, PacketV4, PacketV6, IsFormed, header_v4, header_v6, payload_len}
 use Rattle.host_machine.specs.Packet.Packet as packet
 use Rattle.host_machine.specs.Laws.WellFormed.{ComputesAll, HasValues, IsOfHost, IsReadAs, IsReadV4, IsReadV6, PacketsAreWellFormed}

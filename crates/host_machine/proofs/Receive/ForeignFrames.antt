@@ -37,7 +37,7 @@ use Rattle.iface_tables.specs.declared.route.Route.{Route}
 use Rattle.iface_tables.specs.Route.{best, is_live, more_specific, prefix_len, router_of}
 use Rattle.group_table.specs.declared.groups.Group.{Group}
 use Rattle.group_table.specs.declared.groups.GroupState.TheVariants.{Leaving}
-use Rattle.group_table.specs.Groups.{is_member, is_member_in}
+use Rattle.group_table.specs.Groups.{is_member}
 use Rattle.group_table.specs.Groups as group_table
 use Rattle.socket_base.specs.Source.{is_same}
 use Rattle.fragmentation.specs.Slots.{Slots, live_at}
@@ -54,7 +54,7 @@ use Rattle.host_machine.specs.Receive.Ipv6 as ipv6
 use Rattle.host_machine.specs.Receive.Ethernet.{ProcessesEthernet, ProcessesFrame, is_for}
 use Rattle.host_machine.specs.Receive.Ethernet as ethernet
 use Rattle.host_machine.specs.Laws.Restraint.Readings.{AreSameButRaw}
-use Rattle.host_machine.specs.Laws.Restraint.Foreign.{ForeignPacketsAreDropped, HasHardlyEffect, HasPrefixOf}
+use Rattle.host_machine.specs.Laws.Restraint.Foreign.{ForeignPacketsAreDropped, HasPrefixOf}
 use Rattle.host_machine.specs.Laws.Restraint.Foreign.{IsForeignV4, IsInNoList}
 use Rattle.host_machine.specs.Laws.Restraint.Foreign.{AsksNothingOnTheWay, ForeignPacketsV6AreDropped}
 use Rattle.host_machine.specs.Laws.Restraint.Foreign.{FramesForOthersAreDropped}

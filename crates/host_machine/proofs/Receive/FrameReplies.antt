@@ -72,7 +72,6 @@ use Rattle.host_machine.specs.Send.Dispatch.{Emits, DispatchesByHop, DispatchesE
 use Rattle.host_machine.specs.Context.Pieces.{datagram_of}
 use Rattle.host_machine.specs.Send.Dispatch as dispatch
 use Rattle.host_machine.specs.Receive.Response.{Responds}
-use Rattle.host_machine.specs.Interface.Ingress.{Ingress}
 use Rattle.host_machine.specs.Interface.Ingress as ingress
 use Rattle.host_machine.specs.Laws.Service.{RequestFramesAreRead, request_frame, ArpRequestsAreAnswered, ArpSendersAreLearnt}
 use Rattle.host_machine.specs.Laws.Service.{HasPacketV4, HasWay, IsAccepted, IsReached, IsTaken, PingsAreAnswered, Takes, packet_in}

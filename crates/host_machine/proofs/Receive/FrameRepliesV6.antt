@@ -34,11 +34,11 @@ use Rattle.host_machine.specs.Packet.Packet as packet
 use Rattle.host_machine.specs.Packet.Frame.{ip_frame}
 use Rattle.host_machine.specs.Sockets.Raw as raw
 use Rattle.host_machine.specs.Discovery.Renewal.{sender_renewed}
-use Rattle.host_machine.specs.Icmp.Icmpv6.{IsMessage, ProcessesIcmpv6, ProcessesMessage, message_back}
+use Rattle.host_machine.specs.Icmp.Icmpv6.{IsMessage, ProcessesIcmpv6, ProcessesMessage}
 use Rattle.host_machine.specs.Icmp.Icmpv6 as v6
 use Rattle.host_machine.specs.Discovery.Ndisc.{ProcessesNdiscMessage, Learns, LearnsNeighbor, ProcessesNdisc, advertisement_of}
 use Rattle.icmpv6_wire.specs.declared.ndisc.NdiscNeighborFlags.{NdiscNeighborFlags}
-use Rattle.host_machine.specs.Discovery.Ndisc.{is_target, answer_by, solicited_flag, has_no_unicast, usable_lladdr}
+use Rattle.host_machine.specs.Discovery.Ndisc.{is_target, usable_lladdr}
 use Rattle.host_machine.specs.Discovery.Ndisc.{advertised_lladdr, has_override}
 use Rattle.host_machine.specs.Discovery.Ndisc as ndisc
 use Rattle.host_machine.specs.Receive.Ipv6.{ProcessesIpv6, ProcessesPacket, ProcessesHopByHop, ProcessesDatagramV6, ProcessesProtocol}

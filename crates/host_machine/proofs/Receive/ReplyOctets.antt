@@ -22,7 +22,7 @@ use Rattle.ip_wire.proofs.EthernetAgain as ethernet_again
 use Rattle.ip_wire.proofs.Ipv4Again as ipv4_again
 use Rattle.control_wire.specs.declared.icmpv4.Icmpv4Repr.{Icmpv4Repr}
 use Rattle.control_wire.specs.declared.icmpv4.Icmpv4Repr.TheVariants.{EchoRequest, EchoReply, DstUnreachable, TimeExceeded}
-use Rattle.control_wire.specs.Icmpv4.{IsBody, IsIcmpv4, icmpv4_in, head_with, type_in}
+use Rattle.control_wire.specs.Icmpv4.{IsBody, icmpv4_in, head_with, type_in}
 use Rattle.control_wire.specs.Icmpv4 as icmpv4
 use Rattle.control_wire.proofs.Icmpv4Again as icmpv4_again
 use Rattle.host_machine.specs.Packet.Packet.{PacketV4, Icmpv4, header_v4}

@@ -65,7 +65,6 @@ use Rattle.icmpv6_wire.specs.declared.ndisc.NdiscRepr.TheVariants.{NeighborAdver
 use Rattle.group_wire.specs.declared.mld.MldRepr.TheVariants.{Query, Report}
 use Rattle.sockets.specs.declared.socket.SocketOf.TheVariants.{Raw, Icmp, Udp, Tcp}
 use Rattle.transport_sockets.specs.Tcp as tcp_socket
-use Rattle.transport_sockets.specs.Tcp.{TcpSocket}
 use Rattle.host_machine.specs.Context.Note.{Note}
 use Rattle.host_machine.specs.Context.Host.{Host, Storage, has_ip_addr, in_same_network}
 use Rattle.host_machine.specs.Context.Addresses.{is_broadcast_v4, is_unicast_v4, ipv4_addr}
@@ -76,7 +75,7 @@ use Rattle.host_machine.specs.Receive.Ethernet as ethernet
 use Rattle.host_machine.specs.Sockets.Raw as raw
 use Rattle.host_machine.specs.Receive.Reply.{Reply, Arp, Ip, IsDropped}
 use Rattle.host_machine.specs.Discovery.Renewal.{sender_renewed}
-use Rattle.host_machine.specs.Icmp.Icmpv4.{ProcessesIcmpv4, answer_to, message_back, may_answer_broadcast}
+use Rattle.host_machine.specs.Icmp.Icmpv4.{ProcessesIcmpv4, answer_to, message_back}
 use Rattle.host_machine.specs.Icmp.Icmpv4.{quotation_of, reply_source, unreachable}
 use Rattle.host_machine.specs.Icmp.Icmpv4 as icmpv4
 use Rattle.host_machine.specs.Icmp.Icmpv6.{ProcessesIcmpv6, ProcessesMessage}
@@ -89,7 +88,7 @@ use Rattle.host_machine.specs.Receive.Ipv6 as ipv6
 use Rattle.host_machine.specs.Discovery.Ndisc.{ProcessesNdisc, ProcessesNdiscMessage, advertisement_of, answer_by}
 use Rattle.host_machine.specs.Discovery.Ndisc.{is_target, solicited_flag}
 use Rattle.host_machine.specs.Discovery.Ndisc as ndisc
-use Rattle.host_machine.specs.Sockets.Tcp.{ProcessesTcp, is_between_unspecified, segment_back, socket_reply}
+use Rattle.host_machine.specs.Sockets.Tcp.{ProcessesTcp, segment_back, socket_reply}
 use Rattle.host_machine.specs.Sockets.Tcp.{reset_for}
 use Rattle.host_machine.specs.Sockets.Tcp as tcp
 use Rattle.host_machine.specs.Sockets.Udp.{ProcessesUdp}

@@ -1,6 +1,6 @@
 -- No frame of a run is longer than the device allows.
-use Rattle.std.proofs.Common.{◌≡◌, ◌≢◌, ◌⊎◌, ℕ, zero, suc, ◌+◌, ◌≤◌, Bool, true, false, List, [], ◌∷◌, ◌++◌, length, refl, sym, ◌∙◌, ap, subst, inl, inr, Option, Some, None, arith}
-use Rattle.std.specs.Prelude.{ℤ, cond, slice_get, if◌then◌else◌}
+use Rattle.std.proofs.Common.{◌≡◌, ◌≢◌, ◌⊎◌, ℕ, ◌+◌, ◌≤◌, Bool, true, false, List, [], ◌∷◌, ◌++◌, length, refl, sym, ◌∙◌, ap, subst, Option, Some, None, arith}
+use Rattle.std.specs.Prelude.{ℤ, if◌then◌else◌}
 use Rattle.std.specs.List.{AllByRecursion}
 use Rattle.std.specs.FinMap as map
 use Rattle.std.specs.Option.{option_map, option_and_then}
@@ -19,7 +19,6 @@ use Rattle.ip_address.specs.declared.ip.IpAddress.{IpAddress}
 use Rattle.ip_address.specs.declared.ip.IpAddress.TheVariants.{Ipv4, Ipv6}
 use Rattle.ip_address.specs.declared.ipv4.Ipv4Address.{Ipv4Address}
 use Rattle.ip_address.specs.declared.ipv6.Ipv6Address.{Ipv6Address}
-use Rattle.ip_wire.specs.declared.arp.ArpRepr.{ArpRepr}
 use Rattle.ip_wire.specs.declared.ip_packet.IpRepr.{IpRepr}
 use Rattle.ip_wire.specs.declared.ip_packet.IpRepr.TheVariants as repr
 use Rattle.ip_wire.specs.declared.tcp.TcpRepr.{TcpRepr}
@@ -35,7 +34,6 @@ use Rattle.control_wire.specs.declared.icmpv4.Icmpv4Repr.{Icmpv4Repr}
 use Rattle.control_wire.specs.declared.icmpv4.Icmpv4Repr.TheVariants as v4
 use Rattle.icmpv6_wire.specs.declared.icmpv6.Icmpv6Repr.{Icmpv6Repr}
 use Rattle.icmpv6_wire.specs.declared.icmpv6.Icmpv6Repr.TheVariants as v6
-use Rattle.icmpv6_wire.specs.declared.ndisc.NdiscRepr.{NdiscRepr}
 use Rattle.icmpv6_wire.specs.declared.ndisc.NdiscRepr.TheVariants.{NeighborAdvert, NeighborSolicit}
 use Rattle.icmpv6_wire.specs.declared.router.RouterRepr.TheVariants.{RouterAdvert, RouterSolicit}
 use Rattle.icmpv6_wire.specs.Icmpv6 as icmpv6
@@ -63,13 +61,13 @@ use Rattle.host_machine.specs.Send.Hops.{group_address_v6}
 use Rattle.host_machine.specs.Send.Dispatch as dispatch
 use Rattle.host_machine.specs.Send.Requests as requests
 use Rattle.host_machine.specs.Interface.Egress.{Egress}
-use Rattle.host_machine.specs.Sockets.Icmp.{echo_payload, if_echo_v4, if_echo_v6}
+use Rattle.host_machine.specs.Sockets.Icmp.{echo_payload}
 use Rattle.host_machine.specs.Sockets.Offers.{packet_between, packet_from, packet_of}
-use Rattle.host_machine.specs.Packet.Frame.{ip_frame, payload_text, piece_frame}
+use Rattle.host_machine.specs.Packet.Frame.{payload_text, piece_frame}
 use Rattle.host_machine.specs.Multicast.Igmp.{igmp_packet}
 use Rattle.host_machine.specs.Multicast.Joins.{join_packet, leave_packet}
 use Rattle.host_machine.specs.Multicast.Mld.{mld_report}
-use Rattle.host_machine.specs.Packet.Packet.{IpPayload, Packet, PacketV4, PacketV6, header_of, payload_len, payload_of}
+use Rattle.host_machine.specs.Packet.Packet.{IpPayload, Packet, PacketV4, header_of, payload_len, payload_of}
 use Rattle.host_machine.specs.Packet.Packet as packet
 use Rattle.host_machine.specs.Discovery.RouterSolicitation.{due_solicitation, router_solicitation, solicitation_by, solicitation_from}
 use Rattle.host_machine.specs.Context.Autoconfiguration.{with_slaac_applied}
@@ -78,8 +76,8 @@ use Rattle.host_machine.specs.Interface.Run.{Transition, Run, Ends, Then, events
 use Rattle.host_machine.specs.Interface.Step.{Act, Step}
 use Rattle.host_machine.specs.Interface.Step as step
 use Rattle.host_machine.specs.Laws.Lengths.{Fits, FramesOfRunsFit, PiecesFit}
-use Rattle.host_machine.specs.Laws.Real.{IsPart, IsReal, IsRegular}
-use Rattle.host_machine.specs.Laws.Restraint.SentFrames.{IsNextPiece, IsOfPacket, IsOfReply, IsOfSocket, SendsInOrder, replying}
+use Rattle.host_machine.specs.Laws.Real.{IsPart, IsReal}
+use Rattle.host_machine.specs.Laws.Restraint.SentFrames.{IsNextPiece, IsOfPacket, IsOfReply, SendsInOrder, replying}
 use Rattle.host_machine.specs.Laws.Restraint.SentFrames as law
 use Rattle.host_machine.specs.Laws.Unfolded.{IsSingle}
 use Rattle.host_machine.proofs.Interface.SingleCalls.{run_unfolds}

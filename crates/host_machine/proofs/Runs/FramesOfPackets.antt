@@ -1,6 +1,6 @@
 -- The frame of a packet, by the lists of the host with whose ways it is sent.
-use Rattle.std.proofs.Common.{◌≡◌, ◌⊎◌, ℕ, ◌+◌, ◌%◌, ◌^◌, Bool, true, false, List, [], ◌∷◌, ◌++◌, refl, sym, ◌∙◌, ap, subst, inl, inr}
-use Rattle.std.proofs.Common.{Option, Some, None, arith}
+use Rattle.std.proofs.Common.{◌≡◌, ◌⊎◌, ℕ, ◌+◌, ◌%◌, ◌^◌, List, [], ◌∷◌, ◌++◌, refl, sym, ◌∙◌, ap, subst, inl, inr}
+use Rattle.std.proofs.Common.{Option, Some, arith}
 use Rattle.std.proofs.lemmas.Int.{ints}
 use Rattle.std.specs.Prelude.{ℤ, ◌≤ℤ◌, ◌<ℤ◌, slice_get, if◌then◌else◌}
 use Rattle.std.specs.FinMap.{FinMap}
@@ -20,10 +20,10 @@ use Rattle.ip_wire.specs.declared.ethernet.EthernetProtocol.TheVariants as proto
 use Rattle.icmpv6_wire.specs.declared.icmpv6.Icmpv6Repr.TheVariants.{Ndisc}
 use Rattle.icmpv6_wire.specs.declared.ndisc.NdiscRepr.TheVariants.{NeighborSolicit}
 use Rattle.fragmentation.specs.Cuts.{pieces_of}
-use Rattle.iface_tables.specs.declared.neighbor.Answer.TheVariants.{Found, NotFound, RateLimited}
+use Rattle.iface_tables.specs.declared.neighbor.Answer.TheVariants.{NotFound}
 use Rattle.iface_tables.specs.declared.neighbor.Neighbor.{Neighbor}
 use Rattle.iface_tables.specs.declared.route.Route.{Route}
-use Rattle.iface_tables.specs.Neighbor.{answer_from, answer_of, answer_without_entry, is_before}
+use Rattle.iface_tables.specs.Neighbor.{answer_from, answer_of}
 use Rattle.host_machine.specs.Context.Note.{Note}
 use Rattle.host_machine.specs.Context.Host.{Host, with_next_id}
 use Rattle.host_machine.specs.Packet.Packet.{Packet, Icmpv6}

@@ -1,16 +1,15 @@
 -- The source of each packet that a host sends is its own.
 use Rattle.std.proofs.Common.{◌≡◌, ◌≢◌, ◌⊎◌, ℕ, ◌/◌, ◌^◌, Bool, true, false, List, [], ◌∷◌, ◌++◌, length, refl, sym, ◌∙◌, ap, subst, inl, inr, Option, Some, None}
-use Rattle.std.specs.Prelude.{ℤ, ◌==◌, cond, slice_get, if◌then◌else◌}
+use Rattle.std.specs.Prelude.{ℤ, ◌==◌, cond, if◌then◌else◌}
 use Rattle.std.specs.List.{AllByRecursion}
 use Rattle.std.specs.Option.{option_map, option_and_then}
 use Rattle.std.proofs.lemmas.Bool.Decides.{Decides-eqb}
 use Rattle.std.proofs.lemmas.Option.{option_and_then_some}
-use Rattle.net_base.specs.Device.{Event, sent_frames}
+use Rattle.net_base.specs.Device.{Event}
 use Rattle.ip_address.specs.Ipv6.{is_link_local}
 use Rattle.ip_address.specs.declared.cidr.IpCidr.{IpCidr}
 use Rattle.ip_address.specs.declared.cidr.IpCidr.TheVariants as cidr
 use Rattle.ip_address.specs.declared.cidr.Ipv6Cidr.{Ipv6Cidr}
-use Rattle.ip_address.specs.declared.ethernet_address.EthernetAddress.{EthernetAddress}
 use Rattle.ip_address.specs.declared.hardware.HardwareAddress.{HardwareAddress}
 use Rattle.ip_address.specs.declared.hardware.HardwareAddress.TheVariants as hardware
 use Rattle.ip_address.specs.declared.ip.IpAddress.{IpAddress}
@@ -21,7 +20,6 @@ use Rattle.ip_address.specs.declared.protocol.IpProtocol.{IpProtocol}
 use Rattle.ip_address.specs.declared.protocol.IpVersion.{IpVersion}
 use Rattle.group_wire.specs.declared.igmp.IgmpRepr.{IgmpRepr}
 use Rattle.group_wire.specs.declared.igmp.IgmpRepr.TheVariants.{LeaveGroup, MembershipReport}
-use Rattle.group_wire.specs.declared.igmp.IgmpVersion.{IgmpVersion}
 use Rattle.group_wire.specs.declared.igmp.IgmpVersion.TheVariants.{Version2}
 use Rattle.group_wire.specs.declared.mld.MldRecordType.{MldRecordType}
 use Rattle.group_wire.specs.declared.mld.MldRecordType.TheVariants.{ChangeToExclude, ChangeToInclude, ModeIsExclude}
@@ -36,16 +34,16 @@ use Rattle.transport_sockets.specs.Udp as udp
 use Rattle.sockets.specs.Kinds.{Offered, IcmpOffer, TcpOffer, UdpOffer, offered_packet}
 use Rattle.sockets.specs.declared.socket.SocketOf.TheVariants.{Raw, Icmp, Udp, Tcp}
 use Rattle.host_machine.specs.Context.Note.{Note}
-use Rattle.host_machine.specs.Context.Host.{Host, Socket, at, without_expired}
+use Rattle.host_machine.specs.Context.Host.{Host, Socket, without_expired}
 use Rattle.host_machine.specs.Context.Addresses.{ipv4_addr, link_local_addr, source_for}
 use Rattle.host_machine.specs.Receive.Reply.{Reply, Arp, Ip}
 use Rattle.host_machine.specs.Send.Dispatch.{destination_of}
 use Rattle.host_machine.specs.Sockets.Icmp.{echo_payload}
 use Rattle.host_machine.specs.Sockets.Offers.{packet_between, packet_from, packet_of}
-use Rattle.host_machine.specs.Multicast.Igmp.{all_routers, igmp_packet, igmp_report}
+use Rattle.host_machine.specs.Multicast.Igmp.{all_routers, igmp_packet}
 use Rattle.host_machine.specs.Multicast.Joins.{join_packet, leave_packet}
 use Rattle.host_machine.specs.Multicast.Mld.{mld_report, mld_routers, or_unspecified, records_of}
-use Rattle.host_machine.specs.Packet.Packet.{IpPayload, Packet, PacketV4, payload_of}
+use Rattle.host_machine.specs.Packet.Packet.{IpPayload, Packet}
 use Rattle.host_machine.specs.Packet.Packet as packet
 use Rattle.host_machine.specs.Discovery.RouterSolicitation.{due_solicitation, router_solicitation, solicitation_by, solicitation_from}
 use Rattle.slaac.specs.Slaac.{rs_required}
@@ -53,10 +51,10 @@ use Rattle.host_machine.specs.Laws.Restraint.Chosen.{IsChosenFor, Given}
 use Rattle.host_machine.specs.Laws.Restraint.Neighbors.{IsOwn}
 use Rattle.host_machine.specs.Laws.Restraint.Neighbors as neighbors
 use Rattle.host_machine.specs.Laws.Restraint.Readings.{Receives}
-use Rattle.host_machine.specs.Laws.Restraint.Replies.{BringsSegment, BringsV4, GoesBack, HasSegmentCause}
+use Rattle.host_machine.specs.Laws.Restraint.Replies.{BringsSegment, BringsV4, GoesBack}
 use Rattle.host_machine.specs.Laws.Restraint.Replies as replies
-use Rattle.host_machine.specs.Laws.Restraint.SentFrames.{IsIgmpAnswer, IsMldAnswer, IsNextPiece, IsOfPacket, IsOfSocket, IsReport, IsSolicitation, SendsInOrder}
-use Rattle.host_machine.specs.Laws.Restraint.Sources.{IsBoundTo, IsFromNobody, IsFromOwn, IsReceiver, IsReplyFrom, RepliesFromOwn, SendsFromOwn}
+use Rattle.host_machine.specs.Laws.Restraint.SentFrames.{IsOfPacket, IsOfSocket, SendsInOrder}
+use Rattle.host_machine.specs.Laws.Restraint.Sources.{IsBoundTo, IsFromNobody, IsFromOwn, IsReceiver, IsReplyFrom, RepliesFromOwn}
 use Rattle.host_machine.specs.Laws.Restraint.Sources.{SourcesAreOwn, source_of}
 use Rattle.host_machine.specs.Laws.Restraint.Sources as law
 use Rattle.host_machine.proofs.Receive.ReplyLaws.{own_before, reply_origin}

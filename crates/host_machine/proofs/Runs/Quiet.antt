@@ -36,7 +36,7 @@ use Rattle.host_machine.specs.Interface.Egress.{Round, Egress}
 use Rattle.host_machine.specs.Send.Fragments.{Ipv4Egress}
 use Rattle.host_machine.specs.Sockets.Offers.{packet_of, packet_from, socket_after_asking}
 use Rattle.host_machine.specs.Sockets.Turns.{with_socket, wait_after, SocketTurn}
-use Rattle.host_machine.specs.Sockets.Turns.{Silent, Refused, Serves, Free, Waits, Served, is_done, Walks, SocketEgress, Whole, Stopped}
+use Rattle.host_machine.specs.Sockets.Turns.{Silent, Refused, Serves, Free, Waits, Served, Walks, SocketEgress, Whole, Stopped}
 use Rattle.host_machine.specs.Sockets.Turns as turns_rules
 use Rattle.host_machine.specs.Interface.Egress as egress
 use Rattle.host_machine.specs.Send.Fragments as fragments

@@ -27,7 +27,7 @@ use Rattle.host_machine.specs.Context.Host.{Host, Socket, at, no_sockets, with_n
 use Rattle.host_machine.specs.Context.Addresses.{is_unicast, source_for}
 use Rattle.host_machine.specs.Packet.Packet.{Packet}
 use Rattle.host_machine.specs.Send.Outcome.{Outcome, IsUnsent}
-use Rattle.host_machine.specs.Send.Hops.{IsNextHop, multicast_hardware_addr}
+use Rattle.host_machine.specs.Send.Hops.{multicast_hardware_addr}
 use Rattle.host_machine.specs.Send.Dispatch.{Emits, DispatchesByHop, DispatchesEthernet, SendsOver, Dispatches, destination_of}
 use Rattle.host_machine.specs.Send.Requests.{Discovers}
 use Rattle.host_machine.specs.Send.Dispatch as dispatch
@@ -42,7 +42,6 @@ use Rattle.host_machine.specs.Discovery.RouterSolicitation.{NdiscRsEgress}
 use Rattle.host_machine.specs.Discovery.RouterSolicitation as slaac
 use Rattle.host_machine.specs.Sockets.Turns.{SocketTurn, Serves, Walks, SocketEgress}
 use Rattle.host_machine.specs.Send.Fragments.{Ipv4Egress}
-use Rattle.host_machine.specs.Interface.Egress.{Egress}
 use Rattle.host_machine.specs.Sockets.Offers.{packet_from}
 use Rattle.host_machine.specs.Sockets.Turns as turns
 use Rattle.host_machine.specs.Send.Fragments as fragments

@@ -14,8 +14,7 @@ use Rattle.host_machine.specs.Packet.Packet.{Packet, PacketV4}
 use Rattle.host_machine.specs.Packet.Packet as packet
 use Rattle.host_machine.specs.Packet.Frame.{piece_frame}
 use Rattle.host_machine.specs.Send.Outcome.{Outcome, IsUnsent}
-use Rattle.host_machine.specs.Send.Hops.{IsNextHop, if_unicast, multicast_hardware_addr}
-use Rattle.host_machine.specs.Send.Dispatch.{Emits, DispatchesByHop, DispatchesEthernet, SendsOver, Dispatches, destination_of}
+use Rattle.host_machine.specs.Send.Dispatch.{Emits, DispatchesByHop, DispatchesEthernet, SendsOver}
 use Rattle.host_machine.specs.Send.Requests.{Discovers}
 use Rattle.host_machine.specs.Context.Pieces.{datagram_of}
 use Rattle.host_machine.specs.Send.Dispatch as dispatch

@@ -1,7 +1,7 @@
 -- A datagram to many hosts that comes for a socket is in its queue.
-use Rattle.std.proofs.Common.{◌≡◌, ◌≢◌, ◌⊎◌, ℕ, zero, suc, Bool, true, false, List, [], ◌∷◌, length, refl, sym, ◌∙◌, ap, subst, inl, inr, Option, Some, None, arith}
+use Rattle.std.proofs.Common.{◌≡◌, ◌≢◌, ◌⊎◌, ℕ, zero, suc, Bool, true, false, List, [], ◌∷◌, refl, sym, ◌∙◌, ap, subst, Option, Some, None, arith}
 use Rattle.std.specs.Prelude.{ℤ, ◌==◌, ◌||◌, ◌/◌, ◌^◌, ◌<◌, map, slice_get, slice_set, if◌then◌else◌}
-use Rattle.std.specs.List.{AllByRecursion, find, list_any}
+use Rattle.std.specs.List.{AllByRecursion, find}
 use Rattle.std.specs.Option.{option_map}
 use Rattle.std.proofs.lemmas.Bool.Decides.{Decides-eqb}
 use Rattle.std.proofs.lemmas.Option.{slice_get-map}
@@ -26,12 +26,11 @@ use Rattle.group_table.specs.Groups.{is_at, is_member, is_member_in, is_same}
 use Rattle.group_table.specs.declared.groups.Group.{Group}
 use Rattle.group_table.specs.declared.groups.GroupState.{GroupState}
 use Rattle.group_table.specs.declared.groups.GroupState.TheVariants.{Joined, Joining, Leaving}
-use Rattle.socket_base.specs.Queue.{is_room}
 use Rattle.sockets.specs.declared.socket.SocketOf.TheVariants.{Udp}
 use Rattle.transport_sockets.specs.Udp.{UdpSocket, is_accepted_at}
 use Rattle.host_machine.specs.Context.Note.{Note}
 use Rattle.host_machine.specs.Context.Host.{Host, Storage, has_ip_addr, without_expired}
-use Rattle.host_machine.specs.Context.Addresses.{has_multicast_group, has_solicited_node, is_broadcast, is_broadcast_of, is_for_host, is_loopback}
+use Rattle.host_machine.specs.Context.Addresses.{has_multicast_group, has_solicited_node, is_broadcast, is_for_host, is_loopback}
 use Rattle.host_machine.specs.Context.Addresses.{may_be_source}
 use Rattle.host_machine.specs.Sockets.Delivery.{IsFirst, to_this}
 use Rattle.host_machine.specs.Receive.Ipv4.{ProcessesDatagram, ProcessesProtocol}
@@ -43,7 +42,7 @@ use Rattle.host_machine.specs.Receive.Response.{Responds}
 use Rattle.host_machine.specs.Sockets.Udp.{ProcessesUdp, IsDatagram, accepts, storage_after_delivery}
 use Rattle.host_machine.specs.Laws.Many.{DatagramsToManyAreQueued, IsFirstAtPort, IsMember, IsOfMany, QueuesToMany, QueuesToManyV6}
 use Rattle.host_machine.specs.Laws.Many as law
-use Rattle.host_machine.specs.Laws.Restraint.NextHop.{IsGroup, IsToAll}
+use Rattle.host_machine.specs.Laws.Restraint.NextHop.{IsGroup}
 use Rattle.host_machine.specs.Laws.Restraint.NextHop as next
 use Rattle.host_machine.specs.Laws.Restraint.Queries.{HasGroup}
 use Rattle.host_machine.specs.Laws.Service.{IsQueued}

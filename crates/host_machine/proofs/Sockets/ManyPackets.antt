@@ -1,5 +1,5 @@
 -- The first datagram of a socket is sent, if it is to many hosts.
-use Rattle.std.proofs.Common.{◌≡◌, ◌≢◌, ◌⊎◌, ◌≤◌, ◌+◌, ◌*◌, ◌/◌, ◌^◌, ℕ, zero, suc, true, false, List, [], ◌∷◌, ◌++◌, refl, sym, ◌∙◌, ap, subst, append_assoc, pow-suc, inl, inr, Some, arith}
+use Rattle.std.proofs.Common.{◌≡◌, ◌≢◌, ◌⊎◌, ◌≤◌, ◌+◌, ◌*◌, ◌/◌, ◌^◌, ℕ, suc, true, false, List, [], ◌∷◌, ◌++◌, refl, sym, ◌∙◌, ap, subst, append_assoc, pow-suc, inl, inr, Some, arith}
 use Rattle.std.specs.Prelude.{◌<◌, ◌-◌, is_ok, slice_get}
 use Rattle.std.proofs.lemmas.Nat.{pow_pos}
 use Rattle.std.proofs.lemmas.Option.{slice_get_within}
@@ -12,8 +12,6 @@ use Rattle.ip_address.specs.declared.ethernet_address.EthernetAddress.{EthernetA
 use Rattle.ip_address.specs.declared.hardware.HardwareAddress.{HardwareAddress}
 use Rattle.ip_address.specs.declared.hardware.HardwareAddress.TheVariants as hardware
 use Rattle.ip_address.specs.declared.ip.IpAddress.{IpAddress}
-use Rattle.ip_address.specs.declared.ip.IpAddress.TheVariants.{Ipv4, Ipv6}
-use Rattle.socket_base.specs.declared.endpoint.IpEndpoint.{IpEndpoint}
 use Rattle.sockets.specs.Kinds.{socket_after_told}
 use Rattle.sockets.specs.declared.socket.SocketOf.TheVariants.{Udp}
 use Rattle.transport_sockets.specs.Udp.{UdpSocket}
@@ -30,9 +28,9 @@ use Rattle.host_machine.specs.Sockets.Turns as egress
 use Rattle.host_machine.specs.Packet.Frame.{ip_frame}
 use Rattle.host_machine.specs.Packet.Packet.{Packet, total_len}
 use Rattle.host_machine.specs.Laws.Many.{DatagramsToManyGo, IsManysAddress, IsToMany, OfAll, OfTheGroup, WithoutAddresses}
-use Rattle.host_machine.specs.Laws.Restraint.NextHop.{AreApart, IsGroup, IsToAll}
+use Rattle.host_machine.specs.Laws.Restraint.NextHop.{AreApart, IsToAll}
 use Rattle.host_machine.specs.Laws.Restraint.NextHop as law
-use Rattle.host_machine.specs.Laws.Service.{HasFirst, MayBeAsked, all_granted}
+use Rattle.host_machine.specs.Laws.Service.{MayBeAsked, all_granted}
 use Rattle.host_machine.proofs.Receive.ForeignFrames.{same_bits}
 use Rattle.host_machine.proofs.Receive.FrameReplies.{GoesWhole, clash, emits_whole}
 use Rattle.host_machine.proofs.Receive.Malformed.{sent_frames-sends}

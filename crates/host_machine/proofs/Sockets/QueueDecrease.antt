@@ -53,7 +53,7 @@ use Rattle.host_machine.specs.Send.Hops.{IsNextHop, HasNeighbor, OfNoHost, OfHos
 use Rattle.host_machine.specs.Send.Dispatch.{Emits, DispatchesByHop, DispatchesEthernet, SendsOver, Dispatches, destination_of}
 use Rattle.host_machine.specs.Send.Dispatch as dispatch
 use Rattle.host_machine.specs.Sockets.Polling.{SocketDue, instant_of}
-use Rattle.host_machine.specs.Sockets.Turns.{SocketTurn, Serves, Walks, SocketEgress, turn_of, wait_after, with_socket}
+use Rattle.host_machine.specs.Sockets.Turns.{SocketTurn, Serves, turn_of, wait_after}
 use Rattle.host_machine.specs.Sockets.Offers.{socket_after_asking, packet_between, packet_from, packet_of}
 use Rattle.host_machine.specs.Sockets.Icmp.{echo_payload}
 use Rattle.host_machine.specs.Sockets.Turns as egress

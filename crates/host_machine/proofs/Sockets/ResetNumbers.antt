@@ -1,5 +1,5 @@
 -- The reset that answers a segment has the numbers that the segment's octets ask for.
-use Rattle.std.proofs.Common.{◌≡◌, ◌≢◌, ℕ, ◌+◌, ◌/◌, ◌%◌, Bool, true, false, List, length, refl, sym, ◌∙◌, ap, subst, Option, Some, None, arith}
+use Rattle.std.proofs.Common.{◌≡◌, ◌≢◌, ℕ, ◌+◌, ◌/◌, ◌%◌, Bool, true, false, List, length, refl, ◌∙◌, subst, Option, Some, None, arith}
 use Rattle.std.specs.Prelude.{◌<◌, ◌==◌, slice_index, if◌then◌else◌}
 use Rattle.std.proofs.lemmas.Bool.Decides.{Decides-eqb, nat_tests}
 use Rattle.wire_base.specs.Octets.{u32_at}
@@ -9,7 +9,7 @@ use Rattle.ip_wire.specs.declared.tcp.TcpControl.TheVariants as control
 use Rattle.ip_wire.specs.declared.tcp.TcpRepr.{TcpRepr}
 use Rattle.ip_wire.specs.declared.tcp.TcpSeqNumber.{TcpSeqNumber}
 use Rattle.ip_wire.specs.Tcp.{IsControl, IsTcp, control_of, ack, fin, rst, syn, tcp_in}
-use Rattle.transport_sockets.specs.Tcp.{ack_or_zero, answer_of, reset_ack, reset_of}
+use Rattle.transport_sockets.specs.Tcp.{answer_of, reset_ack, reset_of}
 use Rattle.host_machine.specs.Laws.Restraint.ResetNumbers.{HasResetNumbers, IsResetFor, AtAcknowledged, OfSyn, OfNeither}
 
 -- what answers a segment is its reset

@@ -23,10 +23,10 @@ use Rattle.icmpv6_wire.specs.declared.icmpv6.Icmpv6Repr.TheVariants as icmp6
 use Rattle.icmpv6_wire.specs.declared.router.RouterRepr.TheVariants.{RouterSolicit, RouterAdvert}
 use Rattle.group_wire.specs.Igmp.{IsIgmp, igmp_in, is_group, group_of}
 use Rattle.group_wire.specs.declared.mld.MldRepr.TheVariants.{Query, Report}
-use Rattle.host_machine.specs.Packet.Packet.{IpPayload, Icmpv4, Icmpv6, Udp, Tcp, Raw, Igmp, Mld, Packet, PacketV4, PacketV6}
+use Rattle.host_machine.specs.Packet.Packet.{IpPayload, Icmpv4, Icmpv6, Udp, Tcp, Raw, Igmp, Mld, PacketV4, PacketV6}
 use Rattle.host_machine.specs.Packet.Packet.{IsFormed, header_v4, header_v6, payload_len}
 use Rattle.host_machine.specs.Packet.Packet as packet
-use Rattle.host_machine.specs.Packet.Frame.{mld_options, packet_text, payload_text, with_limited_window}
+use Rattle.host_machine.specs.Packet.Frame.{mld_options, packet_text, with_limited_window}
 
 -- the host computes every checksum, and leaves none to its device
 pub record ComputesAll (c : DeviceCapabilities) : Type 0 where
