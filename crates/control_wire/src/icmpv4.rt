@@ -178,19 +178,6 @@ pub struct EchoRequest<'p> {
 }
 
 impl EchoRequest<'_> {
-    /// Appends the reply: the request's identifier, sequence number and data. The reply's checksum, 0 unless `summed`,
-    /// is derived from the request's (RFC 1624).
-    #[inline(always)]
-    pub fn emit_reply(&self, summed: bool, out: &mut FrameBuffer)
-        requires room { length out.old + length self.now.octets.now ≤ 1514 }
-        ensures items { out.new
-            ≡ out.old ++ spec.text summed true (spec.echo_reply_to self.now.octets.now) (drop 8 self.now.octets.now) }
-        ensures len { length out.new ≡ length out.old + length self.now.octets.now }
-    {
-        self.emit_reply_header(summed, out);
-        out.append(self.payload());
-    }
-
     /// The data, which is also the reply's.
     #[inline(always)]
     pub fn payload(&self) -> &[u8]
@@ -199,7 +186,8 @@ impl EchoRequest<'_> {
         &self.octets[HEADER_LEN..]
     }
 
-    /// Appends the reply up to its data, as [`EchoRequest::emit_reply`] does, without the data.
+    /// Appends the reply up to its data, with the request's identifier and sequence number. Its checksum, 0 unless
+    /// `summed`, is that of the whole, and is derived from the request's (RFC 1624).
     #[inline(always)]
     pub fn emit_reply_header(&self, summed: bool, out: &mut FrameBuffer)
         requires room { length out.old + 8 ≤ 1514 }
