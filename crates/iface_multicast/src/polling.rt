@@ -9,8 +9,8 @@ use crate::joins::group_poll_at;
 use crate::mld::mld_poll_at;
 use group_table::GroupState;
 use iface_context::Context;
+use net_base::instants::earlier_of;
 use net_base::time::Instant;
-use slaac::earlier_of;
 use sockets::SocketContext;
 
 /// The earlier of an instant and of the instants at which groups have something to report.

@@ -11,8 +11,8 @@ ghost use Rattle.iface_context.specs.Stands.{host_in};
 use iface_context::Context;
 use iface_send::hops::has_neighbor;
 use ip_wire::IpAddress;
+use net_base::instants::earlier_of;
 use net_base::time::Instant;
-use slaac::earlier_of;
 use socket_set::{SocketSet, by_index};
 use sockets::{PollAt, SocketContext};
 

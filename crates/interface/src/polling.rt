@@ -11,8 +11,8 @@ use iface_discovery::polling::routers_poll_at;
 use iface_multicast::polling::groups_poll_at;
 use iface_send::fragments::piece_poll_at;
 use iface_sockets::polling::sockets_poll_at;
+use net_base::instants::earlier_of;
 use net_base::time::Instant;
-use slaac::earlier_of;
 use socket_set::SocketSet;
 
 /// The earliest instant at which `poll` has work, if any. Immediately: a pending fragment, an unreported join or leave,

@@ -2,6 +2,7 @@ pub mod Checksum
 pub mod Device
 pub mod DriverLaws
 pub mod Exact
+pub mod Instants
 pub mod MemoryDevice
 pub mod MemoryDeviceLaws
 pub mod Passed

@@ -3,6 +3,7 @@
 
 pub mod assembler;
 pub mod driver;
+pub mod instants;
 pub mod memory_device;
 pub mod phy;
 pub mod rand;

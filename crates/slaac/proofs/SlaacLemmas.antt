@@ -12,7 +12,7 @@ use Rattle.std.proofs.Math.Bridge.{le_prop}
 use Rattle.std.proofs.lemmas.Bool.{le-leb}
 use Rattle.ip_address.specs.declared.ipv6.Ipv6Address.{Ipv6Address}
 use Rattle.ip_address.specs.declared.cidr.Ipv6Cidr.{Ipv6Cidr}
-use Rattle.slaac.specs.Instants.{earlier_of}
+use Rattle.net_base.specs.Instants.{earlier_of}
 use Rattle.slaac.specs.Slaac.{cidr_by, cidr_from}
 
 -- a test that came out so, and what it says

@@ -1,3 +1,2 @@
-pub mod Instants
 pub mod Slaac
 pub mod Sync

@@ -10,7 +10,7 @@ use Rattle.ip_address.specs.declared.ipv6.Ipv6Address.{Ipv6Address}
 use Rattle.ip_address.specs.declared.cidr.Ipv6Cidr.{Ipv6Cidr}
 use Rattle.icmpv6_wire.specs.declared.prefix_information.NdiscPrefixInformation.{NdiscPrefixInformation}
 use Rattle.icmpv6_wire.specs.PrefixInformation.{is_for_addresses, is_valid_prefix_info}
-use Rattle.slaac.specs.Instants.{earlier_of, earliest_of}
+use Rattle.net_base.specs.Instants.{earlier_of, earliest_of}
 use Rattle.slaac.specs.declared.slaac.Phase.{Phase}
 use Rattle.slaac.specs.declared.slaac.Phase.TheVariants as phase
 use Rattle.slaac.specs.declared.slaac.PrefixInfo.{PrefixInfo}

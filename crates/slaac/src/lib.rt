@@ -2,9 +2,7 @@
 //! addresses and routes follow what it learnt.
 #![tactic(auto)]
 
-pub mod instants;
 pub mod slaac;
 pub mod sync;
 
-pub use instants::earlier_of;
 pub use slaac::{Phase, Slaac};

@@ -2,21 +2,21 @@
 //! the host solicits routers (RFC 4861 6.3.7).
 ghost use Rattle.std.specs.Prelude.{◌≡◌, ◌+◌, ◌<◌, ◌≤◌, ◌||◌, Bool, pos, true, false, not, length};
 ghost use Rattle.std.specs.List.{list_any, filter};
+ghost use Rattle.net_base.specs.Instants.{earliest_of};
 ghost use Rattle.net_base.specs.Time.{IsMoment};
 ghost use Rattle.slaac.specs.Slaac as spec;
 ghost use Rattle.slaac.specs.Slaac.{is_before, is_prefix_valid, is_route_valid};
 ghost use Rattle.slaac.specs.Slaac.{knows_prefix, knows_router, advertised_prefix};
-ghost use Rattle.slaac.specs.Instants.{earliest_of};
 ghost use Rattle.slaac.specs.Slaac.{prefix_ends, route_ends, IsLifetime, default_route, whole, with_prefix};
 ghost use Rattle.slaac.specs.Slaac.{prefixes_after_withdrawal, prefixes_after, is_prefix_news, routers_after};
 ghost use Rattle.slaac.specs.Slaac.{is_router_news, with_router, with_end, prefix_index, router_index};
 ghost use Rattle.slaac.specs.Slaac.{slaac_after_message, slaac_after_update, initial_state, info_from, info_withdrawn};
 
-use crate::instants::earlier_of;
 use arrayvec::ArrayVec;
 use bitflags::Flags;
 use icmpv6_wire::{NdiscPrefixInfoFlags, NdiscPrefixInformation};
 use ip_address::{Ipv6Address, Ipv6Cidr};
+use net_base::instants::earlier_of;
 use net_base::time::{Duration, Instant};
 use std::marker::Model;
 

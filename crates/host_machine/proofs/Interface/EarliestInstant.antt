@@ -25,7 +25,7 @@ use Rattle.host_machine.specs.Send.Fragments.{at_once}
 use Rattle.host_machine.specs.Multicast.Polling.{groups_poll_at, group_poll_at}
 use Rattle.host_machine.specs.Discovery.Polling.{routers_poll_at, sync_poll_at}
 use Rattle.group_table.specs.declared.groups.GroupState.TheVariants.{Joining, Leaving}
-use Rattle.slaac.specs.Instants.{earliest_of, earlier_of}
+use Rattle.net_base.specs.Instants.{earliest_of, earlier_of}
 use Rattle.slaac.specs.Slaac.{prefix_ends, route_ends}
 use Rattle.host_machine.specs.Discovery.RouterSolicitation.{rs_poll_at}
 use Rattle.host_machine.specs.Multicast.Igmp.{igmp_poll_at}

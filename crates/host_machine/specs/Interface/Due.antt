@@ -9,7 +9,7 @@ use Rattle.host_machine.specs.Discovery.RouterSolicitation.{rs_poll_at}
 use Rattle.host_machine.specs.Sockets.Polling.{SocketDue}
 use Rattle.host_machine.specs.Multicast.Polling.{group_poll_at}
 use Rattle.host_machine.specs.Discovery.Polling.{sync_poll_at}
-pub use Rattle.slaac.specs.Instants.{earlier_of}
+pub use Rattle.net_base.specs.Instants.{earlier_of}
 
 -- while a list has an element, there is work immediately
 pub record AtOnce {A : Type 0} (xs : List A) (x : ℤ) : Type 0 where

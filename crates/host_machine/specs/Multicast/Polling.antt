@@ -4,7 +4,7 @@ use Rattle.std.specs.Option.{option_map}
 use Rattle.group_table.specs.declared.groups.GroupState.{GroupState}
 use Rattle.group_table.specs.declared.groups.GroupState.TheVariants.{Joining, Leaving}
 use Rattle.group_table.specs.Groups.{first_in}
-use Rattle.slaac.specs.Instants.{earlier_of}
+use Rattle.net_base.specs.Instants.{earlier_of}
 use Rattle.host_machine.specs.Context.Host.{Host}
 use Rattle.host_machine.specs.Multicast.Igmp.{igmp_poll_at}
 use Rattle.host_machine.specs.Multicast.Mld.{mld_timeout_of}

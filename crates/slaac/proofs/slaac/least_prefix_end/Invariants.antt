@@ -1,5 +1,5 @@
 use Rattle.std.proofs.Common.{◌≡◌, drop}
-use Rattle.slaac.specs.Instants.{earlier_of, earliest_of}
+use Rattle.net_base.specs.Instants.{earlier_of, earliest_of}
 use Rattle.slaac.specs.Slaac.{prefix_ends}
 use Rattle.slaac.proofs.slaac.least_prefix_end.Given as goal
 

@@ -1,5 +1,5 @@
 use Rattle.std.proofs.Common.{◌≡◌, drop}
-use Rattle.slaac.specs.Instants.{earlier_of, earliest_of}
+use Rattle.net_base.specs.Instants.{earlier_of, earliest_of}
 use Rattle.slaac.specs.Slaac.{route_ends}
 use Rattle.slaac.proofs.slaac.least_route_end.Given as goal
 

@@ -1,8 +1,8 @@
 //! The earlier of instants.
 ghost use Rattle.std.specs.Prelude.{◌≡◌};
-ghost use Rattle.slaac.specs.Instants as spec;
+ghost use Rattle.net_base.specs.Instants as spec;
 
-use net_base::time::Instant;
+use crate::time::Instant;
 
 /// The earlier of two instants; `None` means never.
 pub fn earlier_of(a: Option<Instant>, b: Option<Instant>) -> Option<Instant>
