@@ -6,12 +6,11 @@ use Rattle.std.specs.List.{AllByRecursion}
 use Rattle.std.specs.Int.{w16, to_be_bytes}
 use Rattle.std.specs.Str.{bytes_eq}
 use Rattle.std.proofs.lemmas.Slice.Eq.{bytes_eq-Decides}
-use Rattle.net_base.specs.Checksum.{ip_mtu_of, is_rx, is_tx}
+use Rattle.net_base.specs.Checksum.{is_rx, is_tx}
 use Rattle.net_base.specs.Device.{Event, handed_frames, sent_frames}
 use Rattle.ip_address.specs.declared.ethernet_address.EthernetAddress.{EthernetAddress}
 use Rattle.ip_address.specs.declared.hardware.HardwareAddress.TheVariants as hardware
 use Rattle.ip_address.specs.declared.ip.IpAddress.TheVariants.{Ipv4}
-use Rattle.ip_address.specs.declared.ipv4.Ipv4Address.{Ipv4Address}
 use Rattle.ip_address.specs.EthernetAddress as ethernet
 use Rattle.ip_address.specs.Protocol.{number_of, protocol_of}
 use Rattle.ip_wire.specs.declared.ethernet.EthernetRepr.{EthernetRepr}
@@ -43,8 +42,8 @@ use Rattle.host_machine.specs.Laws.Service.{HasPacketV4, IsOfLink, IsToItself, P
 use Rattle.host_machine.proofs.Receive.FrameReplies.{pings_served}
 use Rattle.host_machine.proofs.Icmp.EchoReplies.{replies_queued}
 use Rattle.host_machine.proofs.Sockets.FirstPackets.{first_echoes_go}
-use Rattle.host_laws.specs.Pings.{Knows, PingsComeBack, message_frame, message_packet}
-use Rattle.host_laws.specs.PingsInRuns.{PingsReturn, RunsReturnPings}
+use Rattle.host_laws.specs.Pings.{Echo, End, FitsBoth, Knows, PingsComeBack, frame_to, reply_packet, request_packet}
+use Rattle.host_laws.specs.PingsInRuns.{PingsReturn, RunsReturnPings, call_at}
 
 -- what is read of the frame of an echo message by the host that it is for
 record ReadsEcho (far : EthernetAddress) (K : Host) (frame : List ℕ) (r : Ipv4Repr) (message : Icmpv4Repr) (octets text : List ℕ) : Type 0 where
@@ -80,16 +79,17 @@ abbrev echo_text : Host → Icmpv4Repr → List ℕ → List ℕ
 echo_text H message octets = icmpv4.text (is_tx H.capabilities.checksum.icmpv4) (is_tx H.capabilities.checksum.ipv4) message octets
 
 -- the frame that a host sends is read by the host that it is for
-reads : (H K : Host) (own far : EthernetAddress) (p : PacketV4) (message : Icmpv4Repr) (octets : List ℕ) →
+reads : (H K : Host) (own : EthernetAddress) (end : End) (p : PacketV4) (message : Icmpv4Repr) (octets : List ℕ) →
     p.payload ≡ Icmpv4 message octets → icmpv4.IsMessage message → header_len message ≡ 8 →
     length (echo_text H message octets) ≡ 8 + length octets →
-    H.hardware_addr ≡ hardware.Ethernet own → length own.0 ≡ 6 → length far.0 ≡ 6 →
+    H.hardware_addr ≡ hardware.Ethernet own → length own.0 ≡ 6 → length end.hardware_addr.0 ≡ 6 →
     is_tx H.capabilities.checksum.ipv4 ≡ true → is_tx H.capabilities.checksum.icmpv4 ≡ true →
     p.src_addr.bits < 2 ^ 32 → p.dst_addr.bits < 2 ^ 32 → 28 + length octets < 2 ^ 16 →
     is_unicast_v4 K.ip_addrs p.src_addr ≡ true → IsOfLink p.src_addr → is_unicast_v4 K.ip_addrs p.dst_addr ≡ true →
     is_assigned K.ip_addrs (Ipv4 p.dst_addr) ≡ true →
-    ReadsEcho far K (message_frame H far p) (header_v4 p) message octets (echo_text H message octets)
-reads H K own far p message octets is m eight len on six_own six_far headers messages source destination short from_one of_link to_one given =
+    ReadsEcho end.hardware_addr K (frame_to H end p) (header_v4 p) message octets (echo_text H message octets)
+reads H K own end p message octets is m eight len on six_own six_far headers messages source destination short from_one of_link to_one given =
+    let far : EthernetAddress = end.hardware_addr in
     let text : List ℕ = echo_text H message octets in
     let r : Ipv4Repr = header_v4 p in
     let summed = is_tx H.capabilities.checksum.ipv4 in
@@ -97,12 +97,12 @@ reads H K own far p message octets is m eight len on six_own six_far headers mes
     let len_is : r.payload_len ≡ 8 + length octets = ap payload_len is ∙ ap (λ n. n + length octets) eight in
     let head : EthernetRepr = record { src_addr = own; dst_addr = far; ethertype = protocol.Ipv4 } in
     let body : List ℕ = ipv4.header_text summed r whole ++ text in
-    let frame_is : message_frame H far p ≡ header_text head ++ body =
+    let frame_is : frame_to H end p ≡ header_text head ++ body =
     ap (λ h. link_header h (hardware.Ethernet far) protocol.Ipv4 ++ packet_text H.capabilities (packet.Ipv4 p)) on
     ∙ ap (λ t. header_text head ++ (ipv4.header_text summed r whole ++ t)) body_is in
     let again = ethernet_again.read_again head body (record { destination = six_far; source = six_own; number = omega arith; protocol = refl }) in
-    let header : header_in (message_frame H far p) ≡ head = ap header_in frame_is ∙ ap (λ x. x.0) again in
-    let behind : drop 14 (message_frame H far p) ≡ body = ap (drop 14) frame_is ∙ ap (λ x. x.1) again in
+    let header : header_in (frame_to H end p) ≡ head = ap header_in frame_is ∙ ap (λ x. x.0) again in
+    let behind : drop 14 (frame_to H end p) ≡ body = ap (drop 14) frame_is ∙ ap (λ x. x.1) again in
     let form : ipv4.IsHeader r whole = record {
       source = source;
       destination = destination;
@@ -114,7 +114,7 @@ reads H K own far p message octets is m eight len on six_own six_far headers mes
     let packet_again = v4_again (is_rx K.capabilities.checksum.ipv4) summed r text headers form (len ∙ sym len_is) in
     let message_again = icmpv4_again.read_again (is_rx K.capabilities.checksum.icmpv4) (is_tx H.capabilities.checksum.icmpv4) summed message octets m
     (summed_is (is_rx K.capabilities.checksum.icmpv4) (is_tx H.capabilities.checksum.icmpv4) messages) in
-    let values : ipv4_in (drop 14 (message_frame H far p)) ≡ (r, whole, text) = ap ipv4_in behind ∙ packet_again.1 in
+    let values : ipv4_in (drop 14 (frame_to H end p)) ≡ (r, whole, text) = ap ipv4_in behind ∙ packet_again.1 in
     record {
       itself = ap (λ (h : EthernetRepr). h.dst_addr) header;
       in_packet = record {
@@ -146,52 +146,54 @@ unfolding icmpv4.head_with
 reply_len a b ident seq_no octets = omega arith
 
 -- B answers
-answered : (ha hb : EthernetAddress) (a b : Ipv4Address) (hop_limit ident seq_no : ℕ) (octets : List ℕ) (t u : ℤ) (A B B' : Host)
-    (told_b : List Event) →
-    Knows (at A t) ha a hb b → Knows (at B u) hb b ha a → ident < 2 ^ 16 → seq_no < 2 ^ 16 → 28 + length octets ≤ ip_mtu_of B.capabilities →
-    28 + length octets < 2 ^ 16 →
-    Takes (hardware.Ethernet hb) u (message_frame A hb (message_packet a b hop_limit (EchoRequest ident seq_no) octets)) B told_b B' →
-    sent_frames told_b ≡ message_frame B ha (message_packet b a 64 (EchoReply ident seq_no) octets) ∷ []
-answered ha hb a b hop_limit ident seq_no octets t u A B B' told_b ka kb ident_fits seq_no_fits fits short takes =
-    let request : PacketV4 = message_packet a b hop_limit (EchoRequest ident seq_no) octets in
-    let asked = reads A B ha hb request (EchoRequest ident seq_no) octets refl (ident_fits, seq_no_fits) refl
-    (request_len (is_tx A.capabilities.checksum.icmpv4) (is_tx A.capabilities.checksum.ipv4) ident seq_no octets)
-    ka.on_ethernet ka.octets kb.octets ka.headers_summed ka.messages_summed ka.bits kb.bits short
+answered : (a b : End) (e : Echo) (hop_limit : ℕ) (t u : ℤ) (A B B' : Host) (told_b : List Event) →
+    Knows (at A t) a b → Knows (at B u) b a → FitsBoth e A B →
+    Takes (hardware.Ethernet b.hardware_addr) u (frame_to A b (request_packet a b hop_limit e)) B told_b B' →
+    sent_frames told_b ≡ frame_to B a (reply_packet b a e) ∷ []
+answered a b e hop_limit t u A B B' told_b ka kb fits takes =
+    let request : PacketV4 = request_packet a b hop_limit e in
+    let asked = reads A B a.hardware_addr b request (EchoRequest e.ident e.seq_no) e.octets refl (fits.ident, fits.seq_no) refl
+    (request_len (is_tx A.capabilities.checksum.icmpv4) (is_tx A.capabilities.checksum.ipv4) e.ident e.seq_no e.octets)
+    ka.on_ethernet ka.octets kb.octets ka.headers_summed ka.messages_summed ka.bits kb.bits fits.short
     kb.peer_is_one ka.of_link kb.one kb.given in
-    let pings : AsksByEcho (hardware.Ethernet hb) B (message_frame A hb request) (header_v4 request) ident seq_no octets = record {
-      payload = echo_text A (EchoRequest ident seq_no) octets;
+    let pings : AsksByEcho (hardware.Ethernet b.hardware_addr) B (frame_to A b request) (header_v4 request) e.ident e.seq_no e.octets = record {
+      payload = echo_text A (EchoRequest e.ident e.seq_no) e.octets;
       in_packet = asked.in_packet;
       protocol_is = refl;
       is_message = asked.is_message;
       values = asked.values;
     } in
-    pings_served u B B' told_b (hardware.Ethernet hb) (message_frame A hb request) (header_v4 request) ident seq_no octets
-    (hardware.Ethernet ha) takes asked.itself pings kb.reached fits
+    pings_served u B B' told_b (hardware.Ethernet b.hardware_addr) (frame_to A b request) (header_v4 request) e.ident e.seq_no e.octets
+    (hardware.Ethernet a.hardware_addr) takes asked.itself pings kb.reached fits.b
 
 pub come_back : PingsComeBack
-come_back ha hb a b ident seq_no octets t u v i k A A' B B' C C' told_a told_b told_c p =
+come_back a b e i k x y z p =
     let hop_limit = p.sends.socket.hop_limit in
-    let reply : PacketV4 = message_packet b a 64 (EchoReply ident seq_no) octets in
+    let reply : PacketV4 = reply_packet b a e in
     let ka = p.a_knows in
     let kb = p.b_knows in
     let kc = p.c_knows in
-    let went = first_echoes_go t p.sends.answer A A' told_a p.sends.notes p.sends.call (hardware.Ethernet ha) i p.sends.socket a b ident seq_no octets
-    (hardware.Ethernet hb) p.sends.granted ka.on_ethernet p.sends.first p.sends.may ka.peer_is_one ka.reached p.fits_a in
-    let told_by_b = answered ha hb a b hop_limit ident seq_no octets t u A B B' told_b ka kb p.ident_fits p.seq_no_fits p.fits_b p.short p.b_takes in
-    let told = reads B C hb ha reply (EchoReply ident seq_no) octets refl (p.ident_fits, p.seq_no_fits) refl
-    (reply_len (is_tx B.capabilities.checksum.icmpv4) (is_tx B.capabilities.checksum.ipv4) ident seq_no octets)
-    kb.on_ethernet kb.octets ka.octets kb.headers_summed kb.messages_summed kb.bits ka.bits p.short
+    let A = x.before in
+    let B = y.before in
+    let C = z.before in
+    let went = first_echoes_go x.moment p.sends.answer A x.after x.told p.sends.notes p.sends.call (hardware.Ethernet a.hardware_addr) i p.sends.socket
+    a.addr b.addr e.ident e.seq_no e.octets
+    (hardware.Ethernet b.hardware_addr) p.sends.granted ka.on_ethernet p.sends.first p.sends.may ka.peer_is_one ka.reached p.fits.a in
+    let told_by_b = answered a b e hop_limit x.moment y.moment A B y.after y.told ka kb p.fits p.b_takes in
+    let told = reads B C b.hardware_addr a reply (EchoReply e.ident e.seq_no) e.octets refl (p.fits.ident, p.fits.seq_no) refl
+    (reply_len (is_tx B.capabilities.checksum.icmpv4) (is_tx B.capabilities.checksum.ipv4) e.ident e.seq_no e.octets)
+    kb.on_ethernet kb.octets ka.octets kb.headers_summed kb.messages_summed kb.bits ka.bits p.fits.short
     kc.peer_is_one kb.of_link kc.one kc.given in
-    let text : List ℕ = echo_text B (EchoReply ident seq_no) octets in
-    let back : HasEchoReply (hardware.Ethernet ha) C (message_frame B ha reply) (header_v4 reply) ident seq_no text = record {
+    let text : List ℕ = echo_text B (EchoReply e.ident e.seq_no) e.octets in
+    let back : HasEchoReply (hardware.Ethernet a.hardware_addr) C (frame_to B a reply) (header_v4 reply) e.ident e.seq_no text = record {
       in_packet = told.in_packet;
       protocol_is = refl;
       is_message = told.is_message;
       values = ap (λ x. x.0) told.values;
     } in
-    let queued = replies_queued v C C' told_c (hardware.Ethernet ha) (message_frame B ha reply) (header_v4 reply) ident seq_no text k
-    p.socket p.a_takes back p.here
-    p.endpoint (ap (λ n. is_room p.socket.rx n) told.len ∙ p.room) in
+    let queued = replies_queued z.moment C z.after z.told (hardware.Ethernet a.hardware_addr) (frame_to B a reply) (header_v4 reply) e.ident e.seq_no text k
+    p.awaits.socket p.a_takes back p.awaits.here
+    p.awaits.endpoint (ap (λ n. is_room p.awaits.socket.rx n) told.len ∙ p.awaits.room) in
     record {
       front = went.front;
       back = went.back;
@@ -218,26 +220,21 @@ taking own t frame p e k took on =
     record { answer = i.answer; notes = p.notes; call = i.call; took = took; on_medium = on }
 
 pub pings_return : (ps qs : List Transition) → AllByRecursion KeepsCallLaws ps → AllByRecursion KeepsCallLaws qs → PingsReturn ps qs
-pings_return ps qs keep_p keep_q ha hb a b ident seq_no octets t u v i k x y z p q r at_x at_y at_z g =
-    let e = sending t p g.sends (all_at KeepsCallLaws ps x p keep_p at_x) in
-    let b_takes = taking hb u _ q g.b_receives (all_at KeepsCallLaws qs y q keep_q at_y) g.b_took g.b_knows.on_ethernet in
-    let told = answered ha hb a b g.asking.hop_limit ident seq_no octets t u p.before q.before q.after q.told g.a_knows g.b_knows
-    g.ident_fits g.seq_no_fits g.fits_b g.short b_takes in
-    let a_takes = taking ha v (message_frame q.before ha (message_packet b a 64 (EchoReply ident seq_no) octets)) r g.a_receives
+pings_return ps qs keep_p keep_q a b e t u v i k x y z p q r at_x at_y at_z g =
+    let c = sending t p g.sends (all_at KeepsCallLaws ps x p keep_p at_x) in
+    let b_takes = taking b.hardware_addr u _ q g.b_receives (all_at KeepsCallLaws qs y q keep_q at_y) g.b_took g.b_knows.on_ethernet in
+    let told = answered a b e g.asking.hop_limit t u p.before q.before q.after q.told g.a_knows g.b_knows g.fits b_takes in
+    let a_takes = taking a.hardware_addr v (frame_to q.before a (reply_packet b a e)) r g.a_receives
     (all_at KeepsCallLaws ps z r keep_p at_z) (g.a_took ∙ told) g.c_knows.on_ethernet in
-    come_back ha hb a b ident seq_no octets t u v i k p.before p.after q.before q.after r.before r.after p.told q.told r.told (record {
+    come_back a b e i k (call_at t p) (call_at u q) (call_at v r) (record {
       a_knows = g.a_knows;
       b_knows = g.b_knows;
       c_knows = g.c_knows;
-      ident_fits = g.ident_fits;
-      seq_no_fits = g.seq_no_fits;
-      fits_a = g.fits_a;
-      fits_b = g.fits_b;
-      short = g.short;
+      fits = g.fits;
       sends = record {
-        answer = e.answer;
+        answer = c.answer;
         notes = p.notes;
-        call = e.call;
+        call = c.call;
         granted = g.granted;
         socket = g.asking;
         first = g.first;
@@ -245,10 +242,7 @@ pings_return ps qs keep_p keep_q ha hb a b ident seq_no octets t u v i k x y z p
       };
       b_takes = b_takes;
       a_takes = a_takes;
-      socket = g.socket;
-      here = g.here;
-      endpoint = g.endpoint;
-      room = g.room;
+      awaits = g.awaits;
     })
 
 pub runs_return : RunsReturnPings

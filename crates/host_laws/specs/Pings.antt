@@ -24,88 +24,114 @@ use Rattle.host_machine.specs.Packet.Frame.{ip_frame}
 use Rattle.host_machine.specs.Interface.Egress.{Egress}
 use Rattle.host_machine.specs.Laws.Service.{HasFirstEcho, IsOfLink, IsReached, MayBeAsked, Takes, all_granted}
 
--- a packet with a message of ICMP
-abbrev pub message_packet : Ipv4Address → Ipv4Address → ℕ → Icmpv4Repr → List ℕ → PacketV4
-message_packet source destination hop_limit message octets = record {
-  src_addr = source;
-  dst_addr = destination;
+-- a host, as another one on its Ethernet knows it
+pub record End : Type 0 where
+  pub hardware_addr : EthernetAddress
+  pub addr : Ipv4Address
+
+-- what an echo request carries, and its reply returns (RFC 792)
+pub record Echo : Type 0 where
+  pub ident : ℕ
+  pub seq_no : ℕ
+  pub octets : List ℕ
+
+-- a call of a host: when, the host before it, what the device was told, and the host after it
+pub record Call : Type 0 where
+  pub moment : ℤ
+  pub before : Host
+  pub told : List Event
+  pub after : Host
+
+abbrev pub echo_packet : (source destination : End) → ℕ → Icmpv4Repr → Echo → PacketV4
+echo_packet source destination hop_limit message e = record {
+  src_addr = source.addr;
+  dst_addr = destination.addr;
   hop_limit = hop_limit;
-  payload = Icmpv4 message octets;
+  payload = Icmpv4 message e.octets;
 }
 
--- the frame in which a host sends it to a hardware address
-abbrev pub message_frame : Host → EthernetAddress → PacketV4 → List ℕ
-message_frame H to p = ip_frame H (hardware.Ethernet to) (packet.Ipv4 p)
+-- the request, and the reply, whose hop limit is 64
+abbrev pub request_packet : (source destination : End) → ℕ → Echo → PacketV4
+request_packet source destination hop_limit e =
+    echo_packet source destination hop_limit (EchoRequest e.ident e.seq_no) e
 
--- a host has this address and this hardware address on Ethernet, computes the checksums of IPv4 and of ICMP, and knows
--- a peer's address as that of one host, at the peer's hardware address
-pub record Knows (H : Host) (own : EthernetAddress) (a : Ipv4Address) (peer : EthernetAddress)
-    (b : Ipv4Address) : Type 0 where
-  pub on_ethernet : H.hardware_addr ≡ hardware.Ethernet own
-  pub octets : length own.0 ≡ 6
-  pub bits : a.bits < 2 ^ 32
-  pub given : is_assigned H.ip_addrs (Ipv4 a) ≡ true
-  pub one : is_unicast_v4 H.ip_addrs a ≡ true
-  pub of_link : IsOfLink a
-  pub peer_is_one : is_unicast_v4 H.ip_addrs b ≡ true
-  pub reached : IsReached H (Ipv4 b) (hardware.Ethernet peer)
+abbrev pub reply_packet : (source destination : End) → Echo → PacketV4
+reply_packet source destination e = echo_packet source destination 64 (EchoReply e.ident e.seq_no) e
+
+-- the frame in which a host sends a packet to an end
+abbrev pub frame_to : Host → End → PacketV4 → List ℕ
+frame_to H end p = ip_frame H (hardware.Ethernet end.hardware_addr) (packet.Ipv4 p)
+
+-- a host is at an end on Ethernet, computes the checksums of IPv4 and of ICMP, and knows a peer's address as that of
+-- one host, at the peer's hardware address
+pub record Knows (H : Host) (own peer : End) : Type 0 where
+  pub on_ethernet : H.hardware_addr ≡ hardware.Ethernet own.hardware_addr
+  pub octets : length own.hardware_addr.0 ≡ 6
+  pub bits : own.addr.bits < 2 ^ 32
+  pub given : is_assigned H.ip_addrs (Ipv4 own.addr) ≡ true
+  pub one : is_unicast_v4 H.ip_addrs own.addr ≡ true
+  pub of_link : IsOfLink own.addr
+  pub peer_is_one : is_unicast_v4 H.ip_addrs peer.addr ≡ true
+  pub reached : IsReached H (Ipv4 peer.addr) (hardware.Ethernet peer.hardware_addr)
   pub headers_summed : is_tx H.capabilities.checksum.ipv4 ≡ true
   pub messages_summed : is_tx H.capabilities.checksum.icmpv4 ≡ true
 
--- a call at t that sends, with every transmit token granted; an ICMP socket at an index has an echo request first in its
--- queue, with a source for the peer, and may be asked
-pub record SendsPing (t : ℤ) (i : ℕ) (a b : Ipv4Address) (ident seq_no : ℕ) (octets : List ℕ) (old : Host)
-    (told : List Event) (new : Host) : Type 0 where
+-- a request and its reply fit the packets that two hosts may send
+pub record FitsBoth (e : Echo) (A B : Host) : Type 0 where
+  pub ident : e.ident < 2 ^ 16
+  pub seq_no : e.seq_no < 2 ^ 16
+  pub a : 28 + length e.octets ≤ ip_mtu_of A.capabilities
+  pub b : 28 + length e.octets ≤ ip_mtu_of B.capabilities
+  pub short : 28 + length e.octets < 2 ^ 16
+
+-- a call sends, with every transmit token granted; an ICMP socket at an index has the request first in its queue, with
+-- a source for the peer, and may be asked
+pub record SendsPing (i : ℕ) (own peer : End) (e : Echo) (c : Call) : Type 0 where
   pub answer : PollResult
   pub notes : List Note
-  pub call : Egress t answer old told notes new
-  pub granted : all_granted told ≡ true
+  pub call : Egress c.moment answer c.before c.told notes c.after
+  pub granted : all_granted c.told ≡ true
   pub socket : IcmpSocket
-  pub first : HasFirstEcho (at old t) i socket a b ident seq_no octets
-  pub may : MayBeAsked (at old t) i
+  pub first : HasFirstEcho (at c.before c.moment) i socket own.addr peer.addr e.ident e.seq_no e.octets
+  pub may : MayBeAsked (at c.before c.moment) i
 
--- a ping of A, at hardware address `ha` and with address a, to B, at `hb` with b: what A sends at t, B receives at u,
--- and what B sends then, A receives at v, where an ICMP socket has the identifier and room for the reply
-pub record Pings (ha hb : EthernetAddress) (a b : Ipv4Address) (ident seq_no : ℕ) (octets : List ℕ)
-    (t u v : ℤ) (i k : ℕ)
-    (A A' B B' C C' : Host) (told_a told_b told_c : List Event) : Type 0 where
-  pub a_knows : Knows (at A t) ha a hb b
-  pub b_knows : Knows (at B u) hb b ha a
-  pub c_knows : Knows (at C v) ha a hb b
-  pub ident_fits : ident < 2 ^ 16
-  pub seq_no_fits : seq_no < 2 ^ 16
-  pub fits_a : 28 + length octets ≤ ip_mtu_of A.capabilities
-  pub fits_b : 28 + length octets ≤ ip_mtu_of B.capabilities
-  pub short : 28 + length octets < 2 ^ 16
-  pub sends : SendsPing t i a b ident seq_no octets A told_a A'
-  pub b_takes : Takes (hardware.Ethernet hb) u
-      (message_frame A hb (message_packet a b sends.socket.hop_limit (EchoRequest ident seq_no) octets)) B told_b B'
-  pub a_takes : Takes (hardware.Ethernet ha) v
-      (message_frame B ha (message_packet b a 64 (EchoReply ident seq_no) octets)) C told_c C'
+-- an ICMP socket at an index has the identifier, and room for the reply
+pub record AwaitsReply (k : ℕ) (e : Echo) (H : Host) : Type 0 where
   pub socket : IcmpSocket
-  pub here : slice_get C.sockets.places k ≡ Some (Some (Icmp socket))
-  pub endpoint : socket.endpoint ≡ Ident ident
-  pub room : is_room socket.rx (8 + length octets) ≡ true
+  pub here : slice_get H.sockets.places k ≡ Some (Some (Icmp socket))
+  pub endpoint : socket.endpoint ≡ Ident e.ident
+  pub room : is_room socket.rx (8 + length e.octets) ≡ true
+
+-- a ping of A, at the end a, to B, at the end b: what A sends in a call, B receives in a call, and what B sends there,
+-- A receives in another call, where socket k awaits it
+pub record Pings (a b : End) (e : Echo) (i k : ℕ) (asks answers hears : Call) : Type 0 where
+  pub a_knows : Knows (at asks.before asks.moment) a b
+  pub b_knows : Knows (at answers.before answers.moment) b a
+  pub c_knows : Knows (at hears.before hears.moment) a b
+  pub fits : FitsBoth e asks.before answers.before
+  pub sends : SendsPing i a b e asks
+  pub b_takes : Takes (hardware.Ethernet b.hardware_addr) answers.moment
+      (frame_to asks.before b (request_packet a b sends.socket.hop_limit e)) answers.before answers.told answers.after
+  pub a_takes : Takes (hardware.Ethernet a.hardware_addr) hears.moment
+      (frame_to answers.before a (reply_packet b a e)) hears.before hears.told hears.after
+  pub awaits : AwaitsReply k e hears.before
 
 -- A sends the request, B answers it by the reply alone, and the reply, with its identifier, its sequence number and its
 -- data, is last in the queue of A's socket, as from B
-pub record ComesBack (hb : EthernetAddress) (ha : EthernetAddress) (a b : Ipv4Address) (hop_limit ident seq_no : ℕ)
-    (octets : List ℕ) (k : ℕ)
-    (A B C' : Host) (told_a told_b : List Event) (socket : IcmpSocket) : Type 0 where
+pub record ComesBack (a b : End) (hop_limit : ℕ) (e : Echo) (k : ℕ) (asks answers hears : Call)
+    (socket : IcmpSocket) : Type 0 where
   pub front : List (List ℕ)
   pub back : List (List ℕ)
-  pub request : sent_frames told_a
-      ≡ front ++ (message_frame A hb (message_packet a b hop_limit (EchoRequest ident seq_no) octets) ∷ back)
-  pub reply : sent_frames told_b ≡ message_frame B ha (message_packet b a 64 (EchoReply ident seq_no) octets) ∷ []
+  pub request : sent_frames asks.told
+      ≡ front ++ (frame_to asks.before b (request_packet a b hop_limit e) ∷ back)
+  pub reply : sent_frames answers.told ≡ frame_to answers.before a (reply_packet b a e) ∷ []
   pub message : List ℕ
-  pub queued : slice_get C'.sockets.places k ≡ Some (Some (Icmp (record socket {
-    rx = record socket.rx { packets = socket.rx.packets ++ (Ipv4 b, message) ∷ [] };
+  pub queued : slice_get hears.after.sockets.places k ≡ Some (Some (Icmp (record socket {
+    rx = record socket.rx { packets = socket.rx.packets ++ (Ipv4 b.addr, message) ∷ [] };
   })))
-  pub values : icmpv4_in message ≡ (EchoReply ident seq_no, octets)
+  pub values : icmpv4_in message ≡ (EchoReply e.ident e.seq_no, e.octets)
 
 abbrev pub PingsComeBack : Type 0
 PingsComeBack =
-    (ha hb : EthernetAddress) (a b : Ipv4Address) (ident seq_no : ℕ) (octets : List ℕ) (t u v : ℤ) (i k : ℕ)
-    (A A' B B' C C' : Host) (told_a told_b told_c : List Event) →
-    (p : Pings ha hb a b ident seq_no octets t u v i k A A' B B' C C' told_a told_b told_c) →
-    ComesBack hb ha a b p.sends.socket.hop_limit ident seq_no octets k A B C' told_a told_b p.socket
+    (a b : End) (e : Echo) (i k : ℕ) (asks answers hears : Call) → (p : Pings a b e i k asks answers hears) →
+    ComesBack a b p.sends.socket.hop_limit e k asks answers hears p.awaits.socket
