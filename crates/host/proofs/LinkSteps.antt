@@ -34,7 +34,7 @@ use Rattle.host.specs.Commands.{HostRefinesCommand}
 use Rattle.host_machine.specs.Laws.Real.{IsRegular}
 use Rattle.host_machine.specs.Laws.TwoHosts.{WereSent}
 use Rattle.host.specs.Link.{End, Owns, Acts, sent_since, Links, Stops, OnA, OnB, ToA, ToB, NoneToA, NoneToB, IsDone, end_of}
-use Rattle.host.specs.Link.{HandsOver, NoFrame, OneFrame, RebuildsCuts, RebuildsFew, GetsDatagrams, Went, Goes, LinkGoes}
+use Rattle.host.specs.Link.{HandsOver, NoFrame, OneFrame, RebuildsCuts, RebuildsFew, GetsDatagrams, Brings, Went, Goes, LinkGoes}
 
 -- the ends named the other way round
 abbrev turn : List LinkStep → List LinkStep
@@ -328,6 +328,18 @@ gets H last_a K last_b ps qs regular_h regular_k ra rb were = λ medium nobody.
 rebuilds_few : {last_a : Host} (H K : Host) (ps qs : List Transition) → Run H ps last_a → RebuildsCuts H K ps qs → RebuildsFew H K ps qs
 rebuilds_few H K ps qs ra cuts = λ medium left few free. cuts medium left ((run_laws ra).own_keys few) free
 
+-- what came from one end to the other
+brings : (H last_a K last_b : Host) (ps qs : List Transition) → IsRegular H → IsRegular K → Run H ps last_a → Run K qs last_b → WereSent ps qs →
+    Brings H K ps qs
+brings H last_a K last_b ps qs regular_h regular_k ra rb were =
+    let cuts = rebuilds H last_a K last_b ps qs regular_h regular_k ra rb were in
+    record {
+      received = were;
+      rebuilds = cuts;
+      few = rebuilds_few H K ps qs ra cuts;
+      gets = gets H last_a K last_b ps qs regular_h regular_k ra rb were;
+    }
+
 pub link_went : {O P : Type 0} (did_a : Owns O) (did_b : Owns P) (m n : ℕ) (steps done : List LinkStep)
     (answer : Result (Unit {0}) LinkError) (a a' : Linked O) (b b' : Linked P) →
     m ≡ length a.device.sent → n ≡ length b.device.sent → a.device.queued ≡ [] → b.device.queued ≡ [] → IsFit a → IsFit b →
@@ -339,34 +351,27 @@ link_went did_a did_b m n steps done answer a a' b b' is_m is_n none_a none_b fi
     (end_of b' went.last_b) (end_of a' went.last_a) = turned went.links in
     let regular_a = fit_a a.sockets H h in
     let regular_b = fit_b b.sockets K k in
-    let cuts_b =
-    rebuilds H went.last_a K went.last_b went.ps went.qs regular_a regular_b (run_a went.links) (run_a over) (were_sent went.links refl none_b) in
-    let cuts_a =
-    rebuilds K went.last_b H went.last_a went.qs went.ps regular_b regular_a (run_a over) (run_a went.links) (were_sent over refl none_a) in
     let laws_a = run_laws (run_a went.links) in
     let laws_b = run_laws (run_a over) in record {
       done = done;
       is_done = is_done';
       went = went;
-      run_a = run_a went.links;
-      run_b = run_a over;
-      regular_a = regular_a;
-      regular_b = regular_b;
-      laws_a = laws_a;
-      laws_b = laws_b;
-      datagrams_a = runs_keep_datagrams H went.last_a went.ps (run_a went.links);
-      datagrams_b = runs_keep_datagrams K went.last_b went.qs (run_a over);
-      rest_a = runs_rest H went.last_a went.ps (run_a went.links);
-      rest_b = runs_rest K went.last_b went.qs (run_a over);
-      to_b = were_sent went.links refl none_b;
-      to_a = were_sent over refl none_a;
-      rebuilds_b = cuts_b;
-      rebuilds_a = cuts_a;
-      few_b = rebuilds_few H K went.ps went.qs (run_a went.links) cuts_b;
-      few_a = rebuilds_few K H went.qs went.ps (run_a over) cuts_a;
-      gets_b =
-          gets H went.last_a K went.last_b went.ps went.qs regular_a regular_b (run_a went.links) (run_a over) (were_sent went.links refl none_b);
-      gets_a = gets K went.last_b H went.last_a went.qs went.ps regular_b regular_a (run_a over) (run_a went.links) (were_sent over refl none_a);
+      a = record {
+        run = run_a went.links;
+        regular = regular_a;
+        laws = laws_a;
+        datagrams = runs_keep_datagrams H went.last_a went.ps (run_a went.links);
+        rest = runs_rest H went.last_a went.ps (run_a went.links);
+      };
+      b = record {
+        run = run_a over;
+        regular = regular_b;
+        laws = laws_b;
+        datagrams = runs_keep_datagrams K went.last_b went.qs (run_a over);
+        rest = runs_rest K went.last_b went.qs (run_a over);
+      };
+      to_b = brings H went.last_a K went.last_b went.ps went.qs regular_a regular_b (run_a went.links) (run_a over) (were_sent went.links refl none_b);
+      to_a = brings K went.last_b H went.last_a went.qs went.ps regular_b regular_a (run_a over) (run_a went.links) (were_sent over refl none_a);
       pings_a = runs_return H K went.ps went.qs laws_a laws_b;
       pings_b = runs_return K H went.qs went.ps laws_b laws_a;
     }

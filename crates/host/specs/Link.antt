@@ -166,35 +166,36 @@ GetsDatagrams H K ps qs =
     K.capabilities.medium ≡ H.capabilities.medium →
     AllByRecursion (λ p. NoSocketWritesUdp p.before) ps → GetWhatWasSent H K ps qs
 
--- what `link` did: some of its steps, which ones by its answer. So the ends made runs that satisfy the laws; what was
--- received in each was sent in the other; what one end reassembles is what the other fragmented; and what UDP sockets
--- of one get those of the other sent
+-- what an end did by itself: a run, from a regular host, that keeps the laws of every run
+pub record KeepsLaws (H last : Host) (ps : List Transition) : Type 0 where
+  pub run : Run H ps last
+  pub regular : IsRegular H
+  pub laws : Laws H ps
+  pub datagrams : KeepsDatagrams H last ps
+  pub rest : ComeToRest ps
+
+-- what came from one end, H, to the other, K: each frame received there was sent, what is reassembled there was
+-- fragmented, and what UDP sockets get there was sent by those of H
+pub record Brings (H K : Host) (ps qs : List Transition) : Type 0 where
+  pub received : WereSent ps qs
+  pub rebuilds : RebuildsCuts H K ps qs
+  pub few : RebuildsFew H K ps qs
+  pub gets : GetsDatagrams H K ps qs
+
+-- what `link` did: some of its steps, which ones by its answer. So the ends made runs that satisfy the laws; what came
+-- to each is from the other; and pings between them come back
 pub record LinkWent {O P : Type 0} (did_a : Owns O) (did_b : Owns P) (steps : List LinkStep)
     (answer : Result (Unit {0}) LinkError)
-    (a a' : Linked O) (b b' : Linked P) (H K : Host) : Type 0 where
+    (x x' : Linked O) (y y' : Linked P) (H K : Host) : Type 0 where
   pub done : List LinkStep
-  pub is_done : IsDone steps (length a.device.sent) (length b.device.sent) a'.device b'.device answer done
-  pub went : Went did_a did_b (length a.device.sent) (length b.device.sent) done a a' b b' H K
-  pub run_a : Run H went.ps went.last_a
-  pub run_b : Run K went.qs went.last_b
-  pub regular_a : IsRegular H
-  pub regular_b : IsRegular K
-  pub laws_a : Laws H went.ps
-  pub laws_b : Laws K went.qs
-  pub datagrams_a : KeepsDatagrams H went.last_a went.ps
-  pub datagrams_b : KeepsDatagrams K went.last_b went.qs
-  pub rest_a : ComeToRest went.ps
-  pub rest_b : ComeToRest went.qs
-  pub to_b : WereSent went.ps went.qs
-  pub to_a : WereSent went.qs went.ps
-  pub rebuilds_b : RebuildsCuts H K went.ps went.qs
-  pub rebuilds_a : RebuildsCuts K H went.qs went.ps
-  pub few_b : RebuildsFew H K went.ps went.qs
-  pub few_a : RebuildsFew K H went.qs went.ps
-  pub gets_b : GetsDatagrams H K went.ps went.qs
-  pub gets_a : GetsDatagrams K H went.qs went.ps
-  pub pings_a : PingsReturn laws_a.calls.calls.singles laws_b.calls.calls.singles
-  pub pings_b : PingsReturn laws_b.calls.calls.singles laws_a.calls.calls.singles
+  pub is_done : IsDone steps (length x.device.sent) (length y.device.sent) x'.device y'.device answer done
+  pub went : Went did_a did_b (length x.device.sent) (length y.device.sent) done x x' y y' H K
+  pub a : KeepsLaws H went.last_a went.ps
+  pub b : KeepsLaws K went.last_b went.qs
+  pub to_b : Brings H K went.ps went.qs
+  pub to_a : Brings K H went.qs went.ps
+  pub pings_a : PingsReturn a.laws.calls.calls.singles b.laws.calls.calls.singles
+  pub pings_b : PingsReturn b.laws.calls.calls.singles a.laws.calls.calls.singles
 
 -- that, from all hosts that both ends stood for
 abbrev pub LinkGoes : {O P : Type 0} → Owns O → Owns P → List LinkStep → Result (Unit {0}) LinkError → Linked O →
