@@ -1,5 +1,5 @@
 //! Packets that sockets send and receive.
-ghost use Rattle.std.specs.Prelude.{◌≡◌, ◌≢◌, IsSomeAnd};
+ghost use Rattle.std.specs.Prelude.{◌≡◌, ◌≢◌, IsSomeAnd, drop};
 ghost use Rattle.iface_c.specs.Addresses.{address_in, end_in};
 ghost use Rattle.iface_c.specs.Calls.{Did};
 ghost use Rattle.iface_c.specs.Handle.{host_in};
@@ -106,6 +106,7 @@ pub extern "C" fn iface_udp_receive(
         (λ old new. ReceivesUdp socket remote.new length.new out.new old new) handle.old handle.new }
     ensures code { result ≡ code_by (λ host. refusals.udp_unreceived host socket (len out.old)) (host_in handle.old) }
     ensures kept { result ≢ 0 → (remote.new ≡ remote.old) × (out.new ≡ out.old) × (length.new ≡ length.old) }
+    ensures behind { result ≡ 0 → drop length.new out.new ≡ drop length.new out.old }
 {
     let Some(mut host) = handle.take(alloc) else {
         return NO_HOST;
@@ -136,6 +137,7 @@ pub extern "C" fn iface_icmp_receive(
         (λ old new. ReceivesIcmp socket remote.new length.new out.new old new) handle.old handle.new }
     ensures code { result ≡ code_by (λ host. refusals.icmp_unreceived host socket (len out.old)) (host_in handle.old) }
     ensures kept { result ≢ 0 → (remote.new ≡ remote.old) × (out.new ≡ out.old) × (length.new ≡ length.old) }
+    ensures behind { result ≡ 0 → drop length.new out.new ≡ drop length.new out.old }
 {
     let Some(mut host) = handle.take(alloc) else {
         return NO_HOST;
@@ -164,6 +166,7 @@ pub extern "C" fn iface_raw_receive(
     ensures done { Did result (λ old new. ReceivesRaw socket length.new out.new old new) handle.old handle.new }
     ensures code { result ≡ code_by (λ host. refusals.raw_unreceived host socket (len out.old)) (host_in handle.old) }
     ensures kept { result ≢ 0 → (out.new ≡ out.old) × (length.new ≡ length.old) }
+    ensures behind { result ≡ 0 → drop length.new out.new ≡ drop length.new out.old }
 {
     let Some(mut host) = handle.take(alloc) else {
         return NO_HOST;
@@ -193,6 +196,7 @@ pub extern "C" fn iface_udp_peek(
         (λ old new. PeeksUdp socket remote.new length.new out.new old new) handle.old handle.new }
     ensures code { result ≡ code_by (λ host. refusals.udp_unreceived host socket (len out.old)) (host_in handle.old) }
     ensures kept { result ≢ 0 → (remote.new ≡ remote.old) × (out.new ≡ out.old) × (length.new ≡ length.old) }
+    ensures behind { result ≡ 0 → drop length.new out.new ≡ drop length.new out.old }
 {
     let Some(host) = handle.take(alloc) else {
         return NO_HOST;
@@ -223,6 +227,7 @@ pub extern "C" fn iface_icmp_peek(
         (λ old new. PeeksIcmp socket remote.new length.new out.new old new) handle.old handle.new }
     ensures code { result ≡ code_by (λ host. refusals.icmp_unreceived host socket (len out.old)) (host_in handle.old) }
     ensures kept { result ≢ 0 → (remote.new ≡ remote.old) × (out.new ≡ out.old) × (length.new ≡ length.old) }
+    ensures behind { result ≡ 0 → drop length.new out.new ≡ drop length.new out.old }
 {
     let Some(host) = handle.take(alloc) else {
         return NO_HOST;
@@ -251,6 +256,7 @@ pub extern "C" fn iface_raw_peek(
     ensures done { Did result (λ old new. PeeksRaw socket length.new out.new old new) handle.old handle.new }
     ensures code { result ≡ code_by (λ host. refusals.raw_unreceived host socket (len out.old)) (host_in handle.old) }
     ensures kept { result ≢ 0 → (out.new ≡ out.old) × (length.new ≡ length.old) }
+    ensures behind { result ≡ 0 → drop length.new out.new ≡ drop length.new out.old }
 {
     let Some(host) = handle.take(alloc) else {
         return NO_HOST;

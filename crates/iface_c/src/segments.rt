@@ -1,5 +1,5 @@
 //! Segments of TCP, which sockets hand in and out.
-ghost use Rattle.std.specs.Prelude.{◌≡◌, ◌≢◌, IsSomeAnd};
+ghost use Rattle.std.specs.Prelude.{◌≡◌, ◌≢◌, IsSomeAnd, drop};
 ghost use Rattle.std.specs.Prelude.{length as len};
 ghost use Rattle.iface_c.specs.Calls.{Did};
 ghost use Rattle.iface_c.specs.Handle.{host_in};
@@ -239,6 +239,7 @@ pub extern "C" fn iface_tcp_receive(
         (λ old new. ReceivesTcp socket segment.new length.new out.new old new) handle.old handle.new }
     ensures code { result ≡ code_by (λ host. segments.tcp_unreceived host socket (len out.old)) (host_in handle.old) }
     ensures kept { result ≢ 0 → (segment.new ≡ segment.old) × (out.new ≡ out.old) × (length.new ≡ length.old) }
+    ensures behind { result ≡ 0 → drop length.new out.new ≡ drop length.new out.old }
 {
     let Some(mut host) = handle.take(alloc) else {
         return NO_HOST;
@@ -269,6 +270,7 @@ pub extern "C" fn iface_tcp_peek(
         (λ old new. PeeksTcp socket segment.new length.new out.new old new) handle.old handle.new }
     ensures code { result ≡ code_by (λ host. segments.tcp_unreceived host socket (len out.old)) (host_in handle.old) }
     ensures kept { result ≢ 0 → (segment.new ≡ segment.old) × (out.new ≡ out.old) × (length.new ≡ length.old) }
+    ensures behind { result ≡ 0 → drop length.new out.new ≡ drop length.new out.old }
 {
     let Some(host) = handle.take(alloc) else {
         return NO_HOST;

@@ -1,5 +1,5 @@
 //! What sockets send and receive.
-ghost use Rattle.std.specs.Prelude.{◌≡◌, ◌≤◌, true, IfOk, OnOk, OnErr, Some, length, take};
+ghost use Rattle.std.specs.Prelude.{◌≡◌, ◌≤◌, true, IfOk, OnOk, OnErr, Some, drop, length, take};
 ghost use Rattle.std.specs.Option.{option_map};
 ghost use Rattle.std.specs.Result.{result_err};
 ghost use Rattle.iface_host.specs.Refusals as refusals;
@@ -119,6 +119,7 @@ impl Host {
         out: &mut [u8],
     ) -> Result<(IpEndpoint, usize), Refusal>
         ensures received { IfOk result (λ r. ReceivesUdp number r.0 r.1 out.new self.old self.new) }
+        ensures behind { IfOk result (λ r. drop r.1 out.new ≡ drop r.1 out.old) }
         ensures why { result_err result ≡ refusals.udp_unreceived self.old number (length out.old) }
         ensures refused { OnErr result (self.new ≡ self.old) }
         ensures out { OnErr result (out.new ≡ out.old) }
@@ -142,6 +143,7 @@ impl Host {
         out: &mut [u8],
     ) -> Result<(IpAddress, usize), Refusal>
         ensures received { IfOk result (λ r. ReceivesIcmp number r.0 r.1 out.new self.old self.new) }
+        ensures behind { IfOk result (λ r. drop r.1 out.new ≡ drop r.1 out.old) }
         ensures why { result_err result ≡ refusals.icmp_unreceived self.old number (length out.old) }
         ensures refused { OnErr result (self.new ≡ self.old) }
         ensures out { OnErr result (out.new ≡ out.old) }
@@ -161,6 +163,7 @@ impl Host {
     #[tactic(auto, using(crate::proofs::Places::host_same))]
     pub fn receive_raw(&mut self, number: u32, out: &mut [u8]) -> Result<usize, Refusal>
         ensures received { IfOk result (λ n. ReceivesRaw number n out.new self.old self.new) }
+        ensures behind { IfOk result (λ n. drop n out.new ≡ drop n out.old) }
         ensures why { result_err result ≡ refusals.raw_unreceived self.old number (length out.old) }
         ensures refused { OnErr result (self.new ≡ self.old) }
         ensures out { OnErr result (out.new ≡ out.old) }
@@ -179,6 +182,7 @@ impl Host {
     /// Writes the first datagram that came as [`Host::receive_udp`] does, and fails as it does. It stays.
     pub fn peek_udp(&self, number: u32, out: &mut [u8]) -> Result<(IpEndpoint, usize), Refusal>
         ensures peeked { IfOk result (λ r. PeeksUdp number r.0 r.1 out.new self.now) }
+        ensures behind { IfOk result (λ r. drop r.1 out.new ≡ drop r.1 out.old) }
         ensures why { result_err result ≡ refusals.udp_unreceived self.now number (length out.old) }
         ensures out { OnErr result (out.new ≡ out.old) }
     {
@@ -194,6 +198,7 @@ impl Host {
     /// The same of an ICMP socket, as [`Host::receive_icmp`].
     pub fn peek_icmp(&self, number: u32, out: &mut [u8]) -> Result<(IpAddress, usize), Refusal>
         ensures peeked { IfOk result (λ r. PeeksIcmp number r.0 r.1 out.new self.now) }
+        ensures behind { IfOk result (λ r. drop r.1 out.new ≡ drop r.1 out.old) }
         ensures why { result_err result ≡ refusals.icmp_unreceived self.now number (length out.old) }
         ensures out { OnErr result (out.new ≡ out.old) }
     {
@@ -209,6 +214,7 @@ impl Host {
     /// The same of a raw socket, as [`Host::receive_raw`].
     pub fn peek_raw(&self, number: u32, out: &mut [u8]) -> Result<usize, Refusal>
         ensures peeked { IfOk result (λ n. PeeksRaw number n out.new self.now) }
+        ensures behind { IfOk result (λ n. drop n out.new ≡ drop n out.old) }
         ensures why { result_err result ≡ refusals.raw_unreceived self.now number (length out.old) }
         ensures out { OnErr result (out.new ≡ out.old) }
     {
@@ -247,14 +253,15 @@ impl Host {
     }
 }
 
-/// Writes the first packet that came to the front of a buffer, and returns what is kept with it, and its length.
-/// `Empty` if none came, `NoRoom` if it is longer than the buffer; then the buffer stays as it was.
+/// Writes the first packet that came to the front of a buffer, and returns what is kept with it, and its length. Behind
+/// it the buffer stays. `Empty` if none came, `NoRoom` if it is longer than the buffer; then all of the buffer stays.
 pub(crate) fn write_first<M: Copy>(
     first: Option<(&M, &[u8])>,
     out: &mut [u8],
 ) -> Result<(M, usize), Refusal>
     ensures written { IfOk result (λ r. option_map lent_packet first.entry ≡ Some (r.0, take r.1 out.new)) }
     ensures within { IfOk result (λ r. r.1 ≤ length out.new) }
+    ensures behind { IfOk result (λ r. drop r.1 out.new ≡ drop r.1 out.old) }
     ensures why { result_err result
         ≡ refusals.of_packet (length out.old) (option_map lent_packet first.entry) }
     ensures out { OnErr result (out.new ≡ out.old) }

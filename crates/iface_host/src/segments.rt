@@ -1,5 +1,5 @@
 //! Segments of TCP (RFC 9293), which sockets hand in and out. No connection is kept.
-ghost use Rattle.std.specs.Prelude.{◌≡◌, IfOk, IfErr, OnOk, OnErr, None, Some, length};
+ghost use Rattle.std.specs.Prelude.{◌≡◌, IfOk, IfErr, OnOk, OnErr, None, Some, drop, length};
 ghost use Rattle.std.specs.Result.{IsErrOf, result_err};
 ghost use Rattle.iface_host.specs.Segments.{AbortsTcp, HoldsTcp, PeeksTcp, ReceivesTcp, SendsTcp};
 ghost use Rattle.iface_host.specs.Segments.{abort_refusal, has_port_0, hold_refusal, is_to_nowhere, tcp};
@@ -88,6 +88,7 @@ impl Host {
         out: &mut [u8],
     ) -> Result<(tcp::Segment, usize), Refusal>
         ensures received { IfOk result (λ r. ReceivesTcp number r.0 r.1 out.new self.old self.new) }
+        ensures behind { IfOk result (λ r. drop r.1 out.new ≡ drop r.1 out.old) }
         ensures why { result_err result ≡ tcp_unreceived self.old number (length out.old) }
         ensures refused { OnErr result (self.new ≡ self.old) }
         ensures out { OnErr result (out.new ≡ out.old) }
@@ -106,6 +107,7 @@ impl Host {
     /// Writes the first segment that came as [`Host::receive_tcp`] does, and fails as it does. It stays.
     pub fn peek_tcp(&self, number: u32, out: &mut [u8]) -> Result<(tcp::Segment, usize), Refusal>
         ensures peeked { IfOk result (λ r. PeeksTcp number r.0 r.1 out.new self.now) }
+        ensures behind { IfOk result (λ r. drop r.1 out.new ≡ drop r.1 out.old) }
         ensures why { result_err result ≡ tcp_unreceived self.now number (length out.old) }
         ensures out { OnErr result (out.new ≡ out.old) }
     {
