@@ -10,6 +10,7 @@ pub mod RoundWithoutPieces
 pub mod SettledFields
 pub mod Turns
 pub mod CallDeterminism
+pub mod Configured
 pub mod EarliestInstant
 pub mod LoopDeterminism
 pub mod OneFrameCalls

@@ -22,6 +22,7 @@ pub mod Many
 pub mod DueReports
 pub mod HeardQueries
 pub mod Autoconfiguration
+pub mod Configured
 pub mod Reassembled
 pub mod ReplyOctets
 pub mod RequestOctets

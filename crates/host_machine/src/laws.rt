@@ -2,11 +2,11 @@
 ghost use Rattle.host_machine.specs.Examples.ArpAndEcho.{EchoIsAnswered, PacketIsAnswered};
 ghost use Rattle.host_machine.specs.Examples.ArpAndEcho.{RequestIsAnswered, SenderIsDiscovered};
 ghost use Rattle.host_machine.specs.Examples.AnyIp.{AddressesAreRoutedHere};
-ghost use Rattle.host_machine.specs.Laws.Arrivals.{FewAreKept, PiecesAreRebuilt, PiecesArriveInTime};
+ghost use Rattle.host_machine.specs.Laws.Arrivals.{FragmentsLeaveFewRanges, PiecesAreRebuilt, PiecesArriveInTime};
 ghost use Rattle.host_machine.specs.Examples.Discovery.{NeighborIsSolicited};
 ghost use Rattle.host_machine.specs.Examples.Ipv6 as ipv6;
 ghost use Rattle.host_machine.specs.Examples.Groups.{GroupsFollowAddresses, JoinsAreReported};
-ghost use Rattle.host_machine.specs.Examples.Groups.{LeaveIsReported, QueriesAreAnswered, RefusalsAreApart};
+ghost use Rattle.host_machine.specs.Examples.Groups.{LeaveIsReported, QueriesAreAnswered, EachPartAsksForAToken};
 ghost use Rattle.host_machine.specs.Examples.Slaac.{AddressesFollowPrefixes, AdvertisementsAreApplied, RoutersAreAsked};
 ghost use Rattle.host_machine.specs.Examples.Fragments.{DatagramIsRebuilt, FragmentWaits};
 ghost use Rattle.host_machine.specs.Examples.Fragments.{PacketGoesInPieces, TenAreCut, TimeoutsAreTested};
@@ -20,6 +20,7 @@ ghost use Rattle.host_machine.specs.Laws.Determined.{DispatchIsDetermined, Egres
 ghost use Rattle.host_machine.specs.Laws.Determined.{IngressIsDetermined, PollIsDetermined};
 ghost use Rattle.host_machine.specs.Laws.Determined.{ReceptionIsDetermined, RunIsDetermined, StepIsDetermined};
 ghost use Rattle.host_machine.specs.Laws.Autoconfiguration.{AdvertisedAddressesStand, AdvertisementsAreLearnt};
+ghost use Rattle.host_machine.specs.Laws.Configured.{AnyIpIsSet, HostsBeginWithNothing, RoutesAreSet};
 ghost use Rattle.host_machine.specs.Laws.HeardQueries.{QueriesAreHeard};
 ghost use Rattle.host_machine.specs.Laws.Protocols.{UnknownOptionsAreAnswered, UnknownProtocolsAreAnswered};
 ghost use Rattle.host_machine.specs.Laws.Reassembled.{LongPingsAreAnswered, RebuiltDatagramsAreQueued};
@@ -182,7 +183,7 @@ pub fn pieces_are_read()
 
 /// A fragment that follows at most three others leaves at most four separate ranges.
 pub fn fragments_leave_few_ranges()
-    ensures { FewAreKept }
+    ensures { FragmentsLeaveFewRanges }
 {}
 
 /// A socket that is asked before the instant that it names offers nothing, and stays the same.
@@ -327,7 +328,7 @@ pub fn queries_are_answered()
 /// A worked example: without transmit tokens, joins, leaves and reports each ask for one of their own; an IGMP report
 /// stays due, and an MLD report is dropped.
 pub fn each_part_asks_for_a_token()
-    ensures { RefusalsAreApart }
+    ensures { EachPartAsksForAToken }
 {}
 
 /// A worked example: a host with SLAAC solicits routers.
@@ -597,4 +598,20 @@ pub fn arp_senders_are_learnt()
 /// this, and nothing is sent.
 pub fn advertisers_are_learnt()
     ensures { AdvertisersAreLearnt }
+{}
+
+/// An update of the routes leaves just the routes that it lists, and changes nothing else.
+pub fn routes_are_set()
+    ensures { RoutesAreSet }
+{}
+
+/// AnyIP is on or off as it is set, and nothing else changes.
+pub fn any_ip_is_set()
+    ensures { AnyIpIsSet }
+{}
+
+/// At first a host has no address, no route, no neighbour, no group, no slot in use and no pending fragment, and AnyIP is
+/// off.
+pub fn hosts_begin_with_nothing()
+    ensures { HostsBeginWithNothing }
 {}

@@ -129,7 +129,7 @@ busy_host = record (with_mld_report (with_igmp_report (host 0x1405 (record {
 
 -- without transmit tokens, each part asks for its own: the solicitation, the join, the leave and the IGMP report stay
 -- pending, and the MLD report is dropped
-abbrev pub RefusalsAreApart : Type 0
-RefusalsAreApart =
+abbrev pub EachPartAsksForAToken : Type 0
+EachPartAsksForAToken =
     Round false busy_host (Asked (pos 0) false ∷ Asked (pos 0) false ∷ Asked (pos 0) false ∷ Asked (pos 0) false
     ∷ Asked (pos 0) false ∷ []) [] (with_mld_report busy_host mld.Inactive)

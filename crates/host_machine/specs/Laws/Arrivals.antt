@@ -106,5 +106,5 @@ PiecesArriveInTime =
     (rebuilt key before ≡ []) × (rest : List SlotNote) × (after ≡ Rebuild key payload ∷ rest)
 
 -- a fragment that follows at most three others leaves at most four separate ranges
-abbrev pub FewAreKept : Type 0
-FewAreKept = (so_far : List Fragment) (f : Fragment) → length so_far ≤ 3 → keeps_few so_far f ≡ true
+abbrev pub FragmentsLeaveFewRanges : Type 0
+FragmentsLeaveFewRanges = (so_far : List Fragment) (f : Fragment) → length so_far ≤ 3 → keeps_few so_far f ≡ true
