@@ -3,3 +3,4 @@ pub mod Advertisements
 pub mod LearntNeighbors
 pub mod NeighborOrigins
 pub mod RoomMade
+pub mod QuietFrames

@@ -5,6 +5,7 @@ pub mod ReassemblyOrigin
 pub mod IdentificationOrder
 pub mod PieceOrder
 pub mod RunRequests
+pub mod RouterSolicitations
 pub mod RunDeterminism
 pub mod CutIdentifications
 pub mod Quiet
@@ -17,5 +18,6 @@ pub mod FramesOfPackets
 pub mod FramesOfCalls
 pub mod OwnSources
 pub mod FrameSizes
+pub mod ReplyLengths
 pub mod CallLaws
 pub mod DueReports

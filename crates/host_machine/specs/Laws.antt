@@ -6,6 +6,7 @@ pub mod Real
 pub mod Lengths
 pub mod WellFormed
 pub mod Requests
+pub mod Solicitations
 pub mod Ran
 pub mod Unfolded
 pub mod Frames

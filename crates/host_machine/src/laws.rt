@@ -13,7 +13,7 @@ ghost use Rattle.host_machine.specs.Examples.Fragments.{PacketGoesInPieces, TenA
 ghost use Rattle.host_machine.specs.Examples.Polling.{RequestIsPolled, WaitIsDue};
 ghost use Rattle.host_machine.specs.Examples.Sockets.{ConfigurationsAreTested, ConnectionIsReset};
 ghost use Rattle.host_machine.specs.Examples.Sockets.{DatagramIsDelivered, DatagramIsRefused, ProtocolIsRefused};
-ghost use Rattle.host_machine.specs.Examples.Sockets.{RawSocketReceives, SocketWaits, WindowFitsBurst};
+ghost use Rattle.host_machine.specs.Examples.Sockets.{RawSocketReceives, RepliesAreMeasured, SocketWaits, WindowFitsBurst};
 ghost use Rattle.host_machine.specs.Laws.Quiet.{SocketsAreQuiet};
 ghost use Rattle.host_machine.specs.Laws.Refusals.{RefusalsLoseNothing};
 ghost use Rattle.host_machine.specs.Laws.Determined.{DispatchIsDetermined, EgressIsDetermined};
@@ -257,6 +257,12 @@ pub fn connection_is_reset()
 /// A worked example: a packet of an unknown protocol is answered by the error, which quotes it.
 pub fn protocol_is_refused()
     ensures { ProtocolIsRefused }
+{}
+
+/// A worked example: the reply to a ping is as long as the ping, and an error has 28 octets more than the frame for which
+/// it is sent.
+pub fn replies_are_measured()
+    ensures { RepliesAreMeasured }
 {}
 
 /// A worked example: a socket whose destination is unknown waits for a second, and is then asked again.

@@ -13,10 +13,12 @@ ghost use Rattle.host_machine.specs.Laws.Restraint.Rebuilt.{WrongRebuiltPayloads
 ghost use Rattle.host_machine.specs.Laws.Restraint.Replies.{AdvertisementsTellItself, ArpRepliesTellItself};
 ghost use Rattle.host_machine.specs.Laws.Restraint.Replies.{EchoesHaveCause, EchoesV6HaveCause, ErrorsHaveCause};
 ghost use Rattle.host_machine.specs.Laws.Restraint.Replies.{ErrorsV6HaveCause, RepliesAreOfKinds, ResetsHaveCause};
+ghost use Rattle.host_machine.specs.Laws.Restraint.ReplyLengths.{RepliesAreShort};
 ghost use Rattle.host_machine.specs.Laws.Restraint.Settings.{FramesKeepSettings, NeighborRoomStays, OtherStepsKeepSettings};
 ghost use Rattle.host_machine.specs.Laws.Restraint.Settings.{SendingKeepsSettings};
 ghost use Rattle.host_machine.specs.Laws.Restraint.Sources.{SourcesAreOwn};
 ghost use Rattle.host_machine.specs.Laws.Restraint.Words.{WordsAreLists};
+ghost use Rattle.host_machine.specs.Laws.Solicitations.{SolicitationsAreFew};
 ghost use Rattle.host_machine.specs.Laws.WellFormed.{PacketsAreWellFormed};
 
 /// An IPv4 packet to an address in no list of the host's sends nothing: not assigned, no group of the host, no
@@ -145,6 +147,13 @@ pub fn resets_have_cause()
     ensures { ResetsHaveCause }
 {}
 
+/// A call that takes a frame without a fragment sends at most as many octets as the frame has, and 48: an error of ICMPv6
+/// has so many before what it quotes. For a frame of less than 38 octets, as no Ethernet carries, it may send 86, those of
+/// a neighbour solicitation (RFC 4443 2.4).
+pub fn replies_are_short()
+    ensures { RepliesAreShort }
+{}
+
 /// A packet whose values fit their fields is sent as octets in which who verifies every checksum reads the same: the
 /// header, whole, with the length of the payload, and the payload with its checksum, if the host computes all of them.
 /// Its segments have a window within the device's bursts; all else is as its socket, or the host, has it.
@@ -211,6 +220,12 @@ pub fn reports_wait()
 /// 2236 3 and RFC 3810 6.1, by which a host tells again.
 pub fn joins_are_told_once()
     ensures { JoinsAreToldOnce }
+{}
+
+/// A host that has solicited no router solicits routers three times at most, whatever it receives and however the clock
+/// goes, and each time at least four seconds after the one before, unless a raw socket sends ICMPv6 (RFC 4861 6.3.7, 10).
+pub fn solicitations_are_few()
+    ensures { SolicitationsAreFew }
 {}
 
 /// Worked examples: an ARP request, an echo request, a datagram, a segment and a solicitation, each turned in one field,

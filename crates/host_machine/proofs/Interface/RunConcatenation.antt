@@ -13,6 +13,7 @@ use Rattle.host_machine.proofs.Runs.FragmentArrivals.{run_arrivals}
 use Rattle.host_machine.specs.Context.Note.{cut_notes}
 use Rattle.host_machine.proofs.Runs.CutIdentifications.{run_carried, distinct_among, keys_own}
 use Rattle.host_machine.proofs.Runs.RunRequests.{run_asks}
+use Rattle.host_machine.proofs.Runs.RouterSolicitations.{run_solicits}
 use Rattle.host_machine.proofs.Runs.SentPieces.{run_shows}
 use Rattle.host_machine.proofs.Runs.DiscoverySpacing.{run_spaced}
 use Rattle.host_machine.proofs.Runs.ReassemblyOrigin.{run_rebuilt}
@@ -26,6 +27,7 @@ pub run_laws : {first last : Host} {transitions : List Transition} → Run first
 run_laws {first} {last} {transitions} r = record {
   requests_spaced = λ regular all. rw (run_asks first last transitions r regular all) (run_spaced r);
   asks_spaced = run_spaced r;
+  solicitations_few = run_solicits first last transitions r;
   arrivals_match_frames = run_arrivals r;
   fragments_sent_are_pieces = λ real. run_shows first last transitions r real;
   cuts_take_identifications = run_carried r;

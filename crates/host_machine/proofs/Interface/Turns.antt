@@ -42,10 +42,10 @@ use Rattle.host_machine.specs.declared.command.Answer.{Answer}
 use Rattle.host_machine.specs.declared.results.PollIngressSingleResult.{PollIngressSingleResult}
 use Rattle.host_machine.specs.declared.results.PollResult.{PollResult}
 use Rattle.host_machine.specs.declared.results.Turn.{Turn}
-use Rattle.slaac.specs.Slaac.{sync_required, rs_required}
+use Rattle.slaac.specs.Slaac.{sync_required, rs_required, rs_sent}
 use Rattle.host_machine.specs.Context.Addresses.{ipv4_addr, link_local_addr, source_for}
 use Rattle.host_machine.specs.Context.Note.{Note, OfCuts, PieceSent}
-use Rattle.host_machine.specs.Context.Host.{Host, Socket, SocketSet, at, without_expired, with_left, with_groups, with_next_id}
+use Rattle.host_machine.specs.Context.Host.{Host, Socket, SocketSet, at, without_expired, with_left, with_groups, with_next_id, with_slaac}
 use Rattle.host_machine.specs.Packet.Packet.{Packet, IpPayload, packet_with, payload_of}
 use Rattle.host_machine.specs.Packet.Packet as packet
 use Rattle.host_machine.specs.Packet.Frame.{piece_frame, sends}
@@ -79,19 +79,25 @@ use Rattle.host_machine.specs.Laws.Requests.{may_ask, speaks_icmpv6, NoSocketSpe
 use Rattle.host_machine.specs.Interface.Step.{Step, Accepted, Refused, Taken, NotTaken, WithinDay, OverDay}
 use Rattle.host_machine.specs.Interface.Step as step
 use Rattle.host_machine.proofs.Multicast.GroupChanges.{join_groups, leave_groups}
+use Rattle.host_machine.proofs.Context.SolicitationCount.{count_of}
 use Rattle.host_machine.proofs.Context.UnchangedFields.{Keeps, kept, kept_by, unread}
 use Rattle.host_machine.proofs.Interface.PollCalls.{both, polled}
-use Rattle.host_machine.proofs.Interface.OwnMessages.{is_own, own_asks}
+use Rattle.host_machine.proofs.Interface.OwnMessages.{is_own, is_usual, may_solicit, own_asks, usual_own, usual_quiet}
 use Rattle.host_machine.proofs.Sockets.RawProtocols.{NoSpeaker, speaks, get_speaks, set_speaks, asked_speaks, told_speaks}
 
 -- the number of ICMPv6
 abbrev icmpv6 : ℕ → Bool
 icmpv6 n = n == 58
 
--- where a packet comes from that a host dispatches by itself: it has a message of the host's own, or a socket offers it
+-- where a packet comes from that a host dispatches by itself: it has a message of the host's own, or a socket offers it; or it is the
+-- solicitation of routers that is due
+pub data IsUsual (H : Host) (p : Packet) : Type 0 where
+  OfItsOwn : is_usual (payload_of p) ≡ true → IsUsual H p
+  Offers : (i : ℕ) (s : Socket) → slice_get H.sockets.places i ≡ Some (Some s) → packet_from H s ≡ Some p → IsUsual H p
+
 pub data MaySend (H : Host) (p : Packet) : Type 0 where
-  OfItsOwn : is_own (payload_of p) ≡ true → MaySend H p
-  Offers : (i : ℕ) (s : Socket) → slice_get H.sockets.places i ≡ Some (Some s) → packet_from H s ≡ Some p → MaySend H p
+  Usually : IsUsual H p → MaySend H p
+  ToRouters : due_solicitation H ≡ Some p → MaySend H p
 
 -- a packet between two addresses carries what it is to
 pub between_is : (a b : IpAddress) (hop_limit : ℕ) (payload : IpPayload) (p : Packet) →
@@ -103,8 +109,8 @@ between_is (address.Ipv6 a) (address.Ipv4 b) hop_limit payload p e = absurd cc
 between_is (address.Ipv6 a) (address.Ipv6 b) hop_limit payload p e =
     let same : packet.Ipv6 (record { src_addr = a; dst_addr = b; hop_limit = hop_limit; payload = payload }) ≡ p = cc in rw (← same) refl
 
--- what ICMP and TCP sockets offer is of the host's own
-echo_is : (m : IcmpRepr) (octets : List ℕ) (payload : IpPayload) → echo_payload m octets ≡ Some payload → is_own payload ≡ true
+-- what ICMP and TCP sockets offer is a usual message of the host's own
+echo_is : (m : IcmpRepr) (octets : List ℕ) (payload : IpPayload) → echo_payload m octets ≡ Some payload → is_usual payload ≡ true
 echo_is (icmp.Ipv4 (v4.EchoRequest ident seq_no)) octets payload e = let same : packet.Icmpv4 (v4.EchoRequest ident seq_no) octets ≡ payload = cc in
     rw (← same) refl
 echo_is (icmp.Ipv4 (v4.EchoReply ident seq_no)) octets payload e = let same : packet.Icmpv4 (v4.EchoReply ident seq_no) octets ≡ payload = cc in
@@ -123,22 +129,33 @@ echo_is (icmp.Ipv6 (v6.Ndisc message)) octets payload e = absurd cc
 echo_is (icmp.Ipv6 (v6.Router message)) octets payload e = absurd cc
 echo_is (icmp.Ipv6 (v6.Mld message)) octets payload e = absurd cc
 
-icmp_between : (m : icmp_socket.Sent) (o : Option IpPayload) (p : Packet) → ((payload : IpPayload) → o ≡ Some payload → is_own payload ≡ true) →
-    option_and_then (packet_between m.src_addr m.dst_addr m.hop_limit) o ≡ Some p → is_own (payload_of p) ≡ true
+icmp_between : (m : icmp_socket.Sent) (o : Option IpPayload) (p : Packet) → ((payload : IpPayload) → o ≡ Some payload → is_usual payload ≡ true) →
+    option_and_then (packet_between m.src_addr m.dst_addr m.hop_limit) o ≡ Some p → is_usual (payload_of p) ≡ true
 icmp_between m None p all e = absurd cc
 icmp_between m (Some payload) p all e = rw (between_is m.src_addr m.dst_addr m.hop_limit payload p e) (all payload refl)
 
+icmp_usual : (o : Option icmp_socket.Sent) (p : Packet) → option_and_then packet_of (option_map IcmpOffer o) ≡ Some p → is_usual (payload_of p) ≡ true
+icmp_usual None p e = absurd cc
+icmp_usual (Some m) p e = icmp_between m (echo_payload m.repr m.payload) p (λ payload is. echo_is m.repr m.payload payload is) e
+
+tcp_usual : (o : Option tcp_socket.Sent) (p : Packet) → option_and_then packet_of (option_map TcpOffer o) ≡ Some p → is_usual (payload_of p) ≡ true
+tcp_usual None p e = absurd cc
+tcp_usual (Some s) p e = rw (between_is s.src_addr s.dst_addr s.hop_limit _ p e) refl
+
 pub icmp_is : (o : Option icmp_socket.Sent) (p : Packet) → option_and_then packet_of (option_map IcmpOffer o) ≡ Some p → is_own (payload_of p) ≡ true
-icmp_is None p e = absurd cc
-icmp_is (Some m) p e = icmp_between m (echo_payload m.repr m.payload) p (λ payload is. echo_is m.repr m.payload payload is) e
+icmp_is o p e = usual_own (payload_of p) (icmp_usual o p e)
 
 pub tcp_is : (o : Option tcp_socket.Sent) (p : Packet) → option_and_then packet_of (option_map TcpOffer o) ≡ Some p → is_own (payload_of p) ≡ true
-tcp_is None p e = absurd cc
-tcp_is (Some s) p e = rw (between_is s.src_addr s.dst_addr s.hop_limit _ p e) refl
+tcp_is o p e = usual_own (payload_of p) (tcp_usual o p e)
 
 udp_is : (o : Option udp_socket.Datagram) (p : Packet) → option_and_then packet_of (option_map UdpOffer o) ≡ Some p → may_ask (payload_of p) ≡ false
 udp_is None p e = absurd cc
 udp_is (Some d) p e = rw (between_is d.src.addr d.dst.addr d.hop_limit _ p e) refl
+
+udp_quiet : (o : Option udp_socket.Datagram) (p : Packet) → option_and_then packet_of (option_map UdpOffer o) ≡ Some p →
+    may_solicit (payload_of p) ≡ false
+udp_quiet None p e = absurd cc
+udp_quiet (Some d) p e = rw (between_is d.src.addr d.dst.addr d.hop_limit _ p e) refl
 
 -- what a raw socket offers is of its protocol
 pub record IsRaw (s : RawSocket) (p : Packet) : Type 0 where
@@ -178,44 +195,65 @@ offered_is H (Icmp s) p e other = own_asks (payload_of p) (icmp_is (icmp_socket.
 offered_is H (Udp s) p e other = udp_is (udp_socket.offered_packet (source_for H.ip_addrs) s) p e
 offered_is H (Tcp s) p e other = own_asks (payload_of p) (tcp_is (tcp_socket.offered_packet H.moment (source_for H.ip_addrs) s) p e)
 
-pub sent_is : (H : Host) (p : Packet) → NoSocketSpeaks H → MaySend H p → may_ask (payload_of p) ≡ false
-sent_is H p none (OfItsOwn is) = own_asks (payload_of p) is
-sent_is H p none (Offers i s there offers) = offered_is H s p offers (get_speaks icmpv6 H.sockets.places i (Some s) there none)
+-- nor does it solicit a router
+offered_quiet : (H : Host) (s : Socket) (p : Packet) → packet_from H s ≡ Some p → speaks_icmpv6 (Some s) ≡ false → may_solicit (payload_of p) ≡ false
+offered_quiet H (Raw s) p e other = let r = first_is s (first_of s.tx.packets) p e in rw (r.is, r.same) other
+offered_quiet H (Icmp s) p e other = usual_quiet (payload_of p) (icmp_usual (icmp_socket.offered_packet (source_for H.ip_addrs) s) p e)
+offered_quiet H (Udp s) p e other = udp_quiet (udp_socket.offered_packet (source_for H.ip_addrs) s) p e
+offered_quiet H (Tcp s) p e other = usual_quiet (payload_of p) (tcp_usual (tcp_socket.offered_packet H.moment (source_for H.ip_addrs) s) p e)
 
--- messages to routers are of the host's own
-igmp_is : (own : List IpCidr) (dst : Ipv4Address) (m : IgmpRepr) (p : Packet) → igmp_packet own dst m ≡ Some p → is_own (payload_of p) ≡ true
-igmp_is own dst m p e = by (ipv4_addr own) e where
+usual_is : (H : Host) (p : Packet) → NoSocketSpeaks H → IsUsual H p → may_ask (payload_of p) ≡ false
+usual_is H p none (OfItsOwn is) = own_asks (payload_of p) (usual_own (payload_of p) is)
+usual_is H p none (Offers i s there offers) = offered_is H s p offers (get_speaks icmpv6 H.sockets.places i (Some s) there none)
+
+pub sent_quiet : (H : Host) (p : Packet) → NoSocketSpeaks H → IsUsual H p → may_solicit (payload_of p) ≡ false
+sent_quiet H p none (OfItsOwn is) = usual_quiet (payload_of p) is
+sent_quiet H p none (Offers i s there offers) = offered_quiet H s p offers (get_speaks icmpv6 H.sockets.places i (Some s) there none)
+
+-- reports of groups are usual messages of the host's own
+igmp_usual : (own : List IpCidr) (dst : Ipv4Address) (m : IgmpRepr) (p : Packet) → igmp_packet own dst m ≡ Some p → is_usual (payload_of p) ≡ true
+igmp_usual own dst m p e = by (ipv4_addr own) e where
   by : (o : Option Ipv4Address) →
       option_map (λ src. packet.Ipv4 (record { src_addr = src; dst_addr = dst; hop_limit = 1; payload = packet.Igmp m })) o ≡ Some p →
-      is_own (payload_of p) ≡ true
+      is_usual (payload_of p) ≡ true
   by None q = absurd cc
   by (Some src) q = let same : packet.Ipv4 (record { src_addr = src; dst_addr = dst; hop_limit = 1; payload = packet.Igmp m }) ≡ p = cc in
       rw (← same) refl
 
-mld_is : (p q : Packet) → is_own (payload_of p) ≡ true → Some p ≡ Some q → is_own (payload_of q) ≡ true
-mld_is p q none e = let same : p ≡ q = cc in rw (← same) none
+same_test : (test : IpPayload → Bool) (p q : Packet) → test (payload_of p) ≡ true → Some p ≡ Some q → test (payload_of q) ≡ true
+same_test test p q is e = let same : p ≡ q = cc in rw (← same) is
+
+join_usual : (own : List IpCidr) (a : IpAddress) (p : Packet) → join_packet own a ≡ Some p → is_usual (payload_of p) ≡ true
+join_usual own (address.Ipv4 a) p e = igmp_usual own a _ p e
+join_usual own (address.Ipv6 a) p e = same_test is_usual _ p refl e
+
+leave_usual : (own : List IpCidr) (a : IpAddress) (p : Packet) → leave_packet own a ≡ Some p → is_usual (payload_of p) ≡ true
+leave_usual own (address.Ipv4 a) p e = igmp_usual own igmp_rules.all_routers _ p e
+leave_usual own (address.Ipv6 a) p e = same_test is_usual _ p refl e
+
+report_usual : (H : Host) (p : Packet) → next_report H ≡ Some p → is_usual (payload_of p) ≡ true
+report_usual H p e = by (next_group H H.igmp_report) e where
+  by : (o : Option (IgmpVersion × Ipv4Address)) →
+      option_and_then (λ n. igmp_rules.igmp_report H.ip_addrs n.0 n.1) o ≡ Some p → is_usual (payload_of p) ≡ true
+  by None q = absurd cc
+  by (Some n) q = igmp_usual H.ip_addrs n.1 _ p q
 
 pub join_is : (own : List IpCidr) (a : IpAddress) (p : Packet) → join_packet own a ≡ Some p → is_own (payload_of p) ≡ true
-join_is own (address.Ipv4 a) p e = igmp_is own a _ p e
-join_is own (address.Ipv6 a) p e = mld_is _ p refl e
+join_is own a p e = usual_own (payload_of p) (join_usual own a p e)
 
 pub leave_is : (own : List IpCidr) (a : IpAddress) (p : Packet) → leave_packet own a ≡ Some p → is_own (payload_of p) ≡ true
-leave_is own (address.Ipv4 a) p e = igmp_is own igmp_rules.all_routers _ p e
-leave_is own (address.Ipv6 a) p e = mld_is _ p refl e
+leave_is own a p e = usual_own (payload_of p) (leave_usual own a p e)
 
 pub report_is : (H : Host) (p : Packet) → next_report H ≡ Some p → is_own (payload_of p) ≡ true
-report_is H p e = by (next_group H H.igmp_report) e where
-  by : (o : Option (IgmpVersion × Ipv4Address)) →
-      option_and_then (λ n. igmp_rules.igmp_report H.ip_addrs n.0 n.1) o ≡ Some p → is_own (payload_of p) ≡ true
-  by None q = absurd cc
-  by (Some n) q = igmp_is H.ip_addrs n.1 _ p q
+report_is H p e = usual_own (payload_of p) (report_usual H p e)
 
+-- a solicitation of routers is of the host's own, too
 pub solicitation_is : (H : Host) (p : Packet) → due_solicitation H ≡ Some p → is_own (payload_of p) ≡ true
 solicitation_is H p e = due (rs_required H.slaac H.moment) e where
   from : (own : EthernetAddress) (o : Option Ipv6Address) →
       option_and_then (λ source. Some (solicitation_from own source)) o ≡ Some p → is_own (payload_of p) ≡ true
   from own None q = absurd cc
-  from own (Some source) q = mld_is (solicitation_from own source) p refl q
+  from own (Some source) q = same_test is_own (solicitation_from own source) p refl q
 
   on_medium : (h : HardwareAddress) → solicitation_by h H.ip_addrs ≡ Some p → is_own (payload_of p) ≡ true
   on_medium (hardware.Ethernet own) q = from own (link_local_addr H.ip_addrs) q
@@ -228,6 +266,10 @@ solicitation_is H p e = due (rs_required H.slaac H.moment) e where
   due : (b : Bool) → (if b then router_solicitation H else None) ≡ Some p → is_own (payload_of p) ≡ true
   due true q = enabled H.slaac_enabled q
   due false q = absurd cc
+
+pub sent_is : (H : Host) (p : Packet) → NoSocketSpeaks H → MaySend H p → may_ask (payload_of p) ≡ false
+sent_is H p none (Usually usual) = usual_is H p none usual
+sent_is H p none (ToRouters due) = own_asks (payload_of p) (solicitation_is H p due)
 
 -- a dispatch leaves the sockets
 unsent_sockets : {H new : Host} {frames : List (List ℕ)} {notes : List Note} → IsUnsent H frames notes new → new.sockets ≡ H.sockets
@@ -292,31 +334,35 @@ served_speaks spoken i {s} {s'} {turn} {H} {mid} there t none =
     set_speaks spoken mid.sockets.places i (Some s') (rw (turn_speaks spoken t) (get_speaks spoken mid.sockets.places i (Some s) at_mid none)) none
 
 -- A law is given by its leaves. Of each: where what it reads stays, and nothing is told or noted; where one part follows another; where leave is
--- refused; where a packet is dispatched; and where a piece that was left goes.
+-- refused; where a packet is dispatched; where the solicitation of routers that is due is, and counts as sent; and where a piece that was left
+-- goes.
 module _ (Law : Part)
-    (keeps : (old new : Host) → Keeps old new → (NoSocketSpeaks old → NoSocketSpeaks new) → Law old [] [] new)
+    (keeps : (old new : Host) → Keeps old new → count_of new ≡ count_of old → (NoSocketSpeaks old → NoSocketSpeaks new) → Law old [] [] new)
     (on : (a b c : Host) (ts us : List Event) (xs ys : List Note) → Law a ts xs b → Law b us ys c → Law a (ts ++ us) (xs ++ ys) c)
     (refused : (H : Host) → Law H (Asked H.moment false ∷ []) [] H)
     (dispatches : (p : Packet) (outcome : Outcome) (H new : Host) (frames : List (List ℕ)) (notes : List Note) →
-    MaySend H p → Dispatches p outcome H frames notes new →
+    IsUsual H p → Dispatches p outcome H frames notes new →
     Law H (Asked H.moment true ∷ sends frames) notes new)
+    (solicits : (p : Packet) (outcome : Outcome) (H mid : Host) (frames : List (List ℕ)) (notes : List Note) →
+    due_solicitation H ≡ Some p → Dispatches p outcome H frames notes mid →
+    Law H (Asked H.moment true ∷ sends frames) notes (with_slaac mid (rs_sent mid.slaac mid.moment)))
     (pieces : (H : Host) (p : Piece) (rest : List Piece) →
     H.left ≡ p ∷ rest → Law H (Asked H.moment true ∷ sends (piece_frame H p ∷ [])) (OfCuts (PieceSent p) ∷ []) (with_left H rest)) where
   keeping : {old new : Host} {told : List Event} {notes : List Note} →
-      told ≡ [] → notes ≡ [] → Keeps old new → (NoSocketSpeaks old → NoSocketSpeaks new) → Law old told notes new
-  keeping {old} {new} t n k s = rw (t, n) (keeps old new k s)
+      told ≡ [] → notes ≡ [] → Keeps old new → count_of new ≡ count_of old → (NoSocketSpeaks old → NoSocketSpeaks new) → Law old told notes new
+  keeping {old} {new} t n k c s = rw (t, n) (keeps old new k c s)
 
   still : {H new : Host} {told : List Event} {notes : List Note} → told ≡ [] → notes ≡ [] → new ≡ H → Law H told notes new
-  still t n e = keeping t n (kept e) (λ none. rw e none)
+  still t n e = keeping t n (kept e) (ap count_of e) (λ none. rw e none)
 
   not_given : {H new : Host} {told : List Event} {notes : List Note} → told ≡ Asked H.moment false ∷ [] → notes ≡ [] → new ≡ H → Law H told notes new
   not_given {H} t n e = rw (t, n, e) (refused H)
 
   before : {old mid new : Host} {told : List Event} {notes : List Note} →
-      Law old told notes mid → Keeps mid new → (NoSocketSpeaks mid → NoSocketSpeaks new) → Law old told notes new
-  before {old} {mid} {new} {told} {notes} law k s =
+      Law old told notes mid → Keeps mid new → count_of new ≡ count_of mid → (NoSocketSpeaks mid → NoSocketSpeaks new) → Law old told notes new
+  before {old} {mid} {new} {told} {notes} law k c s =
       subst (λ ns. Law old told ns new) (append-nil notes)
-      (subst (λ ts. Law old ts (notes ++ []) new) (append-nil told) (on old mid new told [] notes [] law (keeps mid new k s)))
+      (subst (λ ts. Law old ts (notes ++ []) new) (append-nil told) (on old mid new told [] notes [] law (keeps mid new k c s)))
 
   pub begins : (H : Host) → Law H [] [] H
   begins H = still refl refl refl
@@ -333,7 +379,7 @@ module _ (Law : Part)
   served (turns.Free s t o n e) = still o n e
   served (turns.Waits s known h k p t o n e) = still o n e
   served {i} (turns.Served s s' known mid h k p t e) =
-      before (had_turn i h t) (kept_by e (unread refl refl)) (λ none. rw e (served_speaks icmpv6 i h t none))
+      before (had_turn i h t) (kept_by e (unread refl refl)) (ap count_of e) (λ none. rw e (served_speaks icmpv6 i h t none))
 
   walked : {old new : Host} {n : ℕ} {granted changed : Bool} {told : List Event} {notes : List Note} →
       Walks old n granted changed told notes new → Law old told notes new
@@ -355,19 +401,19 @@ module _ (Law : Part)
 
   -- groups that are told of
   module _ {packet_for : List IpCidr → IpAddress → Option Packet}
-      (plain : (own : List IpCidr) (a : IpAddress) (p : Packet) → packet_for own a ≡ Some p → is_own (payload_of p) ≡ true) where
+      (plain : (own : List IpCidr) (a : IpAddress) (p : Packet) → packet_for own a ≡ Some p → is_usual (payload_of p) ≡ true) where
     groups_reported : {state : GroupState} {after_report : List Group → IpAddress → List Group} {old new : Host}
         {granted : Bool} {told : List Event} {notes : List Note} →
         joins.ReportsEach state packet_for after_report old granted told notes new → Law old told notes new
     groups_reported joins.Begins = still refl refl refl
-    groups_reported (joins.Silently a w f p) = before (groups_reported w) (unread refl refl) (λ none. none)
+    groups_reported (joins.Silently a w f p) = before (groups_reported w) (unread refl refl) refl (λ none. none)
     groups_reported {old = old} (joins.Refused {told = told} {notes = notes} {mid = mid} a p w f q) =
         subst (λ ns. Law old (told ++ Asked mid.moment false ∷ []) ns mid) (append-nil notes)
         (on old mid mid told (Asked mid.moment false ∷ []) notes [] (groups_reported w) (refused mid))
     groups_reported {after_report = after_report} {old = old}
         (joins.Reported {told = told} {notes = notes} {mid = mid} a p outcome frames more new w f q d) =
         on old mid (with_groups new (after_report new.groups a)) told (Asked mid.moment true ∷ sends frames) notes more (groups_reported w)
-        (before (dispatches p outcome mid new frames more (OfItsOwn (plain mid.ip_addrs a p q)) d) (unread refl refl) (λ none. none))
+        (before (dispatches p outcome mid new frames more (OfItsOwn (plain mid.ip_addrs a p q)) d) (unread refl refl) refl (λ none. none))
 
     all_reported : {state : GroupState} {after_report : List Group → IpAddress → List Group}
         {old new : Host} {told : List Event} {notes : List Note} →
@@ -377,37 +423,37 @@ module _ (Law : Part)
 
   igmp_sent : {H new : Host} {told : List Event} {notes : List Note} → IgmpEgress H told notes new → Law H told notes new
   igmp_sent (igmp_rules.NotDue h t n e) = still t n e
-  igmp_sent (igmp_rules.NoFurtherGroup h g t n e) = keeping t n (kept_by e (unread refl refl)) (λ none. rw e none)
+  igmp_sent (igmp_rules.NoFurtherGroup h g t n e) = keeping t n (kept_by e (unread refl refl)) (ap count_of e) (λ none. rw e none)
   igmp_sent (igmp_rules.NoAddress next h g a t n e) = still t n e
   igmp_sent (igmp_rules.NotGranted p h r t n e) = not_given t n e
   igmp_sent {H} {new} {told} {notes} (igmp_rules.Sent p outcome frames mid h r d t e) =
-      rw t (before (dispatches p outcome H mid frames notes (OfItsOwn (report_is H p r)) d) (kept_by e (unread refl refl)) (λ none. rw e none))
+      rw t (before (dispatches p outcome H mid frames notes (OfItsOwn (report_usual H p r)) d) (kept_by e (unread refl refl)) (ap count_of e) (λ none. rw e none))
 
   routers_solicited : {H new : Host} {told : List Event} {notes : List Note} → NdiscRsEgress H told notes new → Law H told notes new
   routers_solicited (slaac.NotDue d t n e) = still t n e
   routers_solicited (slaac.NotGranted p d t n e) = not_given t n e
   routers_solicited {H} {new} {told} {notes} (slaac.Goes p outcome frames mid h d t e) =
-      rw t (before (dispatches p outcome H mid frames notes (OfItsOwn (solicitation_is H p h)) d) (kept_by e (unread refl refl)) (λ none. rw e none))
+      rw (t, e) (solicits p outcome H mid frames notes h d)
 
   mld_sent : {H new : Host} {told : List Event} {notes : List Note} → MldEgress H told notes new → Law H told notes new
   mld_sent (mld.NotYet h t n e) = still t n e
-  mld_sent {H} (mld.GivenUp h t n e) = rw (t, n) (before (refused H) (kept_by e (unread refl refl)) (λ none. rw e none))
+  mld_sent {H} (mld.GivenUp h t n e) = rw (t, n) (before (refused H) (kept_by e (unread refl refl)) (ap count_of e) (λ none. rw e none))
   mld_sent {H} {new} {told} {notes} (mld.ReportGoes outcome frames mid h d t e) =
-      rw t (before (dispatches _ outcome H mid frames notes (OfItsOwn refl) d) (kept_by e (unread refl refl)) (λ none. rw e none))
+      rw t (before (dispatches _ outcome H mid frames notes (OfItsOwn refl) d) (kept_by e (unread refl refl)) (ap count_of e) (λ none. rw e none))
 
   -- each part of a round, in order
   round : {changed : Bool} {old new : Host} {told : List Event} {notes : List Note} → Round changed old told notes new → Law old told notes new
   round {changed} {old} {new} {told} {notes} r = both Law begins on (λ o n t ns p. piece_sent p)
       (both Law begins on (λ o n t ns p. routers_solicited p)
-      (both Law begins on (λ o n t ns p. all_reported join_is p)
-      (both Law begins on (λ o n t ns p. all_reported leave_is p)
+      (both Law begins on (λ o n t ns p. all_reported join_usual p)
+      (both Law begins on (λ o n t ns p. all_reported leave_usual p)
       (both Law begins on (λ o n t ns p. igmp_sent p)
       (both Law begins on (λ o n t ns p. mld_sent p) (λ o n t ns p. sockets_sent p)))))) old new told notes r
 
   egressed : {t : ℤ} {answer : PollResult} {old new : Host} {told : List Event} {notes : List Note} →
       Egress t answer old told notes new → Law old told notes new
   egressed {t} {answer} {old} {new} {told} {notes} e =
-      on old (at old t) new [] told [] notes (keeps old (at old t) (unread refl refl) (λ none. none)) (round e.round)
+      on old (at old t) new [] told [] notes (keeps old (at old t) (unread refl refl) refl (λ none. none)) (round e.round)
 
   -- of whole steps: where a frame is taken; where slots that have ended are dropped; where the host gets other addresses, and forgets its
   -- neighbours; where it gets another hardware address; and where it gets another timeout
@@ -418,35 +464,70 @@ module _ (Law : Part)
       (sets : (H : Host) (h : HardwareAddress) → IsOf H.capabilities.medium h → Law H [] [] (record H { hardware_addr = h }))
       (lasts : (H : Host) (timeout : ℕ) → Law H [] [] (record H { reassembly_timeout = timeout })) where
     syncs : (H : Host) (b : Bool) → Law H [] [] (if b then with_slaac_applied H else H)
-    syncs H true = before (moves H _) (unread refl refl) (λ none. none)
+    syncs H true = before (moves H _) (unread refl refl) refl (λ none. none)
     syncs H false = begins H
 
     maintains : (H : Host) (t : ℤ) → Law H [] [] (after_maintenance (at H t))
     maintains H t =
         on H (without_expired H t) (after_maintenance (at H t)) [] [] [] [] (sweeps H t) (syncs (without_expired H t) (sync_required H.slaac t))
 
-    same : {old new : Host} → Keeps old new → (NoSocketSpeaks old → NoSocketSpeaks new) → Law old [] [] new
-    same {old} {new} k s = keeps old new k s
+    same : {old new : Host} → Keeps old new → count_of new ≡ count_of old → (NoSocketSpeaks old → NoSocketSpeaks new) → Law old [] [] new
+    same {old} {new} k c s = keeps old new k c s
 
     -- what the owner of the sockets does is told apart: who speaks may change
     module _ (StepLaw : Part)
         (weaker : (old new : Host) (told : List Event) (notes : List Note) → Law old told notes new → StepLaw old told notes new)
         (acts : (H : Host) (sockets : SocketSet) → StepLaw H [] [] (record H { sockets = sockets })) where
-      pub stepped : {command : Command} {answer : Answer} {old new : Host} {told : List Event} {acts : List step.Act} {notes : List Note} →
+      pub counted : {command : Command} {answer : Answer} {old new : Host} {told : List Event} {acts : List step.Act} {notes : List Note} →
           Step command answer old told acts notes new → StepLaw old told notes new
-      stepped {old = old} (step.UpdatedIpAddrs {list = list} (Accepted a r e)) =
-          rw e (weaker _ _ _ _ (before (moves old list.items) (unread refl refl) (λ none. none)))
-      stepped (step.UpdatedIpAddrs (Refused a r e)) = weaker _ _ _ _ (still refl refl e)
-      stepped (step.PolledIngressSingle i) = weaker _ _ _ _ (ingress _ _ _ _ _ _ i)
-      stepped (step.PolledEgress e) = weaker _ _ _ _ (egressed e)
-      stepped (step.Polled {t} p) = weaker _ _ _ _ (polled Law begins on t (λ H. maintains H t)
+      counted {old = old} (step.UpdatedIpAddrs {list = list} (Accepted a r e)) =
+          rw e (weaker _ _ _ _ (before (moves old list.items) (unread refl refl) refl (λ none. none)))
+      counted (step.UpdatedIpAddrs (Refused a r e)) = weaker _ _ _ _ (still refl refl e)
+      counted (step.PolledIngressSingle i) = weaker _ _ _ _ (ingress _ _ _ _ _ _ i)
+      counted (step.PolledEgress e) = weaker _ _ _ _ (egressed e)
+      counted (step.Polled {t} p) = weaker _ _ _ _ (polled Law begins on t (λ H. maintains H t)
           (λ answer old new told notes i. ingress t answer old new told notes i) (λ answer old new told notes e. egressed e) p)
-      stepped (step.PolledMaintenance {t} {old}) = weaker _ _ _ _ (maintains old t)
-      stepped (step.JoinedGroup j) = let g = join_groups j in rw g.1 (weaker _ _ _ _ (same (unread refl refl) (λ none. none)))
-      stepped (step.LeftGroup j) = let g = leave_groups j in rw g.1 (weaker _ _ _ _ (same (unread refl refl) (λ none. none)))
-      stepped {old = old} (step.TookHardwareAddr {h = h} (Taken a of r e)) = rw e (weaker _ _ _ _ (sets old h of))
-      stepped (step.TookHardwareAddr (NotTaken error a r e)) = weaker _ _ _ _ (still refl refl e)
-      stepped {old = old} (step.TookReassemblyTimeout {timeout = timeout} (WithinDay l r e)) = rw e (weaker _ _ _ _ (lasts old timeout))
-      stepped (step.TookReassemblyTimeout (OverDay l r e)) = weaker _ _ _ _ (still refl refl e)
-      stepped {old = old} (step.OwnerActed sockets) = acts old sockets
-      stepped other = weaker _ _ _ _ (same (unread refl refl) (λ none. none))
+      counted (step.PolledMaintenance {t} {old}) = weaker _ _ _ _ (maintains old t)
+      counted (step.JoinedGroup j) = let g = join_groups j in rw g.1 (weaker _ _ _ _ (same (unread refl refl) refl (λ none. none)))
+      counted (step.LeftGroup j) = let g = leave_groups j in rw g.1 (weaker _ _ _ _ (same (unread refl refl) refl (λ none. none)))
+      counted {old = old} (step.TookHardwareAddr {h = h} (Taken a of r e)) = rw e (weaker _ _ _ _ (sets old h of))
+      counted (step.TookHardwareAddr (NotTaken error a r e)) = weaker _ _ _ _ (still refl refl e)
+      counted {old = old} (step.TookReassemblyTimeout {timeout = timeout} (WithinDay l r e)) = rw e (weaker _ _ _ _ (lasts old timeout))
+      counted (step.TookReassemblyTimeout (OverDay l r e)) = weaker _ _ _ _ (still refl refl e)
+      counted {old = old} (step.OwnerActed sockets) = acts old sockets
+      counted other = weaker _ _ _ _ (same (unread refl refl) refl (λ none. none))
+
+-- The same of a law that doesn't count solicitations: for it that of routers is a packet among others
+module _ (Law : Part)
+    (keeps : (old new : Host) → Keeps old new → (NoSocketSpeaks old → NoSocketSpeaks new) → Law old [] [] new)
+    (on : (a b c : Host) (ts us : List Event) (xs ys : List Note) → Law a ts xs b → Law b us ys c → Law a (ts ++ us) (xs ++ ys) c)
+    (refused : (H : Host) → Law H (Asked H.moment false ∷ []) [] H)
+    (dispatches : (p : Packet) (outcome : Outcome) (H new : Host) (frames : List (List ℕ)) (notes : List Note) →
+    MaySend H p → Dispatches p outcome H frames notes new →
+    Law H (Asked H.moment true ∷ sends frames) notes new)
+    (pieces : (H : Host) (p : Piece) (rest : List Piece) →
+    H.left ≡ p ∷ rest → Law H (Asked H.moment true ∷ sends (piece_frame H p ∷ [])) (OfCuts (PieceSent p) ∷ []) (with_left H rest))
+    (ingress : (t : ℤ) (answer : PollIngressSingleResult) (old new : Host) (told : List Event) (notes : List Note) →
+    Ingress t answer old told notes new → Law old told notes new)
+    (sweeps : (H : Host) (t : ℤ) → Law H [] [] (without_expired H t))
+    (moves : (H : Host) (list : List IpCidr) → Law H [] [] (record H { ip_addrs = list; neighbors = without_neighbors H.neighbors }))
+    (sets : (H : Host) (h : HardwareAddress) → IsOf H.capabilities.medium h → Law H [] [] (record H { hardware_addr = h }))
+    (lasts : (H : Host) (timeout : ℕ) → Law H [] [] (record H { reassembly_timeout = timeout }))
+    (StepLaw : Part)
+    (weaker : (old new : Host) (told : List Event) (notes : List Note) → Law old told notes new → StepLaw old told notes new)
+    (acts : (H : Host) (sockets : SocketSet) → StepLaw H [] [] (record H { sockets = sockets })) where
+  solicited : (p : Packet) (outcome : Outcome) (H mid : Host) (frames : List (List ℕ)) (notes : List Note) →
+      due_solicitation H ≡ Some p → Dispatches p outcome H frames notes mid →
+      Law H (Asked H.moment true ∷ sends frames) notes (with_slaac mid (rs_sent mid.slaac mid.moment))
+  solicited p outcome H mid frames notes due d =
+      let next = with_slaac mid (rs_sent mid.slaac mid.moment) in
+      let told = Asked H.moment true ∷ sends frames in
+      subst (λ ns. Law H told ns next) (append-nil notes)
+      (subst (λ ts. Law H ts (notes ++ []) next) (append-nil told)
+      (on H mid next told [] notes [] (dispatches p outcome H mid frames notes (ToRouters due) d) (keeps mid next (unread refl refl) (λ none. none))))
+
+  pub stepped : {command : Command} {answer : Answer} {old new : Host} {told : List Event} {acts : List step.Act} {notes : List Note} →
+      Step command answer old told acts notes new → StepLaw old told notes new
+  stepped s = counted Law (λ old new k c none. keeps old new k none) on refused
+      (λ p outcome H new frames notes usual d. dispatches p outcome H new frames notes (Usually usual) d) solicited pieces
+      ingress sweeps moves sets lasts StepLaw weaker acts s

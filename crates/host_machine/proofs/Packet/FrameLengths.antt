@@ -1,9 +1,9 @@
 -- How long a frame is.
-use Rattle.std.proofs.Common.{◌≡◌, ◌≢◌, ℕ, zero, suc, ◌+◌, ◌*◌, ◌/◌, ◌≤◌, Bool, List, [], ◌∷◌, ◌++◌, length, refl, ◌∙◌, subst, arith}
-use Rattle.std.specs.Prelude.{◌-◌, ◌<◌, drop, map, take}
+use Rattle.std.proofs.Common.{◌≡◌, ℕ, zero, suc, ◌+◌, ◌*◌, ◌≤◌, Bool, List, ◌∷◌, ◌++◌, length, refl, subst, arith}
+use Rattle.std.specs.Prelude.{drop, map, take}
 use Rattle.std.specs.Int.{w16, w32, to_be_bytes}
 use Rattle.std.specs.List.{AllByRecursion}
-use Rattle.std.proofs.lemmas.List.{length-append}
+use Rattle.std.proofs.lemmas.List.{length-append, length-drop, length-take}
 use Rattle.net_base.specs.Checksum.{ip_mtu_of, room_in}
 use Rattle.net_base.specs.declared.phy.DeviceCapabilities.{DeviceCapabilities}
 use Rattle.net_base.specs.declared.phy.Medium.{Medium}
@@ -16,17 +16,15 @@ use Rattle.ip_address.specs.declared.ip.IpAddress.{IpAddress}
 use Rattle.ip_address.specs.declared.ipv6.Ipv6Address.{Ipv6Address}
 use Rattle.ip_wire.specs.declared.arp.ArpRepr.{ArpRepr}
 use Rattle.ip_wire.specs.declared.ethernet.EthernetProtocol.{EthernetProtocol}
-use Rattle.ip_wire.specs.declared.ip_packet.IpRepr.TheVariants as repr
+use Rattle.ip_wire.specs.declared.ethernet.EthernetProtocol.TheVariants as protocol
 use Rattle.ip_wire.specs.declared.ipv4_packet.Ipv4Fragment.{Ipv4Fragment}
 use Rattle.ip_wire.specs.declared.ipv4_packet.Ipv4Repr.{Ipv4Repr}
 use Rattle.ip_wire.specs.declared.tcp.TcpRepr.{TcpRepr}
 use Rattle.ip_wire.specs.declared.udp.UdpRepr.{UdpRepr}
 use Rattle.ip_wire.specs.Arp.{ipv4_over_ethernet, text}
 use Rattle.ip_wire.specs.Arp as arp
-use Rattle.ip_wire.specs.Ethernet as ethernet
 use Rattle.ip_wire.specs.Ipv4Packet.{header_with, front, back}
 use Rattle.ip_wire.specs.Ipv4Packet as ipv4
-use Rattle.ip_wire.specs.IpPacket as ip
 use Rattle.ip_wire.specs.Tcp as tcp
 use Rattle.ip_wire.specs.Udp as udp
 use Rattle.ipv6_wire.specs.declared.ipv6_packet.Ipv6Repr.{Ipv6Repr}
@@ -42,7 +40,7 @@ use Rattle.icmpv6_wire.specs.NdiscOption.{lladdr_text}
 use Rattle.group_wire.specs.declared.mld.MldRepr.TheVariants.{Report}
 use Rattle.group_wire.specs.declared.igmp.IgmpRepr.{IgmpRepr}
 use Rattle.group_wire.specs.Igmp as igmp
-use Rattle.fragmentation.specs.Cuts.{Datagram, Piece, count, piece_of, pieces_from, pieces_of}
+use Rattle.fragmentation.specs.Cuts.{Datagram, Piece, count, piece_at, piece_of, pieces_from, pieces_of}
 use Rattle.host_machine.specs.Context.Host.{Host}
 use Rattle.host_machine.specs.Context.Pieces.{piece_size}
 use Rattle.host_machine.specs.Packet.Frame.{arp_frame, ip_frame, link_header, mld_options, payload_text, piece_frame, piece_text}
@@ -84,6 +82,19 @@ framed c own h type octets = by c.medium own h where
   by medium.Ip hardware.Ip (hardware.Ethernet e) a b big fits = absurd b
   by medium.Ip hardware.Ip hardware.Ip a b big fits = fits
 
+-- how many octets are before a packet, by the host's own hardware address
+abbrev pub link_room : HardwareAddress → ℕ
+link_room (hardware.Ethernet own) = 14
+link_room hardware.Ip = 0
+
+link_is : (m : Medium) (own h : HardwareAddress) (type : EthernetProtocol) → IsOf m own → IsOf m h → length (link_header own h type) ≡ link_room own
+link_is medium.Ethernet (hardware.Ethernet o) (hardware.Ethernet e) type a b = link_len o e type a b
+link_is medium.Ethernet (hardware.Ethernet o) hardware.Ip type a b = absurd b
+link_is medium.Ethernet hardware.Ip h type a b = absurd a
+link_is medium.Ip (hardware.Ethernet o) h type a b = absurd a
+link_is medium.Ip hardware.Ip (hardware.Ethernet e) type a b = absurd b
+link_is medium.Ip hardware.Ip hardware.Ip type a b = refl
+
 -- an ARP packet, between addresses of six octets
 six_parts : (a b c d e f : List ℕ) → length a ≡ 6 → length b ≡ 2 → length c ≡ 6 → length d ≡ 4 → length e ≡ 6 → length f ≡ 4 →
     length (a ++ b ++ c ++ d ++ e ++ f) ≡ 28
@@ -109,7 +120,7 @@ arp_text_len r s t =
     six_parts ipv4_over_ethernet (to_be_bytes w16 (arp.number_of r.operation)) r.source_hardware_addr.0
     (to_be_bytes w32 r.source_protocol_addr.bits) r.target_hardware_addr.0 (to_be_bytes w32 r.target_protocol_addr.bits) refl refl s refl t refl
 
-arp_len : (r : ArpRepr) → length r.source_hardware_addr.0 ≡ 6 → length r.target_hardware_addr.0 ≡ 6 → length (arp_frame r) ≡ 42
+pub arp_len : (r : ArpRepr) → length r.source_hardware_addr.0 ≡ 6 → length r.target_hardware_addr.0 ≡ 6 → length (arp_frame r) ≡ 42
 arp_len r s t =
     let head = mac_len r.target_hardware_addr.0 r.source_hardware_addr.0 _ t s refl in
     let behind = arp_text_len r s t in
@@ -132,6 +143,16 @@ piece_fits H p a b big fits =
       by : (head : List ℕ) → length head ≡ 20 → Fits H.capabilities p → length (head ++ p.fragment.octets) ≤ ip_mtu_of H.capabilities
       by head l f = omega (arith, l, f, length-append head p.fragment.octets)
 
+three_parts : (link head behind : List ℕ) (l m n : ℕ) → length link ≡ l → length head ≡ m → length behind ≤ n →
+    length (link ++ (head ++ behind)) ≤ l + (m + n)
+three_parts link head behind l m n a b c = omega (arith, a, b, c, length-append link (head ++ behind), length-append head behind)
+
+pub piece_len : (H : Host) (p : Piece) (n : ℕ) → IsOf H.capabilities.medium H.hardware_addr → IsOf H.capabilities.medium p.destination →
+    length p.fragment.octets ≤ n → length (piece_frame H p) ≤ link_room H.hardware_addr + (20 + n)
+piece_len H p n a b few =
+    three_parts (link_header H.hardware_addr p.destination protocol.Ipv4) _ p.fragment.octets (link_room H.hardware_addr) 20 n
+    (link_is H.capabilities.medium H.hardware_addr p.destination protocol.Ipv4 a b) (v4_len _ _ _) few
+
 -- Payloads
 
 -- a payload has as many octets as its packet says
@@ -151,6 +172,16 @@ packet_fits H h (packet.Ipv6 p) a b big short s =
       by : (head behind : List ℕ) → length head ≡ 40 → length behind ≤ payload_len p.payload → 40 + payload_len p.payload ≤ ip_mtu_of H.capabilities →
           length (head ++ behind) ≤ ip_mtu_of H.capabilities
       by head behind l few f = omega (arith, l, few, f, length-append head behind)
+
+-- so its frame has at most so many octets, too
+pub packet_len : (H : Host) (h : HardwareAddress) (p : Packet) → IsOf H.capabilities.medium H.hardware_addr → IsOf H.capabilities.medium h →
+    IsSized H.capabilities p → length (ip_frame H h p) ≤ link_room H.hardware_addr + total_len p
+packet_len H h (packet.Ipv4 p) a b s =
+    three_parts (link_header H.hardware_addr h protocol.Ipv4) _ _ (link_room H.hardware_addr) 20 (payload_len p.payload)
+    (link_is H.capabilities.medium H.hardware_addr h protocol.Ipv4 a b) (v4_len _ _ _) s.len
+packet_len H h (packet.Ipv6 p) a b s =
+    three_parts (link_header H.hardware_addr h protocol.Ipv6) _ _ (link_room H.hardware_addr) 40 (payload_len p.payload)
+    (link_is H.capabilities.medium H.hardware_addr h protocol.Ipv6 a b) (v6_len _) s.len
 
 icmpv4_head : (sum : ℕ) (m : Icmpv4Repr) → length (icmpv4.head_with sum m) ≡ 8
 unfolding icmpv4.head_with
@@ -217,6 +248,18 @@ unfolding igmp.text_with
 igmp_len m = refl
 
 -- Fragments
+
+few_taken : (m k : ℕ) (xs : List ℕ) → length (take m (drop k xs)) ≤ length xs
+few_taken m k xs = omega (arith, length-take m (drop k xs), length-drop k xs)
+
+-- the first fragment has at most the octets of the payload
+pub first_few : (d : Datagram) (first : Piece) (rest : List Piece) → pieces_of d ≡ first ∷ rest → length first.fragment.octets ≤ length d.payload
+first_few d first rest is = by (count d.size (length d.payload)) is where
+  by : (n : ℕ) → map (piece_of d) (pieces_from d.size d.payload 0 n) ≡ first ∷ rest → length first.fragment.octets ≤ length d.payload
+  by zero e = absurd cc
+  by (suc n) e =
+      let same : piece_of d (piece_at d.size d.payload 0) ≡ first = cc in
+      subst (λ p. length p.fragment.octets ≤ length d.payload) same (few_taken d.size (0 * d.size) d.payload)
 
 first_fits : (c : DeviceCapabilities) (m : ℕ) (payload : List ℕ) (d : Datagram) (n k : ℕ) → 20 + m ≤ ip_mtu_of c →
     AllByRecursion (Fits c) (map (piece_of d) (pieces_from m payload k n))

@@ -45,7 +45,7 @@ use Rattle.group_table.specs.declared.report.IgmpReportState.TheVariants as igmp
 use Rattle.group_table.specs.declared.report.MldReportState.{MldReportState}
 use Rattle.group_table.specs.declared.report.MldReportState.TheVariants as mld
 use Rattle.iface_tables.specs.declared.route.Route.{Route}
-use Rattle.slaac.specs.Slaac.{SlaacState}
+use Rattle.slaac.specs.Slaac.{SlaacState, seconds, slaac_after_message}
 use Rattle.host_machine.specs.declared.results.PollIngressSingleResult.{PollIngressSingleResult}
 use Rattle.host_machine.specs.Interface.Config.{is_ethernet}
 use Rattle.host_machine.specs.Context.Note.{Note}
@@ -84,6 +84,7 @@ use Rattle.host_machine.specs.Laws.Restraint.Queries as queries
 use Rattle.host_machine.specs.Laws.Restraint.Replies.{BringsV4}
 use Rattle.host_machine.specs.Laws.Restraint.Replies as replies
 use Rattle.host_machine.specs.Laws.Restraint.Settings.{FramesKeepSettings, HasAdvertisement, IsAdvertisement, MayLearn}
+use Rattle.host_machine.proofs.Context.SolicitationCount.{count_in, count_of}
 use Rattle.host_machine.proofs.Discovery.LearntNeighbors.{and_both, or_either}
 use Rattle.host_machine.proofs.Receive.ReceivedFrames.{frame_of_call, renewal}
 use Rattle.host_machine.proofs.Interface.SettledFields.{Settings, response_leaves, response_settled}
@@ -138,6 +139,7 @@ pub record Left (H : Host) (frame : List ℕ) (new : Host) : Type 0 where
   pub learnt : (new.slaac ≡ H.slaac) ⊎ (MayLearn H × HasAdvertisement H frame)
   pub igmp_report : (new.igmp_report ≡ H.igmp_report) ⊎ IsIgmpNews H frame new.igmp_report
   pub mld_report : (new.mld_report ≡ H.mld_report) ⊎ IsMldNews H frame new.mld_report
+  pub count : count_of new ≡ count_of H
 
 -- where all of it stays
 pub record Stays (H new : Host) : Type 0 where
@@ -175,7 +177,13 @@ alike : {H new : Host} → lists_of new ≡ lists_of H → new.slaac ≡ H.slaac
 alike l s i m = record { lists = l; slaac = s; igmp_report = i; mld_report = m }
 
 left_by : {H new : Host} {frame : List ℕ} → Stays H new → Left H frame new
-left_by s = record { lists = s.lists; learnt = inl s.slaac; igmp_report = inl s.igmp_report; mld_report = inl s.mld_report }
+left_by s = record {
+  lists = s.lists;
+  learnt = inl s.slaac;
+  igmp_report = inl s.igmp_report;
+  mld_report = inl s.mld_report;
+  count = ap count_in s.slaac;
+}
 
 gone : {H new : Host} {frame : List ℕ} {reply : Option Reply} {notes : List Note} → IsDropped H reply notes new → Left H frame new
 gone d = left_by (stays_as d.unchanged)
@@ -292,6 +300,7 @@ module _ (H : Host) (frame packet : List ℕ) (carried : CarriesV4 H.hardware_ad
           learnt = inl (ap (λ (X : Host). X.slaac) q ∙ s.slaac);
           igmp_report = turned (asked_igmp K code group now of_igmp i values) (ap (λ (X : Host). X.igmp_report) q);
           mld_report = inl (ap (λ (X : Host). X.mld_report) q ∙ s.mld_report);
+          count = ap count_in (ap (λ (X : Host). X.slaac) q ∙ s.slaac);
         } where
           turned : ((igmp_rules.igmp_report_for K r.dst_addr code group ≡ K.igmp_report) ⊎ IsIgmpNews H frame
               (igmp_rules.igmp_report_for K r.dst_addr code group)) →
@@ -350,6 +359,14 @@ ndisc_stays : {r : Ipv6Repr} {message : NdiscRepr} {H new : Host} {reply : Optio
 ndisc_stays (ndisc.FromAfar far d) = stays_as d.unchanged
 ndisc_stays (ndisc.WithoutAddresses without d) = stays_as d.unchanged
 ndisc_stays (ndisc.FromNeighbor own near mine h) = heard_stays h
+
+-- an advertisement leaves how many solicitations may be sent, and when
+counted_after : (message : RouterRepr) (K : Host) (r : Ipv6Repr) → count_in (after_advertisement message K r) ≡ count_of K
+counted_after (RouterSolicit lladdr) K r = refl
+counted_after (RouterAdvert hop_limit flags lifetime lladdr prefix) K r = by (is_valid_advertisement K r) where
+  by : (b : Bool) → count_in (if b then slaac_after_message K.slaac r.src_addr (seconds lifetime) prefix K.moment else K.slaac) ≡ count_of K
+  by true = refl
+  by false = refl
 
 own_address : (h : HardwareAddress) → is_ethernet h ≡ true → (own : EthernetAddress) × (h ≡ hardware.Ethernet own)
 own_address (hardware.Ethernet own) e = (own, refl)
@@ -414,6 +431,7 @@ module _ (H : Host) (frame packet : List ℕ) (carried : CarriesV6 H.hardware_ad
       learnt = turned (learnt_from K message s values);
       igmp_report = inl (ap (λ (X : Host). X.igmp_report) e ∙ s.igmp_report);
       mld_report = inl (ap (λ (X : Host). X.mld_report) e ∙ s.mld_report);
+      count = ap count_of e ∙ counted_after message K r ∙ ap count_in s.slaac;
     } where
       turned : ((after_advertisement message K r ≡ K.slaac) ⊎ (MayLearn H × HasAdvertisement H frame)) →
           (new.slaac ≡ H.slaac) ⊎ (MayLearn H × HasAdvertisement H frame)
@@ -471,6 +489,7 @@ module _ (H : Host) (frame packet : List ℕ) (carried : CarriesV6 H.hardware_ad
         igmp_report = inl (ap (λ (X : Host). X.igmp_report) q ∙ s.igmp_report);
         mld_report =
             turned (asked_mld K code group (ap (λ (l : Lists). l.moment) s.lists) near values) (ap (λ (X : Host). X.mld_report) q);
+        count = ap count_in (ap (λ (X : Host). X.slaac) q ∙ s.slaac);
       } where
         turned : ((mld_rules.mld_report_for K r.dst_addr (K.moment +ℤ pos (mld_rules.delay code K.random)) group ≡ K.mld_report)
             ⊎ IsMldNews H frame (mld_rules.mld_report_for K r.dst_addr (K.moment +ℤ pos (mld_rules.delay code K.random)) group)) →
@@ -670,6 +689,13 @@ reception_lists H Nothing reply notes new t = ap lists_of t.unchanged
 reception_lists H Withheld reply notes new t = ap lists_of t.unchanged
 reception_lists H (Frame []) reply notes new t = ap lists_of t.unchanged
 reception_lists H (Frame (octet ∷ octets)) reply notes new t = (frame_left H.hardware_addr H (octet ∷ octets) reply notes new refl t).lists
+
+pub reception_count : (H : Host) (r : Reception) (reply : Option Reply) (notes : List Note) (new : Host) →
+    Takes H r reply notes new → count_of new ≡ count_of H
+reception_count H Nothing reply notes new t = ap count_of t.unchanged
+reception_count H Withheld reply notes new t = ap count_of t.unchanged
+reception_count H (Frame []) reply notes new t = ap count_of t.unchanged
+reception_count H (Frame (octet ∷ octets)) reply notes new t = (frame_left H.hardware_addr H (octet ∷ octets) reply notes new refl t).count
 
 pub ingress_lists : {t : ℤ} {answer : PollIngressSingleResult} {old new : Host} {told : List Event} {notes : List Note} →
     Ingress t answer old told notes new → KeepsLists old new

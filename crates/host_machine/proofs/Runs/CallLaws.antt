@@ -40,6 +40,7 @@ use Rattle.host_machine.proofs.Receive.WrongRebuilt.{rebuilt_dropped}
 use Rattle.host_machine.proofs.Receive.WrongSums.{headers_dropped, payloads_dropped, payloads_v6_dropped}
 use Rattle.host_machine.proofs.Runs.DueReports.{due_reports_go}
 use Rattle.host_machine.proofs.Runs.OwnSources.{sources_own}
+use Rattle.host_machine.proofs.Runs.ReplyLengths.{replies_short}
 use Rattle.host_machine.proofs.Runs.FramesOfCalls.{ingress_frames, sends_in_order}
 use Rattle.host_machine.proofs.Runs.RequestsWhileWaiting.{requests_go}
 use Rattle.host_machine.proofs.Interface.DueWork.{due_done, pieces_go}
@@ -73,6 +74,7 @@ restrained t frame old new told notes w = record {
   errors = errors_caused t frame old new told notes w;
   errors_v6 = errors_v6_caused t frame old new told notes w;
   resets = resets_caused t frame old new told notes w;
+  lengths = replies_short t frame old new told notes w;
   sources = sources_own.replied t frame old new told notes w;
   igmp_answers = (reports_asked t frame old new told notes w).0;
   mld_answers = (reports_asked t frame old new told notes w).1;

@@ -1,5 +1,5 @@
 -- No frame of a run is longer than the device allows.
-use Rattle.std.proofs.Common.{◌≡◌, ◌≢◌, ◌⊎◌, ℕ, ◌+◌, ◌≤◌, Bool, true, false, List, [], ◌∷◌, ◌++◌, length, refl, sym, ◌∙◌, ap, subst, Option, Some, None, arith}
+use Rattle.std.proofs.Common.{◌≡◌, ℕ, ◌+◌, ◌≤◌, Bool, true, false, List, [], ◌∷◌, ◌++◌, length, refl, sym, ◌∙◌, ap, subst, Option, Some, None, arith}
 use Rattle.std.specs.Prelude.{ℤ, if◌then◌else◌}
 use Rattle.std.specs.List.{AllByRecursion}
 use Rattle.std.specs.FinMap as map
@@ -77,7 +77,7 @@ use Rattle.host_machine.specs.Interface.Step.{Act, Step}
 use Rattle.host_machine.specs.Interface.Step as step
 use Rattle.host_machine.specs.Laws.Lengths.{Fits, FramesOfRunsFit, PiecesFit}
 use Rattle.host_machine.specs.Laws.Real.{IsPart, IsReal}
-use Rattle.host_machine.specs.Laws.Restraint.SentFrames.{IsNextPiece, IsOfPacket, IsOfReply, SendsInOrder, replying}
+use Rattle.host_machine.specs.Laws.Restraint.SentFrames.{IsNextPiece, IsOfPacket, IsOfReply, SendsAs, SendsInOrder, replying}
 use Rattle.host_machine.specs.Laws.Restraint.SentFrames as law
 use Rattle.host_machine.specs.Laws.Unfolded.{IsSingle}
 use Rattle.host_machine.proofs.Interface.SingleCalls.{run_unfolds}
@@ -185,11 +185,11 @@ good_sent e = egressed GoodOver good_keeps good_on
 
 -- A dispatch
 
-six : (m : Medium) (own : EthernetAddress) → IsOf m (hardware.Ethernet own) → length own.0 ≡ 6
+pub six : (m : Medium) (own : EthernetAddress) → IsOf m (hardware.Ethernet own) → length own.0 ≡ 6
 six medium.Ethernet own is = is
 six medium.Ip own is = absurd is
 
-one_frame : {f g : List ℕ} → f ∷ [] ≡ g ∷ [] → f ≡ g
+pub one_frame : {f g : List ℕ} → f ∷ [] ≡ g ∷ [] → f ≡ g
 one_frame e = cc
 
 module _ (K new : Host) (frame : List ℕ) (real : IsReal K) (big : 576 ≤ ip_mtu_of K.capabilities) where
@@ -251,16 +251,21 @@ module _ (K new : Host) (frame : List ℕ) (real : IsReal K) (big : 576 ≤ ip_m
   dispatched sized (dispatch.ToUnspecified n o u) = some_sent u.silent
   dispatched {p} {outcome} sized (dispatch.ToSpecified more s d n) = over K.ipv4_id K.hardware_addr p outcome more refl sized d
 
+-- who sends as a host has hardware addresses of its medium, too
+pub real_as : {H K : Host} → SendsAs H K → IsReal H → IsReal K
+real_as {H} {K} s real =
+    let c : K.capabilities ≡ H.capabilities = s.capabilities in record {
+      own = rw (c, s.hardware_address) real.own;
+      neighbors = λ a n is. subst (λ k. IsOf k.medium n.hardware_addr) (sym c)
+          (real.neighbors a n (subst (λ k. map.get k a ≡ Some n) s.neighbors is));
+    }
+
 -- The frame of a packet
 of_packet : {H : Host} {p : Packet} {frame : List ℕ} → IsReal H → 576 ≤ ip_mtu_of H.capabilities → IsSized H.capabilities p → IsOfPacket H p frame →
     length frame ≤ H.capabilities.max_transmission_unit
 of_packet {H} {p} {frame} real big sized o =
     let c : o.before.capabilities ≡ H.capabilities = o.same.capabilities in
-    let here : IsReal o.before = record {
-      own = rw (c, o.same.hardware_address) real.own;
-      neighbors = λ a n is. subst (λ k. IsOf k.medium n.hardware_addr) (sym c)
-          (real.neighbors a n (subst (λ k. map.get k a ≡ Some n) o.same.neighbors is));
-    } in
+    let here : IsReal o.before = real_as o.same real in
     subst (λ k. length frame ≤ k.max_transmission_unit) c
     (dispatched o.before o.after frame here (subst (λ k. 576 ≤ ip_mtu_of k) (sym c) big) (subst (λ k. IsSized k p) (sym c) sized) o.dispatched)
 
@@ -395,7 +400,7 @@ error_sized c p (v6.Mld (Report count)) octets e few = absurd (omega (arith, few
 same_packet : {p q : Packet} {reply : Option Reply} → reply ≡ Some (Ip p) → reply ≡ Some (Ip q) → p ≡ q
 same_packet {p} {q} e f = let both : Some (Ip p) ≡ Some (Ip q) = sym e ∙ f in cc
 
-reply_sized : {H : Host} {frame : List ℕ} {reply : Option Reply} (p : Packet) → IsReal H → Origin H frame reply → reply ≡ Some (Ip p) →
+pub reply_sized : {H : Host} {frame : List ℕ} {reply : Option Reply} (p : Packet) → IsReal H → Origin H frame reply → reply ≡ Some (Ip p) →
     IsSized H.capabilities p
 reply_sized p real (Silent e) is = let bad : None ≡ Some (Ip p) = sym e ∙ is in absurd cc
 reply_sized p real (ByArp own r on e a) is = let bad : Some (Arp r) ≡ Some (Ip p) = sym e ∙ is in absurd cc
@@ -456,7 +461,7 @@ sending_fits {H} real big fit to s = subst (AllByRecursion (Short H)) (sym s.all
     (each _ _ s.packets (λ frame x. of_packet real big (socket_sized H x.socket x.packet x.offered) x.sent) s.packets_are)))))))
 
 -- why a call that receives replies
-origin_of : {t : ℤ} {answer : PollIngressSingleResult} {old new : Host} {told : List Event} {notes : List Note} (i : Ingress t answer old told notes new) →
+pub origin_of : {t : ℤ} {answer : PollIngressSingleResult} {old new : Host} {told : List Event} {notes : List Note} (i : Ingress t answer old told notes new) →
     (frame : List ℕ) × Origin (without_expired old t) frame i.response.reply
 origin_of {t} {answer} {old} i = by i.reception i.response.takes where
   by : (r : Reception) → Takes (without_expired old t) r i.response.reply i.response.notes_taking i.response.taken →
@@ -476,9 +481,10 @@ reply_fits {t} {answer} {old} i frame real replies big (law.OfIp p e o) =
     let began : IsReal (without_expired old t) = record { own = real.own; neighbors = real.neighbors } in
     of_packet replies big (reply_sized p began (origin_of i).1 e) o
 
-receiving_fits : {t : ℤ} {answer : PollIngressSingleResult} {old new : Host} {told : List Event} {notes : List Note} (i : Ingress t answer old told notes new) →
-    IsReal old → 576 ≤ ip_mtu_of old.capabilities → AllByRecursion (Short old) (sent_frames told)
-receiving_fits {t} {answer} {old} {new} {told} {notes} i real big =
+-- a host is one as it replies, too
+pub replies_real : {t : ℤ} {answer : PollIngressSingleResult} {old new : Host} {told : List Event} {notes : List Note} →
+    Ingress t answer old told notes new → IsReal old → IsReal (replying t old new)
+replies_real {old = old} {new = new} {told = told} {notes = notes} i real =
     let stays = run_real old new (record {
       command = _;
       answer = _;
@@ -487,12 +493,15 @@ receiving_fits {t} {answer} {old} {new} {told} {notes} i real big =
       notes = notes;
       before = old;
       after = new;
-    } ∷ []) (Then (step.PolledIngressSingle i) Ends) real in
-    let replies : IsReal (replying t old new) = record {
+    } ∷ []) (Then (step.PolledIngressSingle i) Ends) real in record {
       own = real.own;
       neighbors = λ a n is. subst (λ k. IsOf k.medium n.hardware_addr) stays.0 (stays.1.neighbors a n is);
-    } in
-    each _ _ (sent_frames told) (λ frame o. reply_fits i frame real replies big o) (ingress_frames t answer old new told notes i)
+    }
+
+receiving_fits : {t : ℤ} {answer : PollIngressSingleResult} {old new : Host} {told : List Event} {notes : List Note} (i : Ingress t answer old told notes new) →
+    IsReal old → 576 ≤ ip_mtu_of old.capabilities → AllByRecursion (Short old) (sent_frames told)
+receiving_fits {t} {answer} {old} {new} {told} {notes} i real big =
+    each _ _ (sent_frames told) (λ frame o. reply_fits i frame real (replies_real i real) big o) (ingress_frames t answer old new told notes i)
 
 -- Steps
 

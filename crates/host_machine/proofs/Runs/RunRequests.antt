@@ -57,12 +57,12 @@ use Rattle.host_machine.proofs.Interface.Turns.{MaySend, sent_is, dispatched_soc
 use Rattle.host_machine.proofs.Runs.Walk.{Reached, taken, dispatched}
 
 -- what is read of two parts one after the other
-behind : (b : Bool) (t : ℤ) (xs ys : List ℤ) → (if b then t ∷ (xs ++ ys) else (xs ++ ys)) ≡ (if b then t ∷ xs else xs) ++ ys
+pub behind : (b : Bool) (t : ℤ) (xs ys : List ℤ) → (if b then t ∷ (xs ++ ys) else (xs ++ ys)) ≡ (if b then t ∷ xs else xs) ++ ys
 behind true t xs ys = refl
 behind false t xs ys = refl
 
 -- the moment of the last question
-abbrev asked_last : ℤ → List Event → ℤ
+abbrev pub asked_last : ℤ → List Event → ℤ
 asked_last t [] = t
 asked_last t (Received now reception ∷ es) = asked_last now es
 asked_last t (Asked now given ∷ es) = asked_last now es
@@ -78,34 +78,34 @@ requests-append m t (Sent id frame ∷ xs) ys =
     ∙ behind (is_request m frame) t (requests_at m (sent_at t xs)) (requests_at m (sent_at (asked_last t xs) ys))
 
 -- a host whose hardware addresses are those of its medium, and whose pending fragments are for such an address
-record IsSound (H : Host) : Type 0 where
-  real : IsReal H
-  left : AllByRecursion (λ p. IsOf H.capabilities.medium p.destination) H.left
+pub record IsSound (H : Host) : Type 0 where
+  pub real : IsReal H
+  pub left : AllByRecursion (λ p. IsOf H.capabilities.medium p.destination) H.left
 
 -- each regular host is one
-sound_of : (H : Host) → IsRegular H → IsSound H
+pub sound_of : (H : Host) → IsRegular H → IsSound H
 sound_of H r = record { real = r.real; left = by H.left r.left } where
   by : (ps : List Piece) → AllByRecursion (IsPart H.capabilities.medium) ps → AllByRecursion (λ p. IsOf H.capabilities.medium p.destination) ps
   by [] all = tt
   by (p ∷ ps) all = (all.0.destination, by ps all.1)
 
 -- what the law reads of a host, and what it says of a part of a step
-record Asks (old : Host) (told : List Event) (notes : List Note) (new : Host) : Type 0 where
-  noted : (t : ℤ) → requests_at old.capabilities.medium (sent_at t told) ≡ asks notes
-  same : new.capabilities ≡ old.capabilities
-  sound : IsSound new
+pub record Asks (old : Host) (told : List Event) (notes : List Note) (new : Host) : Type 0 where
+  pub noted : (t : ℤ) → requests_at old.capabilities.medium (sent_at t told) ≡ asks notes
+  pub same : new.capabilities ≡ old.capabilities
+  pub sound : IsSound new
 
-record Asking (old : Host) (told : List Event) (notes : List Note) (new : Host) : Type 0 where
-  asks : Asks old told notes new
-  nobody : NoSocketSpeaks new
+pub record Asking (old : Host) (told : List Event) (notes : List Note) (new : Host) : Type 0 where
+  pub asks : Asks old told notes new
+  pub nobody : NoSocketSpeaks new
 
-abbrev AskedOver : Part
+abbrev pub AskedOver : Part
 AskedOver old told notes new = IsSound old → NoSocketSpeaks old → Asking old told notes new
 
-abbrev StepAsks : Part
+abbrev pub StepAsks : Part
 StepAsks old told notes new = IsSound old → NoSocketSpeaks old → Asks old told notes new
 
-asks_on : (a b c : Host) (ts us : List Event) (xs ys : List Note) → Asks a ts xs b → Asks b us ys c → Asks a (ts ++ us) (xs ++ ys) c
+pub asks_on : (a b c : Host) (ts us : List Event) (xs ys : List Note) → Asks a ts xs b → Asks b us ys c → Asks a (ts ++ us) (xs ++ ys) c
 asks_on a b c ts us xs ys one two = record {
   noted = λ t.
       let more : requests_at a.capabilities.medium (sent_at (asked_last t ts) us) ≡ asks ys =
@@ -115,7 +115,7 @@ asks_on a b c ts us xs ys one two = record {
   sound = two.sound;
 }
 
-on : (a b c : Host) (ts us : List Event) (xs ys : List Note) → AskedOver a ts xs b → AskedOver b us ys c → AskedOver a (ts ++ us) (xs ++ ys) c
+pub on : (a b c : Host) (ts us : List Event) (xs ys : List Note) → AskedOver a ts xs b → AskedOver b us ys c → AskedOver a (ts ++ us) (xs ++ ys) c
 on a b c ts us xs ys one two = λ sound none.
     let x = one sound none in
     let y = two x.asks.sound x.nobody in
@@ -125,13 +125,13 @@ on a b c ts us xs ys one two = λ sound none.
 stays : (old new : Host) → new.capabilities ≡ old.capabilities → new.left ≡ old.left → IsReal new → IsSound old → Asks old [] [] new
 stays old new c l r sound = record { noted = λ t. refl; same = c; sound = record { real = r; left = rw (c, l) sound.left } }
 
-keeps : (old new : Host) → Keeps old new → (NoSocketSpeaks old → NoSocketSpeaks new) → AskedOver old [] [] new
+pub keeps : (old new : Host) → Keeps old new → (NoSocketSpeaks old → NoSocketSpeaks new) → AskedOver old [] [] new
 keeps old new k s = λ sound none. record {
   asks = stays old new (ap (λ (K : Host). K.capabilities) k.same) (ap (λ (K : Host). K.left) k.same) (k.real sound.real) sound;
   nobody = s none;
 }
 
-refused : (H : Host) → AskedOver H (Asked H.moment false ∷ []) [] H
+pub refused : (H : Host) → AskedOver H (Asked H.moment false ∷ []) [] H
 refused H = λ sound none. record { asks = record { noted = λ t. refl; same = refl; sound = sound }; nobody = none }
 
 -- the frames of a dispatch
@@ -192,7 +192,7 @@ dispatch_sound d = dispatched SoundOver sound_keeps sound_on
     (λ H h p reached. λ s. sound_still H H refl refl refl refl s)
     sound_cuts d
 
-dispatches : (p : Packet) (outcome : Outcome) (H new : Host) (frames : List (List ℕ)) (notes : List Note) →
+pub dispatches : (p : Packet) (outcome : Outcome) (H new : Host) (frames : List (List ℕ)) (notes : List Note) →
     MaySend H p → Dispatches p outcome H frames notes new →
     AskedOver H (Asked H.moment true ∷ sends frames) notes new
 dispatches p outcome H new frames notes may d = λ s none.
@@ -205,7 +205,7 @@ dispatches p outcome H new frames notes may d = λ s none.
       nobody = rw (dispatched_sockets d) none;
     }
 
-pieces : (H : Host) (p : Piece) (rest : List Piece) →
+pub pieces : (H : Host) (p : Piece) (rest : List Piece) →
     H.left ≡ p ∷ rest → AskedOver H (Asked H.moment true ∷ sends (piece_frame H p ∷ [])) (OfCuts (PieceSent p) ∷ []) (with_left H rest)
 pieces H p rest e = λ s none.
     let well : AllByRecursion (λ (q : Piece). IsOf H.capabilities.medium q.destination) (p ∷ rest) = rw e at s.left in record {
@@ -294,7 +294,7 @@ responds (Some (Ip packet)) H frames notes new t at good r s none =
       rw (dispatched_sockets r.1) none,
     )
 
-ingress : {t : ℤ} {answer : PollIngressSingleResult} {old new : Host} {told : List Event} {notes : List Note} →
+pub ingress : {t : ℤ} {answer : PollIngressSingleResult} {old new : Host} {told : List Event} {notes : List Note} →
     Ingress t answer old told notes new → AskedOver old told notes new
 ingress {t} {answer} {old} {new} {told} {notes} i = λ s none.
     let r = i.response in
@@ -317,31 +317,31 @@ ingress {t} {answer} {old} {new} {told} {notes} i = λ s none.
       nobody = went.2;
     }
 
-sweeps : (H : Host) (t : ℤ) → AskedOver H [] [] (without_expired H t)
+pub sweeps : (H : Host) (t : ℤ) → AskedOver H [] [] (without_expired H t)
 sweeps H t = λ s none. record {
   asks = stays H (without_expired H t) refl refl (record { own = s.real.own; neighbors = s.real.neighbors }) s;
   nobody = none;
 }
 
-moves : (H : Host) (list : List IpCidr) → AskedOver H [] [] (record H { ip_addrs = list; neighbors = without_neighbors H.neighbors })
+pub moves : (H : Host) (list : List IpCidr) → AskedOver H [] [] (record H { ip_addrs = list; neighbors = without_neighbors H.neighbors })
 moves H list = λ s none. record {
   asks = stays H _ refl refl (record { own = s.real.own; neighbors = none_of H.capabilities.medium H.neighbors }) s;
   nobody = none;
 }
 
-sets : (H : Host) (h : HardwareAddress) → IsOf H.capabilities.medium h → AskedOver H [] [] (record H { hardware_addr = h })
+pub sets : (H : Host) (h : HardwareAddress) → IsOf H.capabilities.medium h → AskedOver H [] [] (record H { hardware_addr = h })
 sets H h of = λ s none. record {
   asks = stays H _ refl refl (record { own = of; neighbors = s.real.neighbors }) s;
   nobody = none;
 }
 
-lasts : (H : Host) (timeout : ℕ) → AskedOver H [] [] (record H { reassembly_timeout = timeout })
+pub lasts : (H : Host) (timeout : ℕ) → AskedOver H [] [] (record H { reassembly_timeout = timeout })
 lasts H timeout = λ s none. record {
   asks = stays H _ refl refl (record { own = s.real.own; neighbors = s.real.neighbors }) s;
   nobody = none;
 }
 
-acts : (H : Host) (sockets : SocketSet) → StepAsks H [] [] (record H { sockets = sockets })
+pub acts : (H : Host) (sockets : SocketSet) → StepAsks H [] [] (record H { sockets = sockets })
 acts H sockets = λ s none. stays H _ refl refl (record { own = s.real.own; neighbors = s.real.neighbors }) s
 
 step_asks : {command : Command} {answer : Answer} {old new : Host} {told : List Event} {done : List Act} {notes : List Note} →

@@ -1,6 +1,6 @@
 -- Worked examples with sockets: the frames of a datagram, a segment and a packet of an unknown protocol, and how the
 -- host of 192.168.69.1/24 processes them.
-use Rattle.std.specs.Prelude.{◌≡◌, ℕ, ℤ, pos, true, false, List, [], ◌∷◌, drop, Some, None}
+use Rattle.std.specs.Prelude.{◌≡◌, ℕ, ◌+◌, ℤ, pos, true, false, List, [], ◌∷◌, length, drop, Some, None}
 use Rattle.net_base.specs.Device.{Received, Frame, Asked, Sent}
 use Rattle.net_base.specs.declared.phy.Medium.TheVariants as medium
 use Rattle.ip_address.specs.EthernetAddress.{broadcast}
@@ -149,6 +149,13 @@ ProtocolIsRefused =
     Ingress (pos 0) result.SocketStateChanged (example.host 0x1405 example.neighbors_with_sender)
     (Received (pos 0) (Frame unknown_protocol_frame) ∷ Sent 0 protocol_unreachable ∷ []) (example.identify ∷ [])
     (example.host 0x1406 example.neighbors_after_renewal)
+
+-- how long replies are: that to a ping is as long as the ping, and an error has 28 octets more than the frame for which
+-- it is sent, as it has a header of IPv4 and one of ICMP before that frame's packet
+pub record RepliesAreMeasured : Type 0 where
+  pub echo : length example.echo_reply ≡ length example.echo_request
+  pub closed_port : length port_unreachable ≡ length datagram + 28
+  pub other_protocol : length protocol_unreachable ≡ length unknown_protocol_frame + 28
 
 -- a UDP socket with `hi` to send to port 5000 of 192.168.69.100
 abbrev pub sending : UdpSocket

@@ -39,6 +39,7 @@ use Rattle.host_machine.specs.Laws.Restraint.Rebuilt.{DropsWrongRebuiltPayloads}
 use Rattle.host_machine.specs.Laws.Restraint.Replies.{AdvertisesOnlyItself, SendsEchoesV6WithCause, SendsEchoesWithCause}
 use Rattle.host_machine.specs.Laws.Restraint.Replies.{SendsErrorsV6WithCause, SendsErrorsWithCause, SendsReplyKinds}
 use Rattle.host_machine.specs.Laws.Restraint.Replies.{SendsResetsWithCause, TellsItselfByArp}
+use Rattle.host_machine.specs.Laws.Restraint.ReplyLengths.{RepliesShortly}
 use Rattle.host_machine.specs.Laws.Restraint.SentFrames.{IsOfReply, SendsInOrder}
 use Rattle.host_machine.specs.Laws.Restraint.Sources.{RepliesFromOwn, SendsFromOwn}
 use Rattle.host_machine.specs.Laws.Restraint.Settings.{KeepsAddressesAndRoutes, KeepsAtFrame, KeepsSettings, MaySet}
@@ -98,6 +99,7 @@ pub record IsRestrained (t : ℤ) (frame : List ℕ) (reply : Option Reply) (old
   pub errors : SendsErrorsWithCause frame old reply
   pub errors_v6 : SendsErrorsV6WithCause frame old reply
   pub resets : SendsResetsWithCause frame old reply
+  pub lengths : RepliesShortly frame old told
   pub sources : RepliesFromOwn frame old reply
   pub igmp_answers : IgmpIsAsked t frame old new
   pub mld_answers : MldIsAsked t frame old new

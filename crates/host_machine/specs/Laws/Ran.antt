@@ -16,6 +16,7 @@ use Rattle.host_machine.specs.Laws.Lengths.{FramesFit, PiecesFit}
 use Rattle.host_machine.specs.Laws.Wire.{Shows}
 use Rattle.host_machine.specs.Laws.TwoHosts.{HaveOwnKeys, cuts_in}
 use Rattle.host_machine.specs.Laws.Requests.{NoSocketSpeaks, requests_in}
+use Rattle.host_machine.specs.Laws.Solicitations.{SolicitsSeldom}
 use Rattle.host_machine.specs.Interface.Run.{Transition, Run, Did, AreSpaced, events_in, acts_in, notes_in}
 use Rattle.host_machine.specs.Laws.Quiet.{AreQuiet}
 use Rattle.host_machine.specs.Laws.Calls.{IsMadeOfCalls}
@@ -27,6 +28,8 @@ pub record Laws (first : Host) (transitions : List Transition) : Type 0 where
       AreSpaced first.neighbors.silent_until (requests_in first.capabilities.medium transitions)
   -- so are the requests noted
   pub asks_spaced : AreSpaced first.neighbors.silent_until (asks (notes_in transitions))
+  -- routers are solicited three times at most, four seconds apart or more
+  pub solicitations_few : SolicitsSeldom first transitions
   -- the fragments that arrive are those in the frames received
   pub arrivals_match_frames : AllByRecursion ArrivesInFrames transitions
   -- each reassembled datagram is what arrived under its key since its slot was taken

@@ -5,6 +5,7 @@ pub mod Rebuilt
 pub mod Neighbors
 pub mod ResetNumbers
 pub mod Replies
+pub mod ReplyLengths
 pub mod Chosen
 pub mod NextHop
 pub mod Queries
