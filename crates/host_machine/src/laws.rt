@@ -13,7 +13,8 @@ ghost use Rattle.host_machine.specs.Examples.Fragments.{PacketGoesInPieces, TenA
 ghost use Rattle.host_machine.specs.Examples.Polling.{RequestIsPolled, WaitIsDue};
 ghost use Rattle.host_machine.specs.Examples.Sockets.{ConfigurationsAreTested, ConnectionIsReset};
 ghost use Rattle.host_machine.specs.Examples.Sockets.{DatagramIsDelivered, DatagramIsRefused, ProtocolIsRefused};
-ghost use Rattle.host_machine.specs.Examples.Sockets.{RawSocketReceives, RepliesAreMeasured, SocketWaits, WindowFitsBurst};
+ghost use Rattle.host_machine.specs.Examples.Sockets.{RawSocketReceives, RepliesAreMeasured, SocketWaits};
+ghost use Rattle.host_machine.specs.Examples.Sockets.{WindowFitsBurst};
 ghost use Rattle.host_machine.specs.Laws.Quiet.{SocketsAreQuiet};
 ghost use Rattle.host_machine.specs.Laws.Refusals.{RefusalsLoseNothing};
 ghost use Rattle.host_machine.specs.Laws.Determined.{DispatchIsDetermined, EgressIsDetermined};
@@ -259,8 +260,8 @@ pub fn protocol_is_refused()
     ensures { ProtocolIsRefused }
 {}
 
-/// A worked example: the reply to a ping is as long as the ping, and an error has 28 octets more than the frame for which
-/// it is sent.
+/// A worked example: the reply to a ping is as long as the ping, and an error has 28 octets more than the frame for
+/// which it is sent.
 pub fn replies_are_measured()
     ensures { RepliesAreMeasured }
 {}

@@ -147,9 +147,9 @@ pub fn resets_have_cause()
     ensures { ResetsHaveCause }
 {}
 
-/// A call that takes a frame without a fragment sends at most as many octets as the frame has, and 48: an error of ICMPv6
-/// has so many before what it quotes. For a frame of less than 38 octets, as no Ethernet carries, it may send 86, those of
-/// a neighbour solicitation (RFC 4443 2.4).
+/// A call that takes a frame without a fragment sends at most as many octets as the frame has, and 48: an error of
+/// ICMPv6 has so many before what it quotes. For a frame of less than 38 octets, as no Ethernet carries, it may send 86,
+/// those of a neighbour solicitation (RFC 4443 2.4).
 pub fn replies_are_short()
     ensures { RepliesAreShort }
 {}
@@ -222,8 +222,9 @@ pub fn joins_are_told_once()
     ensures { JoinsAreToldOnce }
 {}
 
-/// A host that has solicited no router solicits routers three times at most, whatever it receives and however the clock
-/// goes, and each time at least four seconds after the one before, unless a raw socket sends ICMPv6 (RFC 4861 6.3.7, 10).
+/// A host that has solicited no router solicits routers three times at most, whatever it receives and however the
+/// clock goes, and each time at least four seconds after the one before, unless a raw socket sends ICMPv6 (RFC 4861
+/// 6.3.7, 10).
 pub fn solicitations_are_few()
     ensures { SolicitationsAreFew }
 {}

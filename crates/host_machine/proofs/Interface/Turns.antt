@@ -427,7 +427,8 @@ module _ (Law : Part)
   igmp_sent (igmp_rules.NoAddress next h g a t n e) = still t n e
   igmp_sent (igmp_rules.NotGranted p h r t n e) = not_given t n e
   igmp_sent {H} {new} {told} {notes} (igmp_rules.Sent p outcome frames mid h r d t e) =
-      rw t (before (dispatches p outcome H mid frames notes (OfItsOwn (report_usual H p r)) d) (kept_by e (unread refl refl)) (ap count_of e) (λ none. rw e none))
+      rw t (before (dispatches p outcome H mid frames notes (OfItsOwn (report_usual H p r)) d)
+      (kept_by e (unread refl refl)) (ap count_of e) (λ none. rw e none))
 
   routers_solicited : {H new : Host} {told : List Event} {notes : List Note} → NdiscRsEgress H told notes new → Law H told notes new
   routers_solicited (slaac.NotDue d t n e) = still t n e
