@@ -3,3 +3,14 @@ pub mod ArrivalRuns
 pub mod ReceptionRuns
 pub mod Prefixes
 pub mod Comings
+pub mod Numbers
+pub mod OnlyLives
+pub mod ActLists
+pub mod Progress
+pub mod PollProgress
+pub mod CallProgress
+pub mod TurnProgress
+pub mod Exchange
+pub mod Peers
+pub mod MoveWalk
+pub mod Readings

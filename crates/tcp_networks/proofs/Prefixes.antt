@@ -38,7 +38,7 @@ one_append : (b : Bool) (t : Transition) (xs ys : List Transition) →
 one_append true t xs ys = refl
 one_append false t xs ys = refl
 
-transitions-append : (xs ys : List Move) (j : ℕ) → transitions_of (xs ++ ys) j ≡ transitions_of xs j ++ transitions_of ys j
+pub transitions-append : (xs ys : List Move) (j : ℕ) → transitions_of (xs ++ ys) j ≡ transitions_of xs j ++ transitions_of ys j
 transitions-append [] ys j = refl
 transitions-append (m ∷ xs) ys j =
     ap (λ (ts : List Transition). if m.host == j then m.transition ∷ ts else ts) (transitions-append xs ys j)
@@ -58,12 +58,12 @@ run_parts a b [] qs r = record { mid = a; begins = Ends; ends = r }
 run_parts a b (p ∷ ps) qs (Then {mid = mid} step r) =
     let rest = run_parts mid b ps qs r in record { mid = rest.mid; begins = Then step rest.begins; ends = rest.ends }
 
-record GoesParts (s t : Station) (ps qs : List Transition) : Type 0 where
-  mid : Station
-  begins : Goes s ps mid
-  ends : Goes mid qs t
+pub record GoesParts (s t : Station) (ps qs : List Transition) : Type 0 where
+  pub mid : Station
+  pub begins : Goes s ps mid
+  pub ends : Goes mid qs t
 
-goes_parts : (s t : Station) (ps qs : List Transition) → Goes s (ps ++ qs) t → GoesParts s t ps qs
+pub goes_parts : (s t : Station) (ps qs : List Transition) → Goes s (ps ++ qs) t → GoesParts s t ps qs
 goes_parts s t [] qs g = record { mid = s; begins = Stops; ends = g }
 goes_parts s t (p ∷ ps) qs (Works none g) =
     let rest = goes_parts s t ps qs g in record { mid = rest.mid; begins = Works none rest.begins; ends = rest.ends }

@@ -12,10 +12,11 @@ use Rattle.tcp_networks.specs.Stations.{Station}
 
 -- no packet of TCP waits to be received at a raw socket
 abbrev pub HasNoTcp : RawSocket → Type 0
-HasNoTcp r = AllByRecursion (λ p. (q : Packet) → packet_in r.version p.1 ≡ Some q → number_of (next_header q.header) ≡ 6 → ⊥) r.rx.packets
+HasNoTcp r = AllByRecursion (λ p. (q : Packet) → packet_in r.version p.1 ≡ Some q →
+    number_of (next_header q.header) ≡ 6 → ⊥) r.rx.packets
 
--- where a run begins: no connection, no life, and no packet of TCP at the raw sockets, one way or the other; and the device
--- leaves no checksum out
+-- where a run begins: no connection, no life, and no packet of TCP at the raw sockets, one way or the other; and the
+-- device leaves no checksum out
 pub record IsNew (s : Station) (sockets : SocketSet) : Type 0 where
   pub tells : Tells s.lives s.connections
   pub lives : s.lives ≡ []

@@ -4,3 +4,5 @@ pub mod Arrivals
 pub mod Receptions
 pub mod Beginnings
 pub mod Networks
+pub mod Orders
+pub mod Readings

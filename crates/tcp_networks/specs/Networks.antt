@@ -33,8 +33,8 @@ InOrder hosts moves =
     (before after : List Move) (m : Move) → before ++ m ∷ after ≡ moves →
     AllByRecursion (SentBySome hosts (transitions_of before)) (handed_frames m.transition.told)
 
--- A network of hosts on one medium, with their connections. Each speaks TCP by raw sockets alone, and its owner does nothing
--- but turns of a host of connections; at first there was no connection. No frame comes from outside, and none that is
+-- A network of hosts on one medium, with their connections. Each speaks TCP by raw sockets alone, and its owner does
+-- nothing but turns of a host of connections; at first there was no connection. No frame comes from outside, and none that is
 -- received carries a fragment of TCP. Each connection has ends that a packet can name.
 pub record IsNetwork (m : Medium) (hosts : List Host) (first last : ℕ → Station) (moves : List Move) : Type 0 where
   pub speaks : (j : ℕ) (a : Host) → slice_get hosts j ≡ Some a →
@@ -46,20 +46,24 @@ pub record IsNetwork (m : Medium) (hosts : List Host) (first last : ℕ → Stat
   pub ends : (j : ℕ) (a : Host) (l : Life) → slice_get hosts j ≡ Some a → Contains (last j).lives l → AreEnds l.ends
 
 -- the hosts' stations between two parts of the moves
-pub record AreBetween (hosts : List Host) (first last : ℕ → Station) (before after : List Move) (mid : ℕ → Station) : Type 0 where
+pub record AreBetween (hosts : List Host) (first last : ℕ → Station) (before after : List Move)
+    (mid : ℕ → Station) : Type 0 where
   pub been : (j : ℕ) (a : Host) → slice_get hosts j ≡ Some a → Goes (first j) (transitions_of before j) (mid j)
   pub to_go : (j : ℕ) (a : Host) → slice_get hosts j ≡ Some a → Goes (mid j) (transitions_of after j) (last j)
 
--- what waits at a raw socket of TCP before a move was sent in a life at one of the hosts, in a move before it
+-- each packet of TCP that waits at a raw socket before a move was sent in a life at one of the hosts, in a move
+-- before it, or is a reset
 abbrev pub NetworksBring : Type 0
 NetworksBring =
-    (m : Medium) (hosts : List Host) (first last : ℕ → Station) (moves : List Move) → IsNetwork m hosts first last moves →
+    (m : Medium) (hosts : List Host) (first last : ℕ → Station) (moves : List Move) →
+    IsNetwork m hosts first last moves →
     (before after : List Move) (x : Move) → before ++ x ∷ after ≡ moves → (mid : ℕ → Station) →
     AreBetween hosts first last before (x ∷ after) mid → (a : Host) → slice_get hosts x.host ≡ Some a →
     WaitAsBrought hosts mid x.transition.before.sockets
 
 -- a segment that comes between these ends was sent in a life at one of the hosts, between the ends reversed
-pub record WasSentBetween (hosts : List Host) (stations : ℕ → Station) (e : Endpoints) (s : machine.Segment) : Type 0 where
+pub record WasSentBetween (hosts : List Host) (stations : ℕ → Station) (e : Endpoints)
+    (s : machine.Segment) : Type 0 where
   pub sender : ℕ
   pub is_host : IsHost hosts sender
   pub life : Life
@@ -75,8 +79,10 @@ pub data ComesFromLife (hosts : List Host) (stations : ℕ → Station) (e : End
 -- whatever segment comes to a connection in a move was sent so, in a move before it
 abbrev pub SegmentsComeFromLives : Type 0
 SegmentsComeFromLives =
-    (m : Medium) (hosts : List Host) (first last : ℕ → Station) (moves : List Move) → IsNetwork m hosts first last moves →
+    (m : Medium) (hosts : List Host) (first last : ℕ → Station) (moves : List Move) →
+    IsNetwork m hosts first last moves →
     (before after : List Move) (x : Move) → before ++ x ∷ after ≡ moves → (mid : ℕ → Station) →
     AreBetween hosts first last before (x ∷ after) mid → (a : Host) → slice_get hosts x.host ≡ Some a →
-    (checked : Bool) (own : List IpCidr) (e : Endpoints) (s : machine.Segment) → Came checked own x.transition.before.sockets e s →
+    (checked : Bool) (own : List IpCidr) (e : Endpoints) (s : machine.Segment) →
+    Came checked own x.transition.before.sockets e s →
     ComesFromLife hosts mid e s

@@ -31,12 +31,14 @@ pub record BringsOfSome (hosts : List Host) (stations : ℕ → Station) (p : Pa
 -- if octets are read as a packet of TCP, it does
 abbrev pub IsBrought : List Host → (ℕ → Station) → IpVersion → List ℕ → Type 0
 IsBrought hosts stations version octets =
-    (p : Packet) → packet_in version octets ≡ Some p → number_of (next_header p.header) ≡ 6 → BringsOfSome hosts stations p
+    (p : Packet) → packet_in version octets ≡ Some p → number_of (next_header p.header) ≡ 6 →
+    BringsOfSome hosts stations p
 
 -- so it is with each packet that waits to be received at a raw socket
 abbrev pub WaitAsBrought : List Host → (ℕ → Station) → SocketSet → Type 0
 WaitAsBrought hosts stations sockets =
-    (i : ℕ) (r : RawSocket) → raw_at sockets i ≡ Some r → AllByRecursion (λ p. IsBrought hosts stations r.version p.1) r.rx.packets
+    (i : ℕ) (r : RawSocket) → raw_at sockets i ≡ Some r →
+    AllByRecursion (λ p. IsBrought hosts stations r.version p.1) r.rx.packets
 
 -- a frame carries no fragment of a packet of TCP for a host (RFC 791 3.2)
 abbrev pub HasNoFragment : Host → List ℕ → Type 0
@@ -57,7 +59,8 @@ pub record IsNamed (first last : Station) : Type 0 where
 -- carries a fragment of TCP, and the hosts that sent them drive lives.
 abbrev pub QueuesHoldWhatIsBrought : Type 0
 QueuesHoldWhatIsBrought =
-    (hosts : List Host) (runs : Runs) (first last : ℕ → Station) (b b' : Host) (qs : List Transition) (start stop : Station) →
+    (hosts : List Host) (runs : Runs) (first last : ℕ → Station)
+    (b b' : Host) (qs : List Transition) (start stop : Station) →
     Run b qs b' → Goes start qs stop → IsReal b →
     ((j : ℕ) (a : Host) → slice_get hosts j ≡ Some a → SendsByRaw 6 b.capabilities.medium a (runs j)) →
     ((j : ℕ) (a : Host) → slice_get hosts j ≡ Some a → Drives hosts runs a (runs j) (first j) (last j)) →
