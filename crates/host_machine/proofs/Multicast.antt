@@ -1,4 +1,5 @@
 pub mod GroupChanges
 pub mod GroupReports
+pub mod KeptGroups
 pub mod ReportTimes
 pub mod HeardQueries

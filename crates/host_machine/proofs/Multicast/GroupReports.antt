@@ -42,7 +42,7 @@ module _ (P : Group → Type 0) where
   all_index (g ∷ gs) zero d all less = all.0
   all_index (g ∷ gs) (suc k) d all less = all_index gs k d all.1 (omega (arith, less))
 
-  all_out : (gs : List Group) (a : IpAddress) → AllByRecursion P gs → AllByRecursion P (taken_out gs a)
+  pub all_out : (gs : List Group) (a : IpAddress) → AllByRecursion P gs → AllByRecursion P (taken_out gs a)
   all_out [] a all = all_take (length {A = Group} [] - 1) [] tt
   all_out (g ∷ gs) a all =
       let last = all_index (g ∷ gs) (length (g ∷ gs) - 1) (new_group a) all (omega arith) in
@@ -109,10 +109,6 @@ was_before_leaves base state gs a all = by (state_of gs a) where
   by (Some Joining) = all
   by (Some Joined) = all
   by (Some Leaving) = all_out (Was base state) gs a all
-
-pub was_pending : (base gs : List Group) (state : GroupState) (a : IpAddress) → AllByRecursion (Was base state) gs → HasGroup gs a state →
-    HasGroup base a state
-was_pending base gs state a all h = all_at (Was base state) gs h.0 (record { addr = a; state = state }) all h.1 refl
 
 -- a group of another table, in whatever state
 abbrev pub Came : List Group → Group → Type 0

@@ -60,7 +60,7 @@ use Rattle.host_machine.specs.Multicast.Mld as mld_rules
 use Rattle.host_machine.specs.Discovery.RouterSolicitation.{NdiscRsEgress, due_solicitation}
 use Rattle.host_machine.specs.Discovery.RouterSolicitation as slaac
 use Rattle.host_machine.specs.Interface.Ingress.{Takes, Ingress}
-use Rattle.host_machine.specs.Laws.Restraint.Queries.{HasGroup, IgmpGoesOn, IsMldPendingUntil, IsPendingUntil, MakesNonePending}
+use Rattle.host_machine.specs.Laws.Restraint.Queries.{HasGroup, IgmpGoesOn, IsMldPendingUntil, IsPendingUntil, KeepsGroups}
 use Rattle.host_machine.specs.Laws.Restraint.Queries.{MldGoesOn}
 use Rattle.host_machine.specs.Laws.Restraint.Queries as queries
 use Rattle.host_machine.specs.Laws.Restraint.Readings.{Receives}
@@ -81,7 +81,8 @@ use Rattle.host_machine.proofs.Interface.DueWork.{le_not_lt}
 use Rattle.host_machine.proofs.Interface.GrantedEgress.{untouched}
 use Rattle.host_machine.proofs.Multicast.GroupReports.{Came, Was, came_by_join, came_by_leave, came_itself, came_v4, came_v6}
 use Rattle.host_machine.proofs.Multicast.GroupReports.{fewer_after_join, fewer_after_leave, first_one, reports_carry}
-use Rattle.host_machine.proofs.Multicast.GroupReports.{was_before_joins, was_before_leaves, was_itself, was_pending}
+use Rattle.host_machine.proofs.Multicast.GroupReports.{was_before_joins, was_before_leaves, was_itself}
+use Rattle.host_machine.proofs.Multicast.KeptGroups.{Stay, stay_at_join, stay_at_leave, stay_then, stay_themselves}
 use Rattle.host_machine.proofs.Multicast.ReportTimes.{joins_told_once, leaves_told_once}
 use Rattle.host_machine.proofs.Interface.SettledFields.{Settings, dispatch_leaves, response_settled}
 
@@ -441,7 +442,7 @@ pub record IsSending (t : ℤ) (old : Host) (told : List Event) (new : Host) : T
   pub frames : SendsInOrder (at old t) (sent_frames told) new
   pub igmp_answer : IgmpGoesOn t old.igmp_report new.igmp_report
   pub mld_answer : MldGoesOn t old.mld_report new.mld_report
-  pub groups : MakesNonePending old new
+  pub groups : KeepsGroups old new
 
 pub sends_in_order : (t : ℤ) (answer : PollResult) (old new : Host) (told : List Event) (notes : List Note) → Egress t answer old told notes new →
     IsSending t old told new
@@ -497,9 +498,10 @@ sends_in_order t answer old new told notes e =
     reports_carry (λ gs hs. AllByRecursion (Was old.groups Leaving) gs → AllByRecursion (Was old.groups Leaving) hs) (λ gs all. all)
     (λ gs hs a f all. was_before_joins old.groups Leaving (λ x. absurd cc) hs a (f all)) r3.begins (rw groups2 (was_itself old.groups Leaving)) in
     let s4 = all_told H (was_before_leaves old.groups Leaving) s3.still leaving r4.begins in
-    let joining : AllByRecursion (Was old.groups Joining) K4.groups =
-    reports_carry (λ gs hs. AllByRecursion (Was old.groups Joining) gs → AllByRecursion (Was old.groups Joining) hs) (λ gs all. all)
-    (λ gs hs a f all. was_before_leaves old.groups Joining hs a (f all)) r4.begins s3.were in
+    let stay4 : Stay old.groups K4.groups =
+    stay_then (subst (λ gs. Stay gs K3.groups) groups2 (reports_carry Stay stay_themselves (λ gs hs a x. stay_then x (stay_at_join hs a)) r3.begins))
+    (reports_carry Stay stay_themselves (λ gs hs a x. stay_then x (stay_at_leave hs a)) r4.begins) in
+    let stay : Stay old.groups new.groups = subst (Stay old.groups) (sym groups7) stay4 in
     let came4 : AllByRecursion (Came old.groups) K4.groups =
     reports_carry (λ gs hs. AllByRecursion (Came old.groups) gs → AllByRecursion (Came old.groups) hs) (λ gs all. all)
     (λ gs hs a f all. came_by_leave old.groups hs a (f all)) r4.begins
@@ -552,10 +554,7 @@ sends_in_order t answer old new told notes e =
       };
       igmp_answer = rw (igmp7, ← igmp4, ← s4.still.moment) (igmp_goes r5.begins);
       mld_answer = rw (mld7, ← mld5, ← s5.still.moment) (mld_goes r6.begins);
-      groups = record {
-        joins = λ a h. was_pending old.groups K4.groups Joining a joining (rw groups7 at h);
-        leaves = λ a h. was_pending old.groups K4.groups Leaving a s4.were (rw groups7 at h);
-      };
+      groups = record { joined = stay.joined; joining = stay.joining; no_other = stay.no_other; joins = stay.joins; leaves = stay.leaves };
     }
 
 -- receiving begins no silence

@@ -32,7 +32,7 @@ use Rattle.host_machine.specs.Laws.Restraint.Checksums.{DropsWrongHeaders, Drops
 use Rattle.host_machine.specs.Laws.Restraint.Foreign.{DropsForeignPackets, DropsForeignPacketsV6, DropsFramesForOthers}
 use Rattle.host_machine.specs.Laws.Restraint.Foreign.{DropsPacketsFromNoHost, DropsPacketsFromNoHostV6}
 use Rattle.host_machine.specs.Laws.Restraint.Neighbors.{LearnsFromFrames, MayReceive, LearnsNobody}
-use Rattle.host_machine.specs.Laws.Restraint.Queries.{IgmpGoesOn, IgmpIsAsked, MakesNonePending, MldGoesOn}
+use Rattle.host_machine.specs.Laws.Restraint.Queries.{IgmpGoesOn, IgmpIsAsked, KeepsGroups, MldGoesOn}
 use Rattle.host_machine.specs.Laws.Restraint.Queries.{MldIsAsked}
 use Rattle.host_machine.specs.Laws.Restraint.Readings.{Receives}
 use Rattle.host_machine.specs.Laws.Restraint.Rebuilt.{DropsWrongRebuiltPayloads}
@@ -124,7 +124,7 @@ pub record IsEgress (t : ℤ) (p : Transition) : Type 0 where
   pub sources : SendsFromOwn t p.before p.told
   pub igmp_answer : IgmpGoesOn t p.before.igmp_report p.after.igmp_report
   pub mld_answer : MldGoesOn t p.before.mld_report p.after.mld_report
-  pub groups : MakesNonePending p.before p.after
+  pub groups : KeepsGroups p.before p.after
   pub first_datagrams : SendsFirstDatagrams t p.before p.told p.after
   pub to_many : SendsToMany t p.before p.told p.after
   pub due_report : SendsDueReport t p.before p.told p.after

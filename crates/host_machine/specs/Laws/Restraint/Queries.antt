@@ -1,7 +1,7 @@
 -- Reports of groups: a pending answer was asked for by a query, and is due within the query's maximum response time,
 -- not before (RFC 2236 3, RFC 3810 5.1.3, 6.2). A join is told of once: kept, against RFC 2236 3 and RFC 3810 6.1, by
 -- which it is told of again after a while.
-use Rattle.std.specs.Prelude.{◌≡◌, ℕ, ◌+◌, ◌*◌, ◌/◌, ◌^◌, ◌≤◌, ℤ, pos, ◌+ℤ◌, ◌≤ℤ◌, ◌<ℤ◌, ◌==◌}
+use Rattle.std.specs.Prelude.{◌≡◌, ◌⊎◌, ℕ, ◌+◌, ◌*◌, ◌/◌, ◌^◌, ◌≤◌, ℤ, pos, ◌+ℤ◌, ◌≤ℤ◌, ◌<ℤ◌, ◌==◌}
 use Rattle.std.specs.Prelude.{List, [], length, slice_get, slice_index, Some, if◌then◌else◌}
 use Rattle.net_base.specs.Checksum.{is_rx}
 use Rattle.net_base.specs.Device.{Event, sent_frames}
@@ -20,7 +20,7 @@ use Rattle.group_wire.specs.declared.mld.MldRepr.TheVariants.{Query}
 use Rattle.group_table.specs.Groups.{AreDistinct, count_in}
 use Rattle.group_table.specs.declared.groups.Group.{Group}
 use Rattle.group_table.specs.declared.groups.GroupState.{GroupState}
-use Rattle.group_table.specs.declared.groups.GroupState.TheVariants.{Joining, Leaving}
+use Rattle.group_table.specs.declared.groups.GroupState.TheVariants.{Joining, Joined, Leaving}
 use Rattle.group_table.specs.declared.report.IgmpReportState.{IgmpReportState}
 use Rattle.group_table.specs.declared.report.IgmpReportState.TheVariants as igmp
 use Rattle.group_table.specs.declared.report.MldReportState.{MldReportState}
@@ -123,7 +123,13 @@ pub data MldGoesOn (t : ℤ) (old new : MldReportState) : Type 0 where
 abbrev pub HasGroup : List Group → IpAddress → GroupState → Type 0
 HasGroup groups a state = (k : ℕ) × (slice_get groups k ≡ Some (record { addr = a; state = state }))
 
--- a group whose join, or leave, is pending after a call was one before
-pub record MakesNonePending (old new : Host) : Type 0 where
+-- what a call that sends does to groups: a joined one stays joined; one whose join is pending is joined, or still
+-- pending; one whose leave is pending is gone, or still pending, if no group is twice in the table; and there is no other
+pub record KeepsGroups (old new : Host) : Type 0 where
+  pub joined : (a : IpAddress) → HasGroup old.groups a Joined → HasGroup new.groups a Joined
+  pub joining : (a : IpAddress) → HasGroup old.groups a Joining →
+      HasGroup new.groups a Joining ⊎ HasGroup new.groups a Joined
+  pub no_other : (a : IpAddress) → HasGroup new.groups a Joined →
+      HasGroup old.groups a Joined ⊎ HasGroup old.groups a Joining
   pub joins : (a : IpAddress) → HasGroup new.groups a Joining → HasGroup old.groups a Joining
   pub leaves : (a : IpAddress) → HasGroup new.groups a Leaving → HasGroup old.groups a Leaving
