@@ -7,8 +7,8 @@ ghost use Rattle.iface_context.specs.Stands.{host_of};
 
 use crate::router_solicitation::rs_poll_at;
 use iface_context::Context;
-use net_base::time::Instant;
 use net_base::instants::earlier_of;
+use net_base::time::Instant;
 use sockets::SocketContext;
 
 /// The earliest of an instant and of those at which router discovery has work: immediately for a pending sync of

@@ -5,7 +5,6 @@ ghost use Rattle.group_wire.specs.Igmp.{query_version};
 ghost use Rattle.host_machine.specs.Context.Host.{SocketSet, no_sockets};
 ghost use Rattle.host_machine.specs.Multicast.Igmp as igmp_rules;
 ghost use Rattle.host_machine.specs.Multicast.Timeout as timeout_rules;
-ghost use Rattle.host_machine.specs.Multicast.Igmp as multicast;
 ghost use Rattle.host_machine.specs.Packet.Packet as value;
 ghost use Rattle.iface_context.specs.Multicast.{interval_of, index_of};
 ghost use Rattle.iface_context.specs.Stands.{host_in, host_of};
@@ -162,7 +161,7 @@ pub(crate) fn igmp_packet(
     message: IgmpRepr,
 ) -> Option<Packet<'static>>
     ensures value { option_map value_of.packet result
-        ≡ multicast.igmp_packet (host_of context.now no_sockets).ip_addrs dst_addr message }
+        ≡ igmp_rules.igmp_packet (host_of context.now no_sockets).ip_addrs dst_addr message }
     ensures writable { IfSome result (λ p. IsWritable (value_of.packet p)) }
 {
     let src_addr = context.ipv4_addr()?;
@@ -181,7 +180,7 @@ pub(crate) fn igmp_report(
     group: &Ipv4Address,
 ) -> Option<Packet<'static>>
     ensures value { option_map value_of.packet result
-        ≡ multicast.igmp_report (host_of context.now no_sockets).ip_addrs version group.now }
+        ≡ igmp_rules.igmp_report (host_of context.now no_sockets).ip_addrs version group.now }
     ensures writable { IfSome result (λ p. IsWritable (value_of.packet p)) }
 {
     let message = IgmpRepr::MembershipReport {

@@ -2,8 +2,7 @@
 ghost use Rattle.std.specs.Prelude.{◌≡◌, ◌<◌, [], None, ◌+◌, ◌≤◌, ◌++◌, ◌∷◌, length, Some};
 ghost use Rattle.fragmentation.specs.Slots.{Slots};
 ghost use Rattle.host_machine.specs.Context.Host.{SocketSet, no_sockets};
-ghost use Rattle.host_machine.specs.Multicast.Mld as reports;
-ghost use Rattle.host_machine.specs.Multicast.Mld as multicast;
+ghost use Rattle.host_machine.specs.Multicast.Mld as mld_rules;
 ghost use Rattle.host_machine.specs.Packet.Packet as value;
 ghost use Rattle.iface_context.specs.Stands.{host_in, host_of};
 ghost use Rattle.group_wire.specs.declared.mld.MldRecordType.TheVariants.{ModeIsExclude};
@@ -35,7 +34,7 @@ const RECORDS_LEN: usize = 160;
 /// for all groups of the interface or for one of them, schedules a report after a random delay. It replaces the one
 /// scheduled before. Nothing else has an effect, and nothing is sent immediately.
 pub fn process_mld(context: &mut Context, header: &Ipv6Repr, message: &MldRepr)
-    ensures { (slots : Slots) (sockets : SocketSet) → reports.ProcessesMld header.now message.now
+    ensures { (slots : Slots) (sockets : SocketSet) → mld_rules.ProcessesMld header.now message.now
         (host_in context.old slots sockets) None [] (host_in context.new slots sockets) }
 {
     match message {
@@ -50,7 +49,7 @@ pub fn process_mld(context: &mut Context, header: &Ipv6Repr, message: &MldRepr)
 /// Sends the report of the IPv6 groups, if it is due and the device grants a transmit token. Without a token the report
 /// is dropped.
 pub fn mld_egress<D: Device>(context: &mut Context, device: &mut D, out: &mut FrameBuffer)
-    ensures { RefinesTelling D.tells device.old device.new (HasPart reports.MldEgress context.old) context.new }
+    ensures { RefinesTelling D.tells device.old device.new (HasPart mld_rules.MldEgress context.old) context.new }
 {
     let report = context.mld_report();
     if !has_passed(mld_timeout(&report), context.now()) {
@@ -65,7 +64,7 @@ pub fn mld_egress<D: Device>(context: &mut Context, device: &mut D, out: &mut Fr
 
 /// When the report of the IPv6 groups is due, if there is one.
 pub fn mld_poll_at(context: &Context) -> Option<Instant>
-    ensures { result ≡ reports.mld_timeout_of (host_of context.now no_sockets).mld_report }
+    ensures { result ≡ mld_rules.mld_timeout_of (host_of context.now no_sockets).mld_report }
 {
     mld_timeout(&context.mld_report())
 }
@@ -78,7 +77,7 @@ fn process_mld_query(
     group: &Ipv6Address,
 )
     ensures { (slots : Slots) (sockets : SocketSet) → host_in context.new slots sockets
-        ≡ reports.host_after_mld_query (host_in context.old slots sockets) header.now max_resp_code group.now }
+        ≡ mld_rules.host_after_mld_query (host_in context.old slots sockets) header.now max_resp_code group.now }
 {
     if !is_near(header) {
         return;
@@ -91,17 +90,17 @@ fn process_mld_query(
 
 /// Whether no router forwarded a packet, and its source is link-local (RFC 3810 5.1.14).
 fn is_near(header: &Ipv6Repr) -> bool
-    ensures { result ≡ reports.is_near header.now }
+    ensures { result ≡ mld_rules.is_near header.now }
 {
     header.hop_limit == 1 && header.src_addr.is_link_local()
 }
 
 /// The delay of an answer: a random number of milliseconds below the code. It draws a random word unless the code is 0.
 fn delay(context: &mut Context, max_resp_code: u16) -> Duration
-    ensures value { result ≡ reports.delay max_resp_code (host_of context.old no_sockets).random }
+    ensures value { result ≡ mld_rules.delay max_resp_code (host_of context.old no_sockets).random }
     ensures within_two_minutes { result < 120000000 }
     ensures drawn { (sockets : SocketSet) → host_of context.new sockets ≡ record (host_of context.old sockets) {
-      random = reports.random_after_draw max_resp_code (host_of context.old no_sockets).random;
+      random = mld_rules.random_after_draw max_resp_code (host_of context.old no_sockets).random;
     } }
 {
     if max_resp_code == 0 {
@@ -119,7 +118,7 @@ fn mld_report_for(
     timeout: Instant,
     group: &Ipv6Address,
 ) -> MldReportState
-    ensures { result ≡ reports.mld_report_for (host_of context.now no_sockets) dst_addr.now timeout group.now }
+    ensures { result ≡ mld_rules.mld_report_for (host_of context.now no_sockets) dst_addr.now timeout group.now }
 {
     if is_mld_general(context, dst_addr, group) {
         return MldReportState::ToGeneralQuery { timeout };
@@ -136,7 +135,7 @@ fn mld_report_for(
 /// Whether a query is a general query for the interface: it names no group, its destination is all-nodes or one of the
 /// interface's own addresses, and there is a group to report.
 fn is_mld_general(context: &Context, dst_addr: &Ipv6Address, group: &Ipv6Address) -> bool
-    ensures { result ≡ reports.is_mld_general (host_of context.now no_sockets) dst_addr.now group.now }
+    ensures { result ≡ mld_rules.is_mld_general (host_of context.now no_sockets) dst_addr.now group.now }
 {
     let is_to_us = dst_addr.bits == Ipv6Address::LINK_LOCAL_ALL_NODES.bits
         || context.has_ip_addr(&IpAddress::Ipv6(*dst_addr));
@@ -145,7 +144,7 @@ fn is_mld_general(context: &Context, dst_addr: &Ipv6Address, group: &Ipv6Address
 
 /// Whether a query is for one group of the interface: it names the group, which is also its destination.
 fn is_mld_specific(context: &Context, dst_addr: &Ipv6Address, group: &Ipv6Address) -> bool
-    ensures { result ≡ reports.is_mld_specific (host_of context.now no_sockets) dst_addr.now group.now }
+    ensures { result ≡ mld_rules.is_mld_specific (host_of context.now no_sockets) dst_addr.now group.now }
 {
     context.has_multicast_group(&IpAddress::Ipv6(*group)) && dst_addr.bits == group.bits
 }
@@ -159,7 +158,7 @@ pub(crate) fn send_record<D: Device>(
     group: &Ipv6Address,
 ) -> bool
     ensures told { RefinesTelling D.tells device.old device.new (HasPart
-        (IsOffered (Some (multicast.mld_report (host_of context.old no_sockets).ip_addrs record_type (group.now ∷ [])))
+        (IsOffered (Some (mld_rules.mld_report (host_of context.old no_sockets).ip_addrs record_type (group.now ∷ [])))
         result) context.old) context.new }
     ensures groups { (host_of context.new no_sockets).groups ≡ (host_of context.old no_sockets).groups }
 {
@@ -175,8 +174,8 @@ pub(crate) fn send_record<D: Device>(
 /// An MLD report with `count` records, to all MLDv2 routers (RFC 3810 5.2).
 fn mld_packet<'p>(context: &Context, count: u16, records: &'p [u8]) -> Packet<'p>
     ensures value { value_of.packet result ≡ value.Ipv6 (record {
-      src_addr = multicast.mld_source (host_of context.now no_sockets).ip_addrs;
-      dst_addr = multicast.mld_routers;
+      src_addr = mld_rules.mld_source (host_of context.now no_sockets).ip_addrs;
+      dst_addr = mld_rules.mld_routers;
       hop_limit = 1;
       payload = value.Mld count records.now;
     }) }
@@ -192,7 +191,7 @@ fn mld_packet<'p>(context: &Context, count: u16, records: &'p [u8]) -> Packet<'p
 
 /// The source of MLD reports: the first link-local address, otherwise the unspecified address (RFC 3810 5.2.13).
 fn mld_source(context: &Context) -> Ipv6Address
-    ensures { result ≡ multicast.mld_source (host_of context.now no_sockets).ip_addrs }
+    ensures { result ≡ mld_rules.mld_source (host_of context.now no_sockets).ip_addrs }
 {
     match context.link_local_addr() {
         Some(address) => address,
@@ -208,9 +207,9 @@ fn push_records(
     records: &mut ArrayVec<u8, RECORDS_LEN>,
 ) -> u16
     requires { records.old.items ≡ [] }
-    ensures count { result ≡ length (reports.reported_groups (host_of context.now no_sockets) report.now) }
+    ensures count { result ≡ length (mld_rules.reported_groups (host_of context.now no_sockets) report.now) }
     ensures items { records.new.items
-        ≡ multicast.records_of ModeIsExclude (reports.reported_groups (host_of context.now no_sockets) report.now) }
+        ≡ mld_rules.records_of ModeIsExclude (mld_rules.reported_groups (host_of context.now no_sockets) report.now) }
 {
     match report {
         MldReportState::Inactive => 0,
@@ -227,7 +226,7 @@ fn push_all(groups: &[Group], records: &mut ArrayVec<u8, RECORDS_LEN>) -> u16
     requires few { length groups.now ≤ 8 }
     requires empty { records.old.items ≡ [] }
     ensures count { result ≡ length (ipv6_groups groups.now) }
-    ensures items { records.new.items ≡ multicast.records_of ModeIsExclude (ipv6_groups groups.now) }
+    ensures items { records.new.items ≡ mld_rules.records_of ModeIsExclude (ipv6_groups groups.now) }
 {
     let mut count = 0;
     for group in groups {
@@ -255,7 +254,7 @@ fn push_record(records: &mut ArrayVec<u8, RECORDS_LEN>, group: Ipv6Address)
 
 /// When the IPv6 groups are reported.
 fn mld_timeout(report: &MldReportState) -> Option<Instant>
-    ensures { result ≡ reports.mld_timeout_of report.now }
+    ensures { result ≡ mld_rules.mld_timeout_of report.now }
 {
     match report {
         MldReportState::Inactive => None,
