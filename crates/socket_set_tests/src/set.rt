@@ -4,7 +4,7 @@ use net_base::time::Instant;
 use socket_set::{AddError, SocketHandle, SocketSet, SocketStorage, by_index};
 use sockets::queue::{NoMemory, Queue};
 use sockets::socket::{AnySocket, SocketOf};
-use sockets::{IpEndpoint, IpListenEndpoint, raw, tcp, udp};
+use sockets::{IpEndpoint, IpListenEndpoint, PollAt, raw, tcp, udp};
 use std::alloc::Global;
 use std::fmt::Display;
 use std::ops::Range;
@@ -130,6 +130,17 @@ fn a_socket_waits_at_its_place(rt: HostRuntime) {
     // once the neighbour is known, the socket waits no longer
     let is_found = may_be_asked(&mut set, 0, 0, FIRST) && may_be_asked(&mut set, 0, 0, SECOND);
     assert!(rt; is_free && is_new && is_found);
+}
+
+// A socket that found no neighbour at 1 s says when it is to be asked again, and then answers for itself.
+#[test]
+fn a_wait_is_told_until_its_end(rt: HostRuntime) {
+    let mut set = udp_set(rt.alloc(), 1..2);
+    by_index::neighbor_missing(&mut set, 0, Instant::from_secs(1), FIRST);
+    let (soon, end) = (Instant::from_millis(1500), Instant::from_millis(2000));
+    let waits = by_index::poll_at(&set, 0, soon, |_| false) == PollAt::Time(end);
+    let is_over = by_index::poll_at(&set, 0, end, |_| false) == PollAt::Ingress;
+    assert!(rt; waits && is_over);
 }
 
 // A set with one place. If its room is refused, the next call gets it.
