@@ -21,7 +21,7 @@ ghost use Rattle.host_machine.specs.Laws.Determined.{DispatchIsDetermined, Egres
 ghost use Rattle.host_machine.specs.Laws.Determined.{IngressIsDetermined, PollIsDetermined};
 ghost use Rattle.host_machine.specs.Laws.Determined.{ReceptionIsDetermined, RunIsDetermined, StepIsDetermined};
 ghost use Rattle.host_machine.specs.Laws.Autoconfiguration.{AdvertisedAddressesStand, AdvertisementsAreLearnt};
-ghost use Rattle.host_machine.specs.Laws.Configured.{AnyIpIsSet, HostsBeginWithNothing, RoutesAreSet};
+ghost use Rattle.host_machine.specs.Laws.Configured.{AnyIpIsSet, GroupsAreJoined, GroupsAreLeft, HostsBeginWithNothing, RoutesAreSet};
 ghost use Rattle.host_machine.specs.Laws.HeardQueries.{QueriesAreHeard};
 ghost use Rattle.host_machine.specs.Laws.Protocols.{UnknownOptionsAreAnswered, UnknownProtocolsAreAnswered};
 ghost use Rattle.host_machine.specs.Laws.Reassembled.{LongPingsAreAnswered, RebuiltDatagramsAreQueued};
@@ -38,7 +38,7 @@ ghost use Rattle.host_machine.specs.Laws.Service.{AdvertisersAreLearnt, ArpSende
 ghost use Rattle.host_machine.specs.Laws.Service.{DatagramsAreQueued, DatagramsV6AreQueued, DueIsDone};
 ghost use Rattle.host_machine.specs.Laws.Service.{EchoRepliesAreQueued, FirstDatagramsGo, FirstEchoesGo, FirstPacketsGo};
 ghost use Rattle.host_machine.specs.Laws.Service.{LittleStaysDue, PiecesGo, PingsAreAnswered, PingsV6AreAnswered};
-ghost use Rattle.host_machine.specs.Laws.Service.{PollsSyncSlaac, PollsEndInCalls, PollsLeaveLittle};
+ghost use Rattle.host_machine.specs.Laws.Service.{PollsSyncSlaac, PollsEndInCalls};
 ghost use Rattle.host_machine.specs.Laws.Service.{RequestFramesAreRead, RequestsGo, SolicitationsAreAnswered};
 ghost use Rattle.host_machine.specs.Laws.Steps.{DiscoveriesAreNoted, DispatchesSendOneThing, FragmentsArriveInFrames};
 ghost use Rattle.host_machine.specs.Laws.Steps.{IngressIsSingle, MalformedIsDropped, RunsJoin, RunsKeepLaws};
@@ -474,7 +474,8 @@ pub fn advertisements_are_learnt()
 {}
 
 /// After maintenance with news, a host has an address of each prefix that is valid, and a route by each router that is, as
-/// far as there is room. An address that it has stays until a prefix that makes it expires (RFC 4862 5.5.3, 5.5.4).
+/// far as there is room. An address that it has stays until a prefix that makes it expires, and a route until a router by
+/// which it leads does (RFC 4862 5.5.3, 5.5.4, RFC 4861 6.3.4).
 pub fn advertised_addresses_stand()
     ensures { AdvertisedAddressesStand }
 {}
@@ -503,9 +504,10 @@ pub fn datagrams_to_many_go()
     ensures { DatagramsToManyGo }
 {}
 
-/// A report in answer to a query for one group, of either family, goes in the first call with every transmit token at its
-/// moment or later, to the hardware address of the group that it goes to; then the answer is over (RFC 2236 3, RFC 3810
-/// 6.3).
+/// A report in answer to a query goes in the first call with every transmit token at its moment or later, to the hardware
+/// address of the group that it goes to (RFC 2236 3, RFC 3810 6.3). To a query for one group, of either family, it is the
+/// only one. To one for all groups, where no join or leave is pending, it is that of the IPv4 group whose turn it is, and
+/// the next follows; over IPv6 one report has all groups.
 pub fn due_reports_go()
     ensures { DueReportsGo }
 {}
@@ -573,13 +575,6 @@ pub fn little_stays_due()
     ensures { LittleStaysDue }
 {}
 
-/// So it is after a poll with a budget, without frames received and with every transmit token granted. If something is
-/// still due at a moment that has passed, it is one of these four, where packets are counted from the host before the
-/// poll's last call that sends.
-pub fn polls_leave_little()
-    ensures { PollsLeaveLittle }
-{}
-
 /// The frame of an ARP request, octet by octet and whatever its padding, is read as such a request.
 pub fn request_frames_are_read()
     ensures { RequestFramesAreRead }
@@ -615,6 +610,18 @@ pub fn routes_are_set()
 /// AnyIP is on or off as it is set, and nothing else changes.
 pub fn any_ip_is_set()
     ensures { AnyIpIsSet }
+{}
+
+/// After a join that succeeds a host is in the group, whose join is pending if the group wasn't in the table; the other
+/// groups stay.
+pub fn groups_are_joined()
+    ensures { GroupsAreJoined }
+{}
+
+/// After a leave that succeeds a host isn't in the group, whose leave is pending if its join was reported; the other groups
+/// stay.
+pub fn groups_are_left()
+    ensures { GroupsAreLeft }
 {}
 
 /// At first a host has no address, no route, no neighbour, no group, no slot in use and no pending fragment, and AnyIP is

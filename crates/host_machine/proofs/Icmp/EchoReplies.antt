@@ -63,7 +63,7 @@ reply_taken {r} {H} {message = message} ident seq_no (v4.Taken i rep n e) is val
 }
 
 pub replies_queued : EchoRepliesAreQueued
-replies_queued t old new told own frame r ident seq_no message i s w d is_here endpoint room =
+replies_queued t old new told own frame r ident seq_no message i s w to_it d is_here endpoint room =
     let k = v4_of own w d.in_packet.taken d.in_packet.is_packet in
     let H : Host = without_expired old t in
     let mid : Host = met k.source r message H in

@@ -25,7 +25,7 @@ use Rattle.slaac.specs.declared.slaac.Route.{Route}
 use Rattle.host_machine.specs.Context.Host.{Host, at, without_expired}
 use Rattle.host_machine.specs.Context.Autoconfiguration.{with_slaac_applied}
 use Rattle.host_machine.specs.Laws.Autoconfiguration.{AddressesAreFormed, AddressesStay, AdvertisedAddressesStand, HasAddress, IsUnended, LeadsAs}
-use Rattle.host_machine.specs.Laws.Autoconfiguration.{RoutesAreFormed}
+use Rattle.host_machine.specs.Laws.Autoconfiguration.{IsUnendedRoute, RoutesAreFormed, RoutesStay}
 use Rattle.host_machine.proofs.Discovery.LearntNeighbors.{and_both}
 
 before : (t x : ℤ) → t <ℤ x → is_before t x ≡ true
@@ -233,6 +233,18 @@ has_route t (q ∷ rs) routes (suc i) r here valid room = has_route t rs (route_
   by true = let l = route_longer q routes in omega (arith, room, l)
   by false = omega (arith, room)
 
+-- it isn't among those that end
+route_not_ended : (t : ℤ) (rs : List Route) (s : StoredRoute) → IsUnendedRoute t rs s → is_ended_route t rs s ≡ false
+route_not_ended t [] s all = refl
+route_not_ended t (r ∷ rs) s all = by (is_route_valid t r) (is_route r s) refl refl (route_not_ended t rs s all.1) where
+  by : (b c : Bool) → is_route_valid t r ≡ b → is_route r s ≡ c → is_ended_route t rs s ≡ false →
+      ((not b && c) || list_any (λ q. not (is_route_valid t q) && is_route q s) rs) ≡ false
+  by true c valid same rest = rest
+  by false false valid same rest = rest
+  by false true valid same rest =
+      let lives = before t r.valid_until (all.0 (leads r s same)) in
+      let bad : true ≡ false = sym lives ∙ valid in absurd cc
+
 -- Maintenance
 
 formed : (H : Host) (t : ℤ) → AddressesAreFormed H t
@@ -265,5 +277,15 @@ routed H t i r changed here valid room =
     let x = has_route t H.slaac.routers (filter (λ s. not (is_ended_route t H.slaac.routers s)) H.routes) i r here valid (omega (arith, room, few)) in
     rw changed x
 
+routes_stay : (H : Host) (t : ℤ) → RoutesStay H t
+routes_stay H t k s here unended = by (sync_required H.slaac t) where
+  by : (b : Bool) →
+      (j : ℕ) × (slice_get (if b then with_slaac_applied (without_expired (at H t) t) else without_expired (at H t) t).routes j ≡ Some s)
+  by false = (k, here)
+  by true =
+      let left = passed (λ r. not (is_ended_route t H.slaac.routers r)) H.routes k s here
+      (rw (route_not_ended t H.slaac.routers s unended) refl) in
+      (left.0, routes_keep t H.slaac.routers (filter (λ r. not (is_ended_route t H.slaac.routers r)) H.routes) left.0 s left.1)
+
 pub advertised_stands : AdvertisedAddressesStand
-advertised_stands H t = record { formed = formed H t; stay = stay H t; routes = routed H t }
+advertised_stands H t = record { formed = formed H t; stay = stay H t; routes = routed H t; routes_stay = routes_stay H t }

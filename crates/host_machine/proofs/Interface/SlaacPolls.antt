@@ -1,7 +1,7 @@
 -- Polls bring addresses and routes into line, and end in a call that sends.
 use Rattle.std.proofs.Common.{◌≡◌, ℕ, ◌≤◌, ◌==◌, Bool, true, false, List, [], ◌∷◌, ◌++◌, refl, sym, ◌∙◌, ap, append_assoc, Option, Some, None, arith}
 use Rattle.std.proofs.lemmas.Map.Views.{any-filter_same}
-use Rattle.std.specs.Prelude.{length, ◌≤ℤ◌, ℤ, pos, not, filter, if◌then◌else◌}
+use Rattle.std.specs.Prelude.{ℤ, pos, not, filter}
 use Rattle.std.specs.List.{list_any}
 use Rattle.net_base.specs.Device.{Event, Received, Asked, Sent, Reception, Frame, Nothing, Withheld, handed_frames}
 use Rattle.group_table.specs.declared.groups.GroupState.TheVariants.{Joining, Leaving}
@@ -24,11 +24,10 @@ use Rattle.host_machine.specs.Interface.Egress.{Egress}
 use Rattle.host_machine.specs.Receive.Reply.{Reply, IsDropped}
 use Rattle.host_machine.specs.Interface.Polling.{Repeats, Until, is_changed, may_change}
 use Rattle.host_machine.specs.Interface.Polling as polling
-use Rattle.host_machine.specs.Laws.Service.{IsStillDue, PollsLeaveLittle, all_granted, EndsIn, PollsSyncSlaac, PollsEndInCalls}
-use Rattle.host_machine.specs.Interface.Due.{Due}
+use Rattle.host_machine.specs.Laws.Service.{EndsIn, PollsSyncSlaac, PollsEndInCalls}
 use Rattle.host_machine.proofs.Receive.Malformed.{nothing_responded}
-use Rattle.host_machine.proofs.Interface.GrantedEgress.{all_untouched, given_parts, to_sockets, dispatched_gone}
-use Rattle.host_machine.proofs.Interface.DueWork.{little_stays_due, all_kept, groups_kept, igmp_kept, mld_kept, piece_gone}
+use Rattle.host_machine.proofs.Interface.GrantedEgress.{dispatched_gone}
+use Rattle.host_machine.proofs.Interface.DueWork.{all_kept, groups_kept, igmp_kept, mld_kept, piece_gone}
 
 -- what was learnt, as far as addresses and routes follow it
 abbrev line_of : SlaacState → SlaacState
@@ -174,82 +173,3 @@ behind_all receiving is e = record {
 
 pub polls_end_in_calls : PollsEndInCalls
 polls_end_in_calls t budget answer old new told notes p some = behind_all p.told_receiving p.events (until_ends_in p.sends some)
-
--- What stays due behind a poll
-
-abbrev HasWaits : Host → Type 0
-HasWaits H = length H.sockets.waits ≡ length H.sockets.places
-
-waits_as : (H K : Host) → K.sockets ≡ H.sockets → HasWaits H → HasWaits K
-waits_as H K e h = ap (λ s. length s.waits) e ∙ h ∙ sym (ap (λ s. length s.places) e)
-
-egress_waits : {t : ℤ} {answer : PollResult} {old new : Host} {told : List Event} {notes : List Note} →
-    Egress t answer old told notes new → HasWaits old → HasWaits new
-egress_waits {old = old} e h =
-    let k = to_sockets e in
-    let whole = (all_untouched k.sends_them).1 in
-    let mid : HasWaits k.mid = waits_as old k.mid (ap (λ (K : Host). K.sockets) k.way) h in
-    whole.waits ∙ mid ∙ sym whole.places
-
-sends_waits : {t : ℤ} {old new : Host} {n : ℕ} {told : List Event} {notes : List Note} {changed : Bool} →
-    Repeats (Egress t) result.None is_changed old n told notes new changed → HasWaits old → HasWaits new
-sends_waits polling.Begins h = h
-sends_waits (polling.Again answer told notes new r call other) h = egress_waits call (sends_waits r h)
-
-ingress_waits : {t : ℤ} {answer : PollIngressSingleResult} {old new : Host} {told : List Event} {notes : List Note} →
-    Ingress t answer old told notes new → handed_frames told ≡ [] → HasWaits old → HasWaits new
-ingress_waits {t} {answer} {old} {new} i none h =
-    let d = taken_line t (without_expired old t) i.reception (sends i.frames) i.response.reply i.response.notes_taking i.response.taken
-    i.response.takes (sym (ap handed_frames i.events) ∙ none) in
-    let r = nothing_responded d.silent i.response.responds in
-    waits_as old new (ap (λ (K : Host). K.sockets) (r.2 ∙ d.unchanged)) h
-
-receives_waits : {t : ℤ} {old new : Host} {n : ℕ} {told : List Event} {notes : List Note} {changed : Bool} →
-    Repeats (Ingress t) ingress.None may_change old n told notes new changed → handed_frames told ≡ [] → HasWaits old → HasWaits new
-receives_waits polling.Begins none h = h
-receives_waits (polling.Again {told_so = so} answer told notes new r call other) none h =
-    let parts = nothing_handed so told none in
-    ingress_waits call parts.1 (receives_waits r parts.0 h)
-
-received_waits : {t : ℤ} {budget : ℕ} {changed : Bool} {old new : Host} {told : List Event} {notes : List Note} →
-    Until (Ingress t) ingress.None may_change budget changed old told notes new → handed_frames told ≡ [] → HasWaits old → HasWaits new
-received_waits (polling.Spent r) none h = receives_waits r none h
-received_waits (polling.Done n so last notes_so notes_last mid less r call e f) none h =
-    let parts = nothing_handed so last (sym (ap handed_frames e) ∙ none) in
-    ingress_waits call parts.1 (receives_waits r parts.0 h)
-
-synced_waits : (H : Host) → HasWaits H → HasWaits (after_sync H)
-synced_waits H h = by (sync_required H.slaac H.moment) where
-  by : (b : Bool) → HasWaits (if b then with_slaac_applied H else H)
-  by true = h
-  by false = h
-
-last_grants : {t : ℤ} {answer : PollResult} {mid new : Host} (front last : List Event) {told : List Event} {notes : List Note} (x : ℤ) →
-    Egress t answer mid last notes new → told ≡ front ++ last → all_granted told ≡ true → HasWaits mid →
-    Due (at new t) x → x ≤ℤ t → (m : EndsIn t told new) × IsStillDue (at m.mid t) (at new t)
-last_grants {t} {answer} {mid} {new} front last {told} {notes} x e is all h named le = (
-  record { mid = mid; answer = answer; front = front; told_last = last; notes_last = notes; call = e; behind = is },
-  little_stays_due t answer mid new last notes x e (given_parts front last (sym (ap all_granted is) ∙ all)).1 h named le,
-)
-
-repeats_grants : {t : ℤ} {old new : Host} {n : ℕ} {told : List Event} {notes : List Note} {changed : Bool} (x : ℤ) →
-    Repeats (Egress t) result.None is_changed old n told notes new changed → 1 ≤ n → all_granted told ≡ true → HasWaits old →
-    Due (at new t) x → x ≤ℤ t → (m : EndsIn t told new) × IsStillDue (at m.mid t) (at new t)
-repeats_grants x polling.Begins some all h named le = absurd (omega (arith, some))
-repeats_grants x (polling.Again {told_so = so} answer told notes new r call other) some all h named le =
-    last_grants so told x call refl all (sends_waits r h) named le
-
-until_grants : {t : ℤ} {budget : ℕ} {changed : Bool} {old new : Host} {told : List Event} {notes : List Note} (x : ℤ) →
-    Until (Egress t) result.None is_changed budget changed old told notes new → 1 ≤ budget → all_granted told ≡ true →
-    HasWaits old → Due (at new t) x → x ≤ℤ t → (m : EndsIn t told new) × IsStillDue (at m.mid t) (at new t)
-until_grants x (polling.Spent r) some all h named le = repeats_grants x r some all h named le
-until_grants x (polling.Done n so last notes_so notes_last mid less r call e f) some all h named le =
-    last_grants so last x call e all (sends_waits r h) named le
-
-pub polls_leave_little : PollsLeaveLittle
-unfolding behind_all until_grants
-polls_leave_little t budget answer old new told notes x p some none all h named le =
-    let parts = nothing_handed p.told_receiving p.told_sending (sym (ap handed_frames p.events) ∙ none) in
-    let given = given_parts p.told_receiving p.told_sending (sym (ap all_granted p.events) ∙ all) in
-    let last = until_grants x p.sends some given.1 (received_waits p.receives parts.0 (synced_waits (without_expired (at old t) t) h)) named le in
-    (behind_all p.told_receiving p.events last.0, last.1)

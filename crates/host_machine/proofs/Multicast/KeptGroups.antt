@@ -19,7 +19,7 @@ abbrev group_of : IpAddress → GroupState → Group
 group_of a state = record { addr = a; state = state }
 
 -- what stands where
-set_here : (gs : List Group) (i : ℕ) (v : Group) → i < length gs → slice_get (slice_set gs i v) i ≡ Some v
+pub set_here : (gs : List Group) (i : ℕ) (v : Group) → i < length gs → slice_get (slice_set gs i v) i ≡ Some v
 set_here [] i v less = absurd (omega (arith, less))
 set_here (g ∷ gs) zero v less = refl
 set_here (g ∷ gs) (suc i) v less = set_here gs i v (omega (arith, less))
@@ -42,7 +42,7 @@ one_at : (gs : List Group) (k i : ℕ) (g h : Group) → k ≡ i → slice_get g
 one_at gs k i g h at one two = let both : Some g ≡ Some h = sym one ∙ ap (slice_get gs) at ∙ two in cc
 
 -- a group whose state is known
-at_index : (gs : List Group) (a : IpAddress) (state : GroupState) → state_of gs a ≡ Some state →
+pub at_index : (gs : List Group) (a : IpAddress) (state : GroupState) → state_of gs a ≡ Some state →
     slice_get gs (index_of gs a) ≡ Some (group_of a state)
 at_index gs a state is = elim (slice_get_cases gs (index_of gs a)).1 [
   | inl here ↦

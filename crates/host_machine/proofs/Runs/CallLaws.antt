@@ -34,6 +34,7 @@ use Rattle.host_machine.proofs.Multicast.HeardQueries.{queries_heard}
 use Rattle.host_machine.proofs.Receive.UnknownProtocols.{options_told, unknown_told}
 use Rattle.host_machine.proofs.Receive.ReplyLaws.{advert_told, arp_told, echoes_caused, echoes_v6_caused, errors_caused, errors_v6_caused}
 use Rattle.host_machine.proofs.Receive.ReplyLaws.{kinds_of_replies, resets_caused}
+use Rattle.host_machine.proofs.Receive.ReplyOctets.{arp_by_octets, pings_by_octets}
 use Rattle.host_machine.proofs.Receive.SettingChanges.{frames_keep, reports_asked}
 use Rattle.host_machine.proofs.Sockets.SocketDelivery.{raw_packets_queued, segments_queued}
 use Rattle.host_machine.proofs.Receive.WrongRebuilt.{rebuilt_dropped}
@@ -88,10 +89,12 @@ received t answer p i = record {
   frames = ingress_frames t answer p.before p.after p.told p.notes i;
   serves = record {
     arp_requests = arp_served t p.before p.after p.told;
+    arp_requests_by_octets = arp_by_octets t p.before p.after p.told;
     arp_senders = arp_teaches t p.before p.after p.told;
     solicitations = solicitations_served t p.before p.after p.told;
     advertisers = advertisers_learnt t p.before p.after p.told;
     pings = pings_served t p.before p.after p.told;
+    pings_by_octets = pings_by_octets t p.before p.after p.told;
     rebuilt_pings = rebuilt_pings_served t p.before p.after p.told;
     long_pings = long_pings_served t p.before p.after p.told;
     pings_v6 = pings_v6_served t p.before p.after p.told;
@@ -132,8 +135,7 @@ sent t answer p e = let s = sends_in_order t answer p.before p.after p.told p.no
   groups = s.groups;
   first_datagrams = firsts_go t answer p.before p.after p.told p.notes e;
   to_many = many_go t answer p.before p.after p.told p.notes e;
-  due_report = (due_reports_go t answer p.before p.after p.told p.notes e).0;
-  due_report_v6 = (due_reports_go t answer p.before p.after p.told p.notes e).1;
+  due_reports = due_reports_go t answer p.before p.after p.told p.notes e;
   first_packets = first_packets_go t answer p.before p.after p.told p.notes e;
   first_echoes = first_echoes_go t answer p.before p.after p.told p.notes e;
   pieces = pieces_go t answer p.before p.after p.told p.notes e;

@@ -1,5 +1,6 @@
 -- What a host has of what routers advertised: with room, after maintenance it has an address of each prefix that is valid,
--- and a default route by each router that is. An address goes only with its prefix (RFC 4862 5.5.3, 5.5.4, RFC 4861 6.3.4).
+-- and a default route by each router that is. An address goes only with its prefix, a route only with its router (RFC 4862
+-- 5.5.3, 5.5.4, RFC 4861 6.3.4).
 use Rattle.std.specs.Prelude.{◌≡◌, ◌≢◌, ◌⊎◌, ℕ, ◌+◌, ◌*◌, ◌/◌, ◌^◌, ◌<◌, ◌≤◌, ℤ, pos, ◌+ℤ◌, ◌<ℤ◌, true, List, [], length, slice_get, Option, Some}
 use Rattle.std.specs.Int.RustNames.{bit_and}
 use Rattle.net_base.specs.Device.{Event, sent_frames}
@@ -69,10 +70,20 @@ RoutesAreFormed H t = (i : ℕ) (r : Route) →
     length H.routes + length H.slaac.routers ≤ 4 →
     (k : ℕ) × (s : StoredRoute) × (slice_get (after_maintenance (at H t)).routes k ≡ Some s) × LeadsAs r s
 
+-- no router by which a stored route leads has ended
+abbrev pub IsUnendedRoute : ℤ → List Route → StoredRoute → Type 0
+IsUnendedRoute t routers s = AllByRecursion (λ r. LeadsAs r s → t <ℤ r.valid_until) routers
+
+-- a route stays, changed or not, unless a router by which it leads has ended
+abbrev pub RoutesStay : Host → ℤ → Type 0
+RoutesStay H t = (k : ℕ) (s : StoredRoute) → slice_get H.routes k ≡ Some s → IsUnendedRoute t H.slaac.routers s →
+    (j : ℕ) × (slice_get (after_maintenance (at H t)).routes j ≡ Some s)
+
 pub record AdvertisedStands (H : Host) (t : ℤ) : Type 0 where
   pub formed : AddressesAreFormed H t
   pub stay : AddressesStay H t
   pub routes : RoutesAreFormed H t
+  pub routes_stay : RoutesStay H t
 
 abbrev pub AdvertisedAddressesStand : Type 0
 AdvertisedAddressesStand = (H : Host) (t : ℤ) → AdvertisedStands H t

@@ -18,9 +18,10 @@ use Rattle.host_machine.specs.Laws.Service.{AnswersPings, AnswersPingsV6}
 use Rattle.host_machine.specs.Laws.Service.{AnswersSolicitations, DoesWhatIsDue, QueuesDatagrams, QueuesDatagramsV6}
 use Rattle.host_machine.specs.Laws.Service.{QueuesEchoReplies, SendsFirstDatagrams, SendsFirstEchoes, SendsFirstPackets}
 use Rattle.host_machine.specs.Laws.Service.{SendsPieces, SendsRequests}
+use Rattle.host_machine.specs.Laws.ReplyOctets.{AnswersArpByOctets, AnswersPingsByOctets}
 use Rattle.host_machine.specs.Laws.Received.{QueuesEchoRepliesV6, QueuesRawPackets, QueuesRawPacketsV6}
 use Rattle.host_machine.specs.Laws.Received.{QueuesSegments, QueuesSegmentsV6}
-use Rattle.host_machine.specs.Laws.DueReports.{SendsDueReport, SendsDueReportV6}
+use Rattle.host_machine.specs.Laws.DueReports.{AnswersQueries}
 use Rattle.host_machine.specs.Laws.Autoconfiguration.{LearnsPrefixes, LearnsRouters}
 use Rattle.host_machine.specs.Laws.HeardQueries.{HearsIgmpQueries, HearsMldQueries}
 use Rattle.host_machine.specs.Laws.Many.{QueuesToMany, QueuesToManyV6, SendsToMany}
@@ -47,10 +48,12 @@ use Rattle.host_machine.specs.Laws.Restraint.Settings.{KeepsAddressesAndRoutes, 
 -- what a call at t that receives does for others
 pub record ServesOthers (t : ℤ) (old : Host) (told : List Event) (new : Host) : Type 0 where
   pub arp_requests : AnswersArpRequests t old told new
+  pub arp_requests_by_octets : AnswersArpByOctets t old told new
   pub arp_senders : LearnsArpSenders t old told new
   pub solicitations : AnswersSolicitations t old told new
   pub advertisers : LearnsAdvertisers t old told new
   pub pings : AnswersPings t old told new
+  pub pings_by_octets : AnswersPingsByOctets t old told new
   pub rebuilt_pings : AnswersRebuiltPings t old told new
   pub long_pings : BeginsLongReplies t old told new
   pub pings_v6 : AnswersPingsV6 t old told new
@@ -127,8 +130,7 @@ pub record IsEgress (t : ℤ) (p : Transition) : Type 0 where
   pub groups : KeepsGroups p.before p.after
   pub first_datagrams : SendsFirstDatagrams t p.before p.told p.after
   pub to_many : SendsToMany t p.before p.told p.after
-  pub due_report : SendsDueReport t p.before p.told p.after
-  pub due_report_v6 : SendsDueReportV6 t p.before p.told p.after
+  pub due_reports : AnswersQueries t p.before p.told p.after
   pub first_packets : SendsFirstPackets t p.before p.told p.after
   pub first_echoes : SendsFirstEchoes t p.before p.told p.after
   pub pieces : SendsPieces p.before p.told

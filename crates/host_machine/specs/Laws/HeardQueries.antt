@@ -28,7 +28,8 @@ use Rattle.host_machine.specs.Laws.Service.{HasPayloadV6, Takes}
 
 -- IGMP
 
--- a frame carries a query of IGMP with this code, for this group (RFC 2236 2), in a whole packet from a unicast address
+-- a frame carries a query of IGMP with this code, for this group (RFC 2236 2), in a whole packet from a unicast address.
+-- Its checksum isn't looked at: kept, against RFC 2236 2.3
 pub record BringsIgmpQuery (own : HardwareAddress) (H : Host) (frame : List ℕ) (r : Ipv4Repr) (code : ℕ)
     (group : Ipv4Address) : Type 0 where
   pub payload : List ℕ
@@ -71,7 +72,7 @@ HearsIgmpQueries t old told new =
 -- MLD
 
 -- a frame carries a query of MLD with this code, for this group: from a link-local address (fe80::/10), with hop limit 1
--- (RFC 3810 5.1.14)
+-- (RFC 3810 5.1.14). That it is heard without a router alert option is kept, against RFC 3810 6.2
 pub record BringsMldQuery (own : HardwareAddress) (H : Host) (frame : List ℕ) (r : Ipv6Repr) (code : ℕ)
     (group : Ipv6Address) : Type 0 where
   pub payload : List ℕ

@@ -55,7 +55,8 @@ pub record IsUnknownV6 (number : ℕ) : Type 0 where
   pub no_icmpv6 : number ≢ 58
 
 -- so it is with one of IPv6, after the header or after hop-by-hop options: the error is a parameter problem of code 1. Its
--- pointer is 40: kept, against RFC 8200 4 and RFC 4443 3.4, by which it is the offset of the field
+-- pointer is 40: kept, against RFC 8200 4 and RFC 4443 3.4, by which it is the offset of the field. That it quotes what is
+-- behind options and not them, and that each such packet brings one, is kept, against RFC 4443 2.4 (c) and (f)
 abbrev pub AnswersUnknownProtocolsV6 : ℤ → Host → List Event → Host → Type 0
 AnswersUnknownProtocolsV6 t old told new =
     (own : HardwareAddress) (frame : List ℕ) (r : Ipv6Repr) (p : IpProtocol) (payload : List ℕ) (h : HardwareAddress) →
@@ -83,7 +84,8 @@ pub record AsksToBeTold (r : Ipv6Repr) (octets : List ℕ) : Type 0 where
       ⊎ ((first_failure (hop_by_hop_in octets).0.options.items ≡ DiscardSendUnicast) × (ipv6.is_multicast r.dst_addr ≡ false))
 
 -- the call that receives it sends a parameter problem of code 2, which quotes the packet's header and the first octets of its
--- options, and nothing else. Its pointer is 40: kept, against RFC 4443 3.4, by which it is the option's offset
+-- options, and nothing else. Its pointer is 40: kept, against RFC 4443 3.4, by which it is the option's offset. Each such
+-- packet brings one: kept, against RFC 4443 2.4 (f)
 abbrev pub AnswersUnknownOptions : ℤ → Host → List Event → Host → Type 0
 AnswersUnknownOptions t old told new =
     (own : HardwareAddress) (frame : List ℕ) (r : Ipv6Repr) (octets : List ℕ) (h : HardwareAddress) →

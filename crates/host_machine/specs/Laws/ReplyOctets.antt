@@ -65,16 +65,18 @@ pub record IsWithinFields (own h : EthernetAddress) (r : Ipv4Repr) (ident seq_no
   pub seq_no_fits : seq_no < 2 ^ 16
 
 -- the frame that answers a ping has these octets, if the host computes both checksums
-abbrev pub PingsAreAnsweredByOctets : Type 0
-PingsAreAnsweredByOctets =
-    (t : ℤ) (old new : Host) (told : List Event) (own h : EthernetAddress) (frame : List ℕ) (r : Ipv4Repr)
-    (ident seq_no : ℕ) (octets : List ℕ) →
+abbrev pub AnswersPingsByOctets : ℤ → Host → List Event → Host → Type 0
+AnswersPingsByOctets t old told new =
+    (own h : EthernetAddress) (frame : List ℕ) (r : Ipv4Repr) (ident seq_no : ℕ) (octets : List ℕ) →
     Takes (hardware.Ethernet own) t frame old told new → IsToItself (hardware.Ethernet own) frame →
     Pings (hardware.Ethernet own) old frame r ident seq_no octets →
     IsReached (at old t) (Ipv4 r.src_addr) (hardware.Ethernet h) → IsWithinFields own h r ident seq_no →
     28 + length octets ≤ ip_mtu_of old.capabilities → 28 + length octets < 2 ^ 16 →
     is_tx old.capabilities.checksum.ipv4 ≡ true → is_tx old.capabilities.checksum.icmpv4 ≡ true →
     (reply : List ℕ) × (sent_frames told ≡ reply ∷ []) × IsEchoReplyTo own h frame reply
+
+abbrev pub PingsAreAnsweredByOctets : Type 0
+PingsAreAnsweredByOctets = (t : ℤ) (old new : Host) (told : List Event) → AnswersPingsByOctets t old told new
 
 -- the frame of the ARP reply to the request in another frame: hardware of Ethernet, protocol IPv4, their lengths, and the host's
 -- hardware address for the address that was asked for, to who asked
@@ -90,9 +92,13 @@ pub record IsArpReplyTo (own : EthernetAddress) (frame reply : List ℕ) : Type 
   pub target_hardware : slice_range (drop 14 reply) 18 24 ≡ slice_range (drop 14 frame) 8 14
   pub target : u32_at (drop 14 reply) 24 ≡ u32_at (drop 14 frame) 14
 
-abbrev pub ArpRequestsAreAnsweredByOctets : Type 0
-ArpRequestsAreAnsweredByOctets =
-    (t : ℤ) (old new : Host) (told : List Event) (own : EthernetAddress) (frame : List ℕ) (r : ArpRepr) →
+-- the frame that answers an ARP request has these octets
+abbrev pub AnswersArpByOctets : ℤ → Host → List Event → Host → Type 0
+AnswersArpByOctets t old told new =
+    (own : EthernetAddress) (frame : List ℕ) (r : ArpRepr) →
     Takes (hardware.Ethernet own) t frame old told new → AsksByArp own old.ip_addrs frame r →
     length own.0 ≡ 6 → IsPacket r →
     (reply : List ℕ) × (sent_frames told ≡ reply ∷ []) × IsArpReplyTo own frame reply
+
+abbrev pub ArpRequestsAreAnsweredByOctets : Type 0
+ArpRequestsAreAnsweredByOctets = (t : ℤ) (old new : Host) (told : List Event) → AnswersArpByOctets t old told new

@@ -326,7 +326,7 @@ abbrev pub QueuesEchoReplies : ℤ → Host → List Event → Host → Type 0
 QueuesEchoReplies t old told new =
     (own : HardwareAddress) (frame : List ℕ) (r : Ipv4Repr) (ident seq_no : ℕ) (message : List ℕ) (i : ℕ)
     (s : IcmpSocket) →
-    Takes own t frame old told new → HasEchoReply own old frame r ident seq_no message →
+    Takes own t frame old told new → IsToItself own frame → HasEchoReply own old frame r ident seq_no message →
     slice_get old.sockets.places i ≡ Some (Some (Icmp s)) → s.endpoint ≡ Ident ident →
     is_room s.rx (length message) ≡ true →
     (slice_get new.sockets.places i ≡ Some (Some (Icmp (record s {
@@ -771,12 +771,3 @@ RequestFramesAreRead =
     ethernet.is_unicast r.source_hardware_addr ≡ true →
     in_same_network addrs (Ipv4 r.source_protocol_addr) ≡ true →
     AsksByArp own addrs (request_frame source destination r padding) r
-
--- after a poll with a budget, without frames received and with every transmit token granted: if something is still due,
--- it is one of these, where packets are counted from the host before the poll's last call that sends
-abbrev pub PollsLeaveLittle : Type 0
-PollsLeaveLittle =
-    (t : ℤ) (budget : ℕ) (answer : PollResult) (old new : Host) (told : List Event) (notes : List Note) (x : ℤ) →
-    Polls t budget answer old told notes new → 1 ≤ budget → handed_frames told ≡ [] → all_granted told ≡ true →
-    length old.sockets.waits ≡ length old.sockets.places →
-    Due (at new t) x → x ≤ℤ t → (last : EndsIn t told new) × IsStillDue (at last.mid t) (at new t)
