@@ -1,7 +1,7 @@
 -- Polls bring addresses and routes into line, and end in a call that sends.
 use Rattle.std.proofs.Common.{◌≡◌, ℕ, ◌≤◌, ◌==◌, Bool, true, false, List, [], ◌∷◌, ◌++◌, refl, sym, ◌∙◌, ap, append_assoc, Option, Some, None, arith}
 use Rattle.std.proofs.lemmas.Map.Views.{any-filter_same}
-use Rattle.std.specs.Prelude.{ℤ, pos, not, filter}
+use Rattle.std.specs.Prelude.{if◌then◌else◌, ℤ, pos, not, filter}
 use Rattle.std.specs.List.{list_any}
 use Rattle.net_base.specs.Device.{Event, Received, Asked, Sent, Reception, Frame, Nothing, Withheld, handed_frames}
 use Rattle.group_table.specs.declared.groups.GroupState.TheVariants.{Joining, Leaving}

@@ -1,16 +1,13 @@
 -- A query for groups of the host makes an answer pending.
-use Rattle.std.proofs.Common.{◌≡◌, ◌≢◌, ℕ, zero, suc, ◌+◌, ◌*◌, ◌/◌, ◌%◌, ◌^◌, ◌<◌, ◌≤◌, true, false, List, [], ◌∷◌, length, refl, sym}
+use Rattle.std.proofs.Common.{◌≡◌, ℕ, zero, suc, ◌*◌, ◌/◌, ◌^◌, true, false, List, [], ◌∷◌, length, refl, sym}
 use Rattle.std.proofs.Common.{◌∙◌, ap, subst, Option, Some, None, arith}
-use Rattle.std.specs.Prelude.{ℤ, pos, ◌+ℤ◌, ◌≤ℤ◌, ◌==◌, ◌&&◌, ◌||◌, nat_lt, slice_get, if◌then◌else◌}
+use Rattle.std.specs.Prelude.{ℤ, pos, ◌+ℤ◌, ◌≤ℤ◌, ◌==◌, nat_lt, slice_get, if◌then◌else◌}
 use Rattle.std.proofs.lemmas.Bool.Decides.{nat_tests}
 use Rattle.net_base.specs.Device.{Event}
-use Rattle.ip_address.specs.Ipv4 as ipv4_address
-use Rattle.ip_address.specs.Ipv6 as ipv6_address
 use Rattle.ip_address.specs.declared.ip.IpAddress.{IpAddress}
 use Rattle.ip_address.specs.declared.ip.IpAddress.TheVariants.{Ipv4, Ipv6}
 use Rattle.ip_address.specs.declared.ipv4.Ipv4Address.{Ipv4Address}
 use Rattle.ip_address.specs.declared.ipv6.Ipv6Address.{Ipv6Address}
-use Rattle.ip_address.specs.declared.protocol.IpProtocol.TheVariants as ip_protocol
 use Rattle.ip_wire.specs.declared.ip_packet.IpRepr.TheVariants as repr
 use Rattle.ip_wire.specs.declared.ipv4_packet.Ipv4Repr.{Ipv4Repr}
 use Rattle.ipv6_wire.specs.declared.ipv6_packet.Ipv6Repr.{Ipv6Repr}

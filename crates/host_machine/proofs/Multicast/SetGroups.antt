@@ -1,8 +1,8 @@
 -- Which groups a host has after a join and after a leave.
-use Rattle.std.proofs.Common.{◌≡◌, ◌≢◌, ◌⊎◌, inl, inr, ℕ, ◌<◌, Bool, true, false, List, [], ◌∷◌, ◌++◌, length, refl, sym, ap, subst, ◌∙◌}
-use Rattle.std.proofs.Common.{Option, Some, None, arith, cond, is_none, ◌&&◌}
+use Rattle.std.proofs.Common.{◌≡◌, ◌≢◌, ◌⊎◌, inl, inr, Bool, true, false, List, [], ◌∷◌, ◌++◌, length, refl, sym, ap, subst, ◌∙◌}
+use Rattle.std.proofs.Common.{Option, Some, None, cond, is_none, ◌&&◌}
 use Rattle.std.proofs.lemmas.Option.{slice_get_within, get_or_from_slice_get}
-use Rattle.std.specs.Prelude.{slice_get, Err}
+use Rattle.std.specs.Prelude.{slice_get, Ok}
 use Rattle.ip_address.specs.declared.ip.IpAddress.{IpAddress}
 use Rattle.group_table.specs.Groups.{AreDistinct, index_of, is_full, is_member_in, is_refused, new_group, state_of, joined_from, left_from}
 use Rattle.group_table.specs.Groups.{groups_after_join, groups_after_leave}

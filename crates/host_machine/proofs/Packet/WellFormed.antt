@@ -1,5 +1,5 @@
 -- What a host sends is read as what it is.
-use Rattle.std.proofs.Common.{◌≡◌, ℕ, ◌+◌, ◌<◌, ◌≤◌, ◌^◌, Bool, true, List, [], ◌∷◌, ◌++◌, length, refl, sym, ◌∙◌, ap, subst, Some, None, arith}
+use Rattle.std.proofs.Common.{◌≡◌, ℕ, ◌+◌, ◌<◌, ◌^◌, Bool, true, List, [], ◌∷◌, ◌++◌, length, refl, sym, ◌∙◌, ap, subst, Some, None, arith}
 use Rattle.std.proofs.lemmas.List.Elements.{All-cons, All-nil}
 use Rattle.std.proofs.lemmas.List.{append-nil}
 use Rattle.net_base.specs.Checksum.{is_tx}
@@ -12,7 +12,6 @@ use Rattle.ip_wire.specs.declared.ip_packet.IpRepr.TheVariants as repr
 use Rattle.ip_wire.specs.IpPacket.{header_len, src_addr, dst_addr}
 use Rattle.ip_wire.specs.Ipv4Packet.{IsIpv4, ipv4_in, whole}
 use Rattle.ip_wire.specs.Ipv4Packet as ipv4
-use Rattle.ip_wire.specs.Tcp as tcp
 use Rattle.ip_wire.specs.Udp as udp
 use Rattle.ip_wire.specs.Udp.{IsUdp, udp_in}
 use Rattle.ip_wire.proofs.Ipv4Again as ipv4_again
@@ -25,7 +24,6 @@ use Rattle.ipv6_wire.specs.Ipv6Packet.{IsIpv6, ipv6_in}
 use Rattle.ipv6_wire.specs.Ipv6Packet as ipv6
 use Rattle.ipv6_wire.proofs.HopByHopAgain as hop_by_hop_again
 use Rattle.ipv6_wire.proofs.Ipv6Again as ipv6_again
-use Rattle.control_wire.specs.Icmpv4 as icmpv4
 use Rattle.control_wire.proofs.Icmpv4Again as icmpv4_again
 use Rattle.icmpv6_wire.specs.Icmpv6.{IsIcmpv6, icmpv6_in}
 use Rattle.icmpv6_wire.specs.Icmpv6 as icmpv6

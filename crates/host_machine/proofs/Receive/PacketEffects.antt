@@ -3,7 +3,6 @@
 use Rattle.std.proofs.Common.{◌≡◌, ℕ, ◌≤◌, Bool, true, false, List, [], refl, ap, Option, Some, None, arith}
 use Rattle.std.specs.Prelude.{pos, ◌+ℤ◌, ◌==◌, ◌||◌, ◌&&◌, not, drop, if◌then◌else◌}
 use Rattle.std.specs.Option.{option_map}
-use Rattle.std.specs.FinMap as map
 use Rattle.std.proofs.lemmas.Bool.Decides.{nat_tests}
 use Rattle.wire_base.specs.Octets.{u16_at, u32_at}
 use Rattle.ip_address.specs.declared.cidr.IpCidr.{IpCidr}

@@ -1,6 +1,6 @@
 -- The words by which laws of service are said hold where lists, numbers and forms say so.
 use Rattle.std.proofs.Common.{◌≡◌, ◌⊎◌, inl, inr, ℕ, ◌<◌, Bool, true, false, List, [], ◌∷◌, refl, ap, subst, sym, ◌∙◌, Option, Some, None, arith}
-use Rattle.std.specs.Prelude.{zero, suc, ◌≢◌, ◌+◌, ◌%◌, ◌^◌, ◌/◌, ◌-◌, ◌==◌, ◌||◌, ◌&&◌, not, nat_lt, slice_get, if◌then◌else◌}
+use Rattle.std.specs.Prelude.{zero, suc, ◌≢◌, ◌^◌, ◌/◌, ◌-◌, ◌==◌, ◌||◌, ◌&&◌, not, nat_lt, slice_get, if◌then◌else◌}
 use Rattle.std.specs.List.{list_any}
 use Rattle.std.proofs.lemmas.Bool.Decides.{Decides-eqb, nat_tests}
 use Rattle.ip_address.specs.Cidr.{address_of, contains}

@@ -7,7 +7,6 @@ use Rattle.net_base.specs.Device.{Event, sent_frames}
 use Rattle.ip_address.specs.declared.cidr.IpCidr.{IpCidr}
 use Rattle.ip_address.specs.declared.ip.IpAddress.{IpAddress}
 use Rattle.ip_address.specs.declared.ipv4.Ipv4Address.{Ipv4Address}
-use Rattle.ip_address.specs.declared.ipv6.Ipv6Address.{Ipv6Address}
 use Rattle.group_wire.specs.declared.igmp.IgmpRepr.TheVariants.{MembershipReport}
 use Rattle.group_wire.specs.declared.igmp.IgmpVersion.{IgmpVersion}
 use Rattle.group_wire.specs.declared.mld.MldRecordType.TheVariants.{ModeIsExclude}
@@ -243,6 +242,7 @@ record AtMld (t : ℤ) (old new : Host) (told : List Event) : Type 0 where
 
 at_mld : {t : ℤ} {answer : PollResult} {old new : Host} {told : List Event} {notes : List Note} → Egress t answer old told notes new →
     AtMld t old new told
+unfolding at_igmp
 at_mld {t} {answer} {old} {new} {told} e =
     let a = e.round in
     let b = a.ends in

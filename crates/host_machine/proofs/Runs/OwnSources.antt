@@ -1,6 +1,6 @@
 -- The source of each packet that a host sends is its own.
 use Rattle.std.proofs.Common.{◌≡◌, ◌≢◌, ◌⊎◌, ℕ, ◌/◌, ◌^◌, Bool, true, false, List, [], ◌∷◌, ◌++◌, length, refl, sym, ◌∙◌, ap, subst, inl, inr, Option, Some, None}
-use Rattle.std.specs.Prelude.{ℤ, ◌==◌, cond, if◌then◌else◌}
+use Rattle.std.specs.Prelude.{ℤ, cond, if◌then◌else◌}
 use Rattle.std.specs.List.{AllByRecursion}
 use Rattle.std.specs.Option.{option_map, option_and_then}
 use Rattle.std.proofs.lemmas.Bool.Decides.{Decides-eqb}
@@ -49,7 +49,6 @@ use Rattle.host_machine.specs.Discovery.RouterSolicitation.{due_solicitation, ro
 use Rattle.slaac.specs.Slaac.{rs_required}
 use Rattle.host_machine.specs.Laws.Restraint.Chosen.{IsChosenFor, Given}
 use Rattle.host_machine.specs.Laws.Restraint.Neighbors.{IsOwn}
-use Rattle.host_machine.specs.Laws.Restraint.Neighbors as neighbors
 use Rattle.host_machine.specs.Laws.Restraint.Readings.{Receives}
 use Rattle.host_machine.specs.Laws.Restraint.Replies.{BringsSegment, BringsV4, GoesBack}
 use Rattle.host_machine.specs.Laws.Restraint.Replies as replies

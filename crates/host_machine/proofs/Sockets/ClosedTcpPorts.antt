@@ -1,5 +1,5 @@
 -- A segment to a port at which no socket is gets its reset.
-use Rattle.std.proofs.Common.{◌≡◌, ◌≢◌, ℕ, ◌+◌, ◌≤◌, ◌/◌, ◌%◌, Bool, true, false, List, [], ◌∷◌, refl, sym, ◌∙◌, ap, subst, Option, Some, None, arith, length}
+use Rattle.std.proofs.Common.{◌≡◌, ◌≢◌, ℕ, ◌≤◌, ◌/◌, ◌%◌, Bool, true, false, List, [], ◌∷◌, refl, sym, ◌∙◌, ap, subst, Option, Some, None, arith, length}
 use Rattle.std.specs.Prelude.{ℤ, ◌==◌, ◌&&◌, ◌||◌, slice_index}
 use Rattle.std.specs.List.{AllByRecursion, list_any}
 use Rattle.std.specs.Option.{option_map}
@@ -17,13 +17,11 @@ use Rattle.ip_address.specs.declared.protocol.IpVersion.TheVariants as version
 use Rattle.ip_wire.specs.declared.ip_packet.IpRepr.{IpRepr}
 use Rattle.ip_wire.specs.declared.ip_packet.IpRepr.TheVariants as repr
 use Rattle.ip_wire.specs.declared.tcp.TcpRepr.{TcpRepr}
-use Rattle.ip_wire.specs.IpPacket.{dst_addr, src_addr}
 use Rattle.ip_wire.specs.Tcp.{tcp_in}
 use Rattle.iface_tables.specs.Neighbor.{answer_of}
 use Rattle.network_sockets.specs.Raw as raw_socket
 use Rattle.sockets.specs.declared.socket.SocketOf.TheVariants.{Raw, Icmp, Udp, Tcp}
 use Rattle.transport_sockets.specs.Tcp.{TcpSocket, reset_of}
-use Rattle.transport_sockets.specs.Tcp as tcp_socket
 use Rattle.host_machine.specs.Context.Note.{Note}
 use Rattle.host_machine.specs.Context.Host.{Host, Storage, at, without_expired}
 use Rattle.host_machine.specs.Context.Addresses.{is_for_host}

@@ -1,6 +1,6 @@
 -- A datagram to many hosts that comes for a socket is in its queue.
-use Rattle.std.proofs.Common.{◌≡◌, ◌≢◌, ◌⊎◌, ℕ, zero, suc, Bool, true, false, List, [], ◌∷◌, refl, sym, ◌∙◌, ap, subst, Option, Some, None, arith}
-use Rattle.std.specs.Prelude.{ℤ, ◌==◌, ◌||◌, ◌/◌, ◌^◌, ◌<◌, map, slice_get, slice_set, if◌then◌else◌}
+use Rattle.std.proofs.Common.{◌≡◌, ◌≢◌, ℕ, zero, suc, Bool, true, false, List, [], ◌∷◌, refl, sym, ◌∙◌, ap, subst, Option, Some, None, arith}
+use Rattle.std.specs.Prelude.{ℤ, ◌==◌, ◌||◌, ◌/◌, ◌^◌, slice_get, slice_set, if◌then◌else◌}
 use Rattle.std.specs.List.{AllByRecursion, find}
 use Rattle.std.specs.Option.{option_map}
 use Rattle.std.proofs.lemmas.Bool.Decides.{Decides-eqb}
@@ -11,7 +11,6 @@ use Rattle.ip_address.specs.Ip.{is_multicast}
 use Rattle.ip_address.specs.Ipv4 as ipv4_address
 use Rattle.ip_address.specs.Ipv6 as ipv6_address
 use Rattle.ip_address.specs.declared.cidr.IpCidr.{IpCidr}
-use Rattle.ip_address.specs.declared.cidr.IpCidr.TheVariants as cidr
 use Rattle.ip_address.specs.declared.hardware.HardwareAddress.{HardwareAddress}
 use Rattle.ip_address.specs.declared.ip.IpAddress.{IpAddress}
 use Rattle.ip_address.specs.declared.ip.IpAddress.TheVariants.{Ipv4, Ipv6}
@@ -43,7 +42,6 @@ use Rattle.host_machine.specs.Sockets.Udp.{ProcessesUdp, IsDatagram, accepts, st
 use Rattle.host_machine.specs.Laws.Many.{DatagramsToManyAreQueued, IsFirstAtPort, IsMember, IsOfMany, QueuesToMany, QueuesToManyV6}
 use Rattle.host_machine.specs.Laws.Many as law
 use Rattle.host_machine.specs.Laws.Restraint.NextHop.{IsGroup}
-use Rattle.host_machine.specs.Laws.Restraint.NextHop as next
 use Rattle.host_machine.specs.Laws.Restraint.Queries.{HasGroup}
 use Rattle.host_machine.specs.Laws.Service.{IsQueued}
 use Rattle.host_machine.proofs.Sockets.DatagramDelivery.{apart, deaf, first_still, has_room, raw_apart, same_bits, there, udp_delivered}

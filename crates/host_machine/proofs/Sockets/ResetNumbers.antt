@@ -1,5 +1,5 @@
 -- The reset that answers a segment has the numbers that the segment's octets ask for.
-use Rattle.std.proofs.Common.{◌≡◌, ◌≢◌, ℕ, ◌+◌, ◌/◌, ◌%◌, Bool, true, false, List, length, refl, ◌∙◌, subst, Option, Some, None, arith}
+use Rattle.std.proofs.Common.{◌≡◌, ◌≢◌, ℕ, ◌/◌, ◌%◌, Bool, true, false, List, length, refl, subst, Option, Some, None, arith}
 use Rattle.std.specs.Prelude.{◌<◌, ◌==◌, slice_index, if◌then◌else◌}
 use Rattle.std.proofs.lemmas.Bool.Decides.{Decides-eqb, nat_tests}
 use Rattle.wire_base.specs.Octets.{u32_at}

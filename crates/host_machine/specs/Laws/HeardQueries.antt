@@ -1,6 +1,6 @@
 -- What a host must do with a query for groups: it answers within the time that the query gives, if no other query comes
 -- (RFC 2236 3, RFC 3810 5.1.3, 6.2). That the report goes at its moment: DueReports.
-use Rattle.std.specs.Prelude.{◌≡◌, ℕ, ◌*◌, ◌+◌, ◌/◌, ◌^◌, ℤ, pos, ◌+ℤ◌, ◌≤ℤ◌, List, []}
+use Rattle.std.specs.Prelude.{◌≡◌, ℕ, ◌*◌, ◌/◌, ◌^◌, ℤ, pos, ◌+ℤ◌, ◌≤ℤ◌, List, []}
 use Rattle.net_base.specs.Device.{Event, sent_frames}
 use Rattle.ip_address.specs.declared.hardware.HardwareAddress.{HardwareAddress}
 use Rattle.ip_address.specs.declared.ip.IpAddress.TheVariants.{Ipv4, Ipv6}

@@ -1,5 +1,5 @@
 -- No frame is longer than the device allows, whatever is called (RFC 894, RFC 791 3.2, RFC 8200 5).
-use Rattle.std.specs.Prelude.{◌≡◌, ◌+◌, ◌≤◌, List, length}
+use Rattle.std.specs.Prelude.{◌+◌, ◌≤◌, List, length}
 use Rattle.std.specs.List.{AllByRecursion}
 use Rattle.net_base.specs.declared.phy.DeviceCapabilities.{DeviceCapabilities}
 use Rattle.net_base.specs.Checksum.{ip_mtu_of}

@@ -1,6 +1,6 @@
 -- Two requests of other hosts on Ethernet, by the octets of their frames: an echo request over IPv4 (RFC 792), and a
 -- neighbour solicitation (RFC 4861 4.3).
-use Rattle.std.specs.Prelude.{◌≡◌, ◌⊎◌, ◌||◌, ◌&&◌, not, ℕ, ◌+◌, ◌*◌, ◌/◌, ◌%◌, ◌≤◌, true, List, ◌++◌, length, drop, take}
+use Rattle.std.specs.Prelude.{◌≡◌, ◌⊎◌, ◌||◌, ◌&&◌, not, ℕ, ◌*◌, ◌/◌, ◌%◌, ◌≤◌, true, List, ◌++◌, length, drop, take}
 use Rattle.std.specs.Prelude.{slice_index, slice_range}
 use Rattle.wire_base.specs.Checksum.{folded_sum, word_sum}
 use Rattle.wire_base.specs.Octets.{u16_at, u32_at}

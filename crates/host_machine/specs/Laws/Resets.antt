@@ -1,5 +1,5 @@
 -- Which numbers a reset has (RFC 9293 3.5.2, 3.10.7.1), and that a segment to a port at which no socket listens is reset.
-use Rattle.std.specs.Prelude.{◌≡◌, ◌≢◌, ℕ, ◌+◌, ◌*◌, ◌/◌, ◌%◌, ◌^◌, ◌≤◌, ℤ, List, [], ◌∷◌}
+use Rattle.std.specs.Prelude.{◌≡◌, ◌≢◌, ℕ, ◌/◌, ◌%◌, ◌≤◌, ℤ, List, [], ◌∷◌}
 use Rattle.std.specs.Prelude.{slice_get, slice_index, Some}
 use Rattle.std.specs.List.{AllByRecursion}
 use Rattle.net_base.specs.Checksum.{ip_mtu_of}
