@@ -192,7 +192,7 @@ come_back a b e i k x y z p =
       values = ap (λ x. x.0) told.values;
     } in
     let queued = replies_queued z.moment C z.after z.told (hardware.Ethernet a.hardware_addr) (frame_to B a reply) (header_v4 reply) e.ident e.seq_no text k
-    p.awaits.socket p.a_takes back p.awaits.here
+    p.awaits.socket p.a_takes told.itself back p.awaits.here
     p.awaits.endpoint (ap (λ n. is_room p.awaits.socket.rx n) told.len ∙ p.awaits.room) in
     record {
       front = went.front;
