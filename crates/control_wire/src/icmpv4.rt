@@ -8,7 +8,7 @@ ghost use Rattle.wire_base.specs.Octets.{u16_at};
 ghost use Rattle.control_wire.specs.Icmpv4.{IsEchoRequest};
 ghost use Rattle.control_wire.specs.Icmpv4 as spec;
 
-use ip_wire::checksum::{part_sum, sum_with};
+use ip_wire::checksum::{long_sum_with, part_sum};
 use ip_wire::emit::FrameBuffer;
 use ip_wire::ipv4_packet::{Ipv4Fragment, Ipv4Repr};
 use ip_wire::octets::u16_at;
@@ -110,7 +110,7 @@ impl Icmpv4Repr {
         if octets.len() < HEADER_LEN || octets.len() > 0xffff {
             return None;
         }
-        if checked && sum_with(0, octets) != 0xffff {
+        if checked && long_sum_with(0, octets) != 0xffff {
             return None;
         }
         parse_body(octets)
@@ -293,7 +293,7 @@ fn sum_for(head: &[u8], quoted: &[u8], payload: &[u8]) -> u16
     requires payload_short { length payload.now < 2 ^ 16 }
     ensures { result ≡ checksum_of (head.now ++ quoted.now ++ payload.now) }
 {
-    0xffff - sum_with(part_sum(head) + part_sum(quoted), payload)
+    0xffff - long_sum_with(part_sum(head) + part_sum(quoted), payload)
 }
 
 /// Parses a message by its type. Returns it and its data.

@@ -226,6 +226,7 @@ impl Groups {
 }
 
 // The index of a group, or the length.
+#[inline(never)]
 fn index_of(groups: &[Group], group: &IpAddress) -> usize
     ensures { result ≡ index_of groups.now group.now }
 {
@@ -247,6 +248,7 @@ fn state_at(groups: &[Group], index: usize) -> Option<GroupState>
 
 // The index of a group, or the length, and its state, if it is there.
 #[tactic(auto, using(crate::proofs::GroupsLemmas::state_at_index, crate::proofs::GroupsLemmas::place_within))]
+#[inline(never)]
 fn find(groups: &[Group], group: &IpAddress) -> (usize, Option<GroupState>)
     ensures index { result.0 ≡ index_of groups.now group.now }
     ensures state { result.1 ≡ state_of groups.now group.now }
@@ -404,6 +406,7 @@ fn count_in(groups: &[Group], state: GroupState) -> usize
 }
 
 // The number of IPv4 groups.
+#[inline(never)]
 fn ipv4_count(groups: &[Group]) -> usize
     ensures value { result ≡ length (ipv4_groups groups.now) }
     ensures within { result ≤ length groups.now }
@@ -435,6 +438,7 @@ fn nth_ipv4(groups: &[Group], n: usize) -> Option<Ipv4Address>
 }
 
 // The number of IPv6 groups.
+#[inline(never)]
 fn ipv6_count(groups: &[Group]) -> usize
     ensures { result ≡ length (ipv6_groups groups.now) }
 {

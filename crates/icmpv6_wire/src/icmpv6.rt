@@ -12,7 +12,7 @@ use crate::router::RouterRepr;
 use group_wire::mld::MldRepr;
 use ip_address::IpAddress;
 use ipv6_wire::ipv6_packet::Ipv6Repr;
-use wire_base::checksum::{part_sum, sum_with};
+use wire_base::checksum::{long_sum_with, part_sum, sum_with};
 use wire_base::emit::FrameBuffer;
 use wire_base::octets::{u16_at, u32_at};
 use wire_base::pseudo::pseudo_sum;
@@ -294,7 +294,7 @@ fn sums_up(octets: &[u8], src: &IpAddress, dst: &IpAddress) -> bool
         ≡ (folded_sum (word_sum (spec.pseudo_header src.now dst.now (length octets.now) ++ octets.now)) == 65535) }
 {
     let start = pseudo_header_sum(src, dst, octets.len() as u16);
-    sum_with(start, octets) == 0xffff
+    long_sum_with(start, octets) == 0xffff
 }
 
 /// A number that folds as the sum of the words of a pseudo-header does, in any sum, for a message of `len` octets.

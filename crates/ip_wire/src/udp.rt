@@ -6,7 +6,7 @@ ghost use Rattle.wire_base.specs.Pseudo.{pseudo};
 ghost use Rattle.ip_wire.specs.Udp as spec;
 
 use ip_address::IpAddress;
-use wire_base::checksum::sum_with;
+use wire_base::checksum::{long_sum_with, sum_with};
 use wire_base::emit::FrameBuffer;
 use wire_base::octets::u16_at;
 use wire_base::pseudo::pseudo_sum;
@@ -140,7 +140,7 @@ fn sum_for(repr: &UdpRepr, src: &IpAddress, dst: &IpAddress, payload: &[u8]) -> 
     let len = payload.len() as u16;
     let ports = u64::from(repr.src_port) + u64::from(repr.dst_port);
     let start = pseudo_sum(src, dst, 17, 8 + len) + ports + u64::from(8 + len);
-    let sum = 0xffff - sum_with(start, payload);
+    let sum = 0xffff - long_sum_with(start, payload);
     if sum == 0 { 0xffff } else { sum }
 }
 

@@ -19,11 +19,11 @@ pub fn sum_with(start: u64, octets: &[u8]) -> u16
     long_sum_with(start, octets)
 }
 
-/// Computes [`sum_with`] in blocks of 64 octets, and then eight at a time. Read little-endian, eight octets need no swap:
-/// times 256 they fold as their four words do (RFC 1071 2). What is carried out of 64 bits is added at the low end, by
-/// the addition that follows.
+/// Computes [`sum_with`] by a call, for octets that are seldom fewer than 32: in blocks of 64 octets, and then eight at a
+/// time. Read little-endian, eight octets need no swap: times 256 they fold as their four words do (RFC 1071 2). What is
+/// carried out of 64 bits is added at the low end, by the addition that follows.
 #[inline(never)]
-fn long_sum_with(start: u64, octets: &[u8]) -> u16
+pub fn long_sum_with(start: u64, octets: &[u8]) -> u16
     requires short { length octets.now < 2 ^ 16 }
     requires small { start < 2 ^ 48 }
     ensures { result ≡ spec.folded_sum (start + spec.word_sum octets.now) }
