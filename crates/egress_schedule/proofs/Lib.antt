@@ -8,3 +8,4 @@ mod Kept
 mod AllSettled
 mod Unchanged
 mod Unnoted
+mod Fields

@@ -54,16 +54,16 @@ pub others_stay : (now : ℤ) (i k : ℕ) (wait : Wait) (plan : Plan) → k ≢ 
 others_stay now i k wait plan other = get_or-set_other plan.watches i k _ idle other
 
 -- of the sockets up to one nothing is written down, if nothing was of those before it, and nothing is of it
-pub none_below : (now : ℤ) (n : ℕ) (wait : Wait) (old : Plan) (ws : List Watch) (w : Watch) → ws ≡ (plan_after_look now n wait old).watches →
-    ((i : ℕ) → i < n → IsUnnoted (get_or old.watches i idle)) → w ≡ get_or ws n idle → IsUnnoted w →
+pub none_below : (now : ℤ) (n : ℕ) (wait : Wait) (old : Plan) (ws : List Watch) → ws ≡ (plan_after_look now n wait old).watches →
+    ((i : ℕ) → i < n → IsUnnoted (get_or old.watches i idle)) → IsUnnoted (get_or ws n idle) →
     (i : ℕ) → i < n + 1 → IsUnnoted (get_or ws i idle)
-none_below now n wait old ws w is below at it i within =
+none_below now n wait old ws is below it i within =
     elim (nat_lt i n) as (λ t. nat_lt i n ≡ t → IsUnnoted (get_or ws i idle)) [
       | true ↦ λ t. let less : i < n = grind (arith, nat_tests) in
           let other : i ≢ n = λ same. absurd (omega (arith, less, same)) in
           subst IsUnnoted (sym (ap (λ (xs : List Watch). get_or xs i idle) is ∙ others_stay now n i wait old other)) (below i less)
       | false ↦ λ t. let same : n ≡ i = grind (arith, nat_tests) in
-          subst (λ (k : ℕ). IsUnnoted (get_or ws k idle)) same (subst IsUnnoted at it)
+          subst (λ (k : ℕ). IsUnnoted (get_or ws k idle)) same it
     ] refl
 
 -- nor of those behind one, if nothing was

@@ -10,7 +10,7 @@ ghost use Rattle.egress_schedule.specs.Turns.{next_in_turn};
 use crate::queues::{first_len, has_others};
 use crate::schedule::Schedule;
 use crate::turns::turn_after;
-use crate::watch::{Waiting, Watch};
+use crate::watch::Waiting;
 use ip_wire::{IpAddress, Ipv4Address};
 use net_base::time::Instant;
 use socket_set::{Meta, SocketSetOf, by_index};
@@ -119,15 +119,10 @@ impl Schedule {
         requires { IsMoment now }
         ensures { planned self.new sockets.new ≡ with_wait_aside now index (planned self.old sockets.old) }
     {
-        let watch = self.watch(index);
-        let waiting = waiting_unasked(now, watch.waiting);
+        let waiting = waiting_unasked(now, self.noted_wait(index));
         let own = own_wait(&waiting, by_index::wait(sockets, index));
-        let aside = Watch {
-            waiting,
-            set_aside: Some(own),
-            ..watch
-        };
-        self.set_watch(index, aside);
+        self.set_waiting(index, waiting);
+        self.set_aside_wait(index, Some(own));
         by_index::neighbor_missing(sockets, index, now, NOBODY);
     }
 
@@ -147,11 +142,7 @@ impl Schedule {
     {
         let own_wait = self.watch(index).set_aside;
         if let Some(wait) = own_wait {
-            let watch = Watch {
-                set_aside: None,
-                ..self.watch(index)
-            };
-            self.set_watch(index, watch);
+            self.set_aside_wait(index, None);
             by_index::set_wait(sockets, index, wait);
         }
     }

@@ -1,17 +1,17 @@
 //! Giving up a neighbour that doesn't answer.
-ghost use Rattle.std.specs.Prelude.{◌≡◌, false, get_or, length};
-ghost use Rattle.egress_schedule.specs.Plan.{each_of, idle, planned};
+ghost use Rattle.std.specs.Prelude.{◌≡◌, false, get_or, length, Some};
+ghost use Rattle.egress_schedule.specs.Plan.{each_of, idle, planned, with_watch};
 ghost use Rattle.egress_schedule.specs.Patience as spec;
 ghost use Rattle.egress_schedule.specs.Patience.{IsUnnoted, NoneIsNoted, after_alignment_at, after_giving_up};
 ghost use Rattle.egress_schedule.specs.Patience.{after_look_at, after_patience_at, earliest_end};
-ghost use Rattle.egress_schedule.specs.Patience.{earliest_with, must_go, plan_after_look, without_first};
+ghost use Rattle.egress_schedule.specs.Patience.{earliest_with, must_go, plan_after_look, unreachable_after};
+ghost use Rattle.egress_schedule.specs.Patience.{watch_after_giving_up, without_first};
 ghost use Rattle.socket_set.specs.SocketSet.{socket_at};
 
 use crate::queues::{has_others, is_crowded};
 use crate::schedule::Schedule;
 use crate::watch::{
-    Waiting, Watch, if_asked, is_given_up, is_new, is_recent, is_second_over, may_ask,
-    waiting_after,
+    Waiting, if_asked, is_given_up, is_new, is_recent, is_second_over, may_ask, waiting_after,
 };
 use ip_wire::IpAddress;
 use net_base::time::Instant;
@@ -39,7 +39,7 @@ impl Schedule {
         let mut has_notes = false;
         for index in 0..self.watches.len() {
             self.look_at(index, now, sockets);
-            has_notes |= self.watch(index).is_noted();
+            has_notes |= self.is_noted(index);
         }
         self.may_have_notes = has_notes;
     }
@@ -74,30 +74,44 @@ impl Schedule {
     fn is_noted(&self, index: usize) -> bool
         ensures { result ≡ false → IsUnnoted (get_or self.now.watches index idle) }
     {
-        self.watch(index).is_noted()
+        match self.watches.get(index) {
+            Some(watch) => watch.is_noted(),
+            None => false,
+        }
     }
 
     /// Writes down whether the socket at an index waits, whose wait is this.
     fn write_down(&mut self, index: usize, now: Instant, wait: Option<(IpAddress, Instant)>)
         ensures { self.new ≡ plan_after_look now index wait self.old }
     {
-        let watch = self.watch(index);
-        let waiting = waiting_after(now, self.asked, wait, watch.waiting);
-        let asks = is_new(&waiting, &watch.waiting) && may_ask(now, self.asked);
-        let unreachable = match waiting {
-            None => None,
-            Some(_) => watch.unreachable,
-        };
-        self.set_watch(
-            index,
-            Watch {
-                waiting,
-                unreachable,
-                ..watch
-            },
-        );
+        let before = self.noted_wait(index);
+        let waiting = waiting_after(now, self.asked, wait, before);
+        let asks = is_new(&waiting, &before) && may_ask(now, self.asked);
+        self.note_wait(index, waiting);
         self.asked = if_asked(asks, now, self.asked);
         self.is_waiting |= waiting.is_some();
+    }
+
+    /// Writes down for whom the socket at an index waits after a round. Of one that doesn't wait it isn't kept whom it just
+    /// gave up.
+    fn note_wait(&mut self, index: usize, waiting: Option<Waiting>)
+        ensures { let watch = get_or self.old.watches index idle in
+            self.new ≡ with_watch index
+            (record watch { waiting = waiting; unreachable = unreachable_after waiting watch.unreachable }) self.old }
+    {
+        self.set_waiting(index, waiting);
+        self.keep_unreachable(index, &waiting);
+    }
+
+    /// Keeps whom the socket at an index just gave up only if it waits.
+    fn keep_unreachable(&mut self, index: usize, waiting: &Option<Waiting>)
+        ensures { let watch = get_or self.old.watches index idle in
+            self.new ≡ with_watch index
+            (record watch { unreachable = unreachable_after waiting.now watch.unreachable }) self.old }
+    {
+        if waiting.is_none() {
+            self.set_unreachable(index, None);
+        }
     }
 
     /// Lets all sockets that wait ask again at one instant, the earliest.
@@ -119,7 +133,7 @@ impl Schedule {
     {
         let mut end = None;
         for index in 0..self.watches.len() {
-            end = earlier_end(self.watch(index).waiting, end);
+            end = earlier_end(self.noted_wait(index), end);
         }
         end
     }
@@ -128,16 +142,13 @@ impl Schedule {
     fn align_at<L: Drop>(&mut self, index: usize, end: Instant, sockets: &mut SocketSetOf<L>)
         ensures { planned self.new sockets.new ≡ after_alignment_at end index (planned self.old sockets.old) }
     {
-        let waiting = self.watch(index).waiting;
+        let waiting = self.noted_wait(index);
         if let Some(waiting) = waiting {
-            let aligned = Watch {
-                waiting: Some(Waiting {
-                    until: end,
-                    ..waiting
-                }),
-                ..self.watch(index)
+            let aligned = Waiting {
+                until: end,
+                ..waiting
             };
-            self.set_watch(index, aligned);
+            self.set_waiting(index, Some(aligned));
             by_index::set_wait(sockets, index, Some((waiting.neighbor, end)));
         }
     }
@@ -201,17 +212,31 @@ impl Schedule {
     )
         ensures { planned self.new sockets.new ≡ after_giving_up now index neighbor (planned self.old sockets.old) }
     {
-        let watch = Watch {
-            waiting: None,
-            unreachable: Some(neighbor),
-            given_up: Some(neighbor),
-            dropped: Some(now),
-            ..self.watch(index)
-        };
-        self.set_watch(index, watch);
+        self.note_drop(index, now, neighbor);
         self.given_up = self.given_up.saturating_add(1);
         drop_front(index, sockets);
         by_index::set_wait(sockets, index, None);
+    }
+
+    /// Writes down that the socket at an index gives up its first packet.
+    fn note_drop(&mut self, index: usize, now: Instant, neighbor: IpAddress)
+        ensures { self.new
+            ≡ with_watch index (watch_after_giving_up now neighbor (get_or self.old.watches index idle)) self.old }
+    {
+        self.set_waiting(index, None);
+        self.set_unreachable(index, Some(neighbor));
+        self.set_given_up(index, now, neighbor);
+    }
+
+    /// Writes down of which packet the socket at an index is told that it was given up, and when.
+    fn set_given_up(&mut self, index: usize, now: Instant, neighbor: IpAddress)
+        ensures { self.new ≡ with_watch index
+            (record (get_or self.old.watches index idle) { given_up = Some neighbor; dropped = Some now }) self.old }
+    {
+        if let Some(watch) = self.watches.get_mut(index) {
+            watch.given_up = Some(neighbor);
+            watch.dropped = Some(now);
+        }
     }
 }
 

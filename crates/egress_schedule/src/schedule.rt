@@ -96,13 +96,9 @@ impl Schedule {
         ensures unchanged { IsNone result → self.new ≡ self.old }
     {
         let index = by_index::index_of(handle);
-        let watch = self.watch(index);
+        let watch = self.watches.get_mut(index)?;
         let given_up = watch.given_up?;
-        let told = Watch {
-            given_up: None,
-            ..watch
-        };
-        self.set_watch(index, told);
+        watch.given_up = None;
         Some(given_up)
     }
 
@@ -127,7 +123,7 @@ impl Schedule {
         ensures { result ≡ waiting_at index (planned self.now sockets.now) }
     {
         if by_index::wait(sockets, index).is_some() {
-            self.watch(index).waiting
+            self.noted_wait(index)
         } else {
             None
         }
@@ -225,6 +221,53 @@ impl Schedule {
         match self.watches.get(index) {
             Some(watch) => *watch,
             None => Watch::IDLE,
+        }
+    }
+
+    /// For whom it is written down that the socket at an index waits.
+    pub(crate) fn noted_wait(&self, index: usize) -> Option<Waiting>
+        ensures { result ≡ (get_or self.now.watches index idle).waiting }
+    {
+        match self.watches.get(index) {
+            Some(watch) => watch.waiting,
+            None => None,
+        }
+    }
+
+    /// Writes down for whom the socket at an index waits.
+    #[inline(never)]
+    pub(crate) fn set_waiting(&mut self, index: usize, waiting: Option<Waiting>)
+        ensures { self.new
+            ≡ with_watch index (record (get_or self.old.watches index idle) { waiting = waiting }) self.old }
+    {
+        self.may_have_notes |= waiting.is_some();
+        if let Some(watch) = self.watches.get_mut(index) {
+            watch.waiting = waiting;
+        }
+    }
+
+    /// Writes down whom the socket at an index just gave up.
+    pub(crate) fn set_unreachable(&mut self, index: usize, unreachable: Option<IpAddress>)
+        ensures { self.new
+            ≡ with_watch index (record (get_or self.old.watches index idle) { unreachable = unreachable }) self.old }
+    {
+        self.may_have_notes |= unreachable.is_some();
+        if let Some(watch) = self.watches.get_mut(index) {
+            watch.unreachable = unreachable;
+        }
+    }
+
+    /// Writes down the own wait of the socket at an index, while it isn't to be asked.
+    pub(crate) fn set_aside_wait(
+        &mut self,
+        index: usize,
+        wait: Option<Option<(IpAddress, Instant)>>,
+    )
+        ensures { self.new
+            ≡ with_watch index (record (get_or self.old.watches index idle) { set_aside = wait }) self.old }
+    {
+        if let Some(watch) = self.watches.get_mut(index) {
+            watch.set_aside = wait;
         }
     }
 

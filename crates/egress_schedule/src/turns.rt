@@ -6,7 +6,7 @@ ghost use Rattle.egress_schedule.specs.Turns as spec;
 ghost use Rattle.egress_schedule.specs.Turns.{after_hold_at, asks_at, next_to_ask, plan_asked, with_wait_longer};
 
 use crate::schedule::Schedule;
-use crate::watch::{Waiting, Watch};
+use crate::watch::Waiting;
 use net_base::time::Instant;
 use socket_set::{Meta, SocketSetOf, by_index};
 
@@ -33,14 +33,8 @@ impl Schedule {
         ensures { self.new ≡ plan_asked now next self.old }
     {
         if next < self.watches.len() {
-            let watch = self.watch(next);
-            self.set_watch(
-                next,
-                Watch {
-                    waiting: waiting_asked(now, watch.waiting),
-                    ..watch
-                },
-            );
+            let asked = waiting_asked(now, self.noted_wait(next));
+            self.set_waiting(next, asked);
             self.asked = Some(now);
         }
     }
@@ -133,14 +127,11 @@ impl Schedule {
         requires { IsMoment now }
         ensures { planned self.new sockets.new ≡ with_wait_longer now index waiting (planned self.old sockets.old) }
     {
-        let watch = Watch {
-            waiting: Some(Waiting {
-                until: now + Meta::DISCOVERY_SILENT_TIME,
-                ..waiting
-            }),
-            ..self.watch(index)
+        let longer = Waiting {
+            until: now + Meta::DISCOVERY_SILENT_TIME,
+            ..waiting
         };
-        self.set_watch(index, watch);
+        self.set_waiting(index, Some(longer));
         by_index::neighbor_missing(sockets, index, now, waiting.neighbor);
     }
 }

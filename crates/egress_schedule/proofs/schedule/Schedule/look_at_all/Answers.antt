@@ -16,8 +16,8 @@ loop-index-preserved g c =
           c.look_at.ensures l.invariant.0,
       ap (λ (ws : List Watch). length ws) watches ∙ same_length c.args.now l.index (wait_of s l.index) l.self ∙ l.invariant.1,
       λ off. let each = neither l.has_notes c.is_noted-has_notes.result _ refl off in
-          none_below c.args.now l.index (wait_of s l.index) l.self c.look_at.new.self.watches c.watch.result watches
-          (l.invariant.2 each.0) c.watch.ensures (c.is_noted-has_notes.ensures each.1),
+          none_below c.args.now l.index (wait_of s l.index) l.self c.look_at.new.self.watches watches (l.invariant.2 each.0)
+          (c.is_noted-has_notes.ensures each.1),
     )
 
 pub invariant_of-self : goal.invariant_of-self
