@@ -1,9 +1,9 @@
 -- Where all is settled, the end of a round changes nothing, and where no wait is over, its beginning.
-use Rattle.std.specs.Prelude.{ℕ, zero, suc, ◌≡◌, ◌≢◌, ◌<◌, ◌≤◌, ◌+◌, ◌-◌, ◌⊎◌, ◌&&◌, ◌||◌, not, nat_lt, Bool, true, false, ℤ}
+use Rattle.std.specs.Prelude.{ℕ, zero, suc, ◌≡◌, ◌<◌, ◌≤◌, ◌+◌, ◌-◌, ◌⊎◌, ◌&&◌, ◌||◌, not, nat_lt, Bool, true, false, ℤ}
 use Rattle.std.specs.Prelude.{List, [], ◌∷◌, is_none, is_some, length, get_or, slice_set, Option, Some, None, refl, if◌then◌else◌}
 use Rattle.std.specs.Option.{option_and_then}
 use Rattle.std.specs.Ordering.{int_eq, int_cmp, is_gt, is_le}
-use Rattle.std.proofs.Common.{inl, inr, sym, ap, ◌∙◌, subst, arith}
+use Rattle.std.proofs.Common.{inl, inr, sym, ap, ◌∙◌, arith}
 use Rattle.std.proofs.lemmas.Bool.{and_parts, cases_lt, eqb-true, le-ltb}
 use Rattle.std.proofs.lemmas.Bool.Decides.{Decides-int_eq}
 use Rattle.ip_address.specs.declared.ip.IpAddress.{IpAddress}
@@ -11,16 +11,16 @@ use Rattle.ip_address.specs.declared.ip.IpAddress.TheVariants.{Ipv4, Ipv6}
 use Rattle.socket_base.specs.Source.{is_same}
 use Rattle.sockets.specs.declared.socket.SocketOf.{SocketOf}
 use Rattle.socket_set.specs.SocketMeta.{Wait}
-use Rattle.socket_set.specs.SocketSet.{Sockets, socket_at, wait_at, wait_of, with_wait}
+use Rattle.socket_set.specs.SocketSet.{socket_at, wait_at, wait_of, with_wait}
 use Rattle.egress_schedule.specs.declared.watch.Waiting.{Waiting}
 use Rattle.egress_schedule.specs.declared.watch.Watch.{Watch}
 use Rattle.egress_schedule.specs.Patience.{after_alignment, after_alignment_at, after_alignment_to, after_look, after_look_at, after_patience}
 use Rattle.egress_schedule.specs.Patience.{after_patience_at, begun_or_before, earlier_of, earliest_end, earliest_with, if_asked, if_given_up, if_waiting}
 use Rattle.egress_schedule.specs.Patience.{is_given_up, is_new, may_ask, must_go, plan_after_look, unreachable_after, waiting_after}
-use Rattle.egress_schedule.specs.Plan.{Plan, Planned, each_of, first_from, idle, waiting_at, watch_at, with_watch}
+use Rattle.egress_schedule.specs.Plan.{Plan, Planned, each_of, first_from, idle, watch_at, with_watch}
 use Rattle.egress_schedule.specs.Rounds.{with_waits_ended}
 use Rattle.egress_schedule.specs.Settled.{ends_at, is_settled, is_settled_as, is_some_over, is_written, waits_at}
-use Rattle.egress_schedule.specs.Turns.{after_hold_at, after_taking_turns, asks_at, if_asking, if_held, is_over, next_to_ask, plan_asked, turn_after}
+use Rattle.egress_schedule.specs.Turns.{after_hold_at, after_taking_turns, asks_at, if_asking, if_held, next_to_ask}
 use Rattle.egress_schedule.proofs.Ends.{past_get}
 use Rattle.egress_schedule.proofs.GoesOn.{same_itself}
 use Rattle.egress_schedule.proofs.Unnoted.{look_idle, passed}
@@ -39,7 +39,7 @@ or_false : (b : Bool) → (b || false) ≡ b
 or_false true = refl
 or_false false = refl
 
-if_not : (b : Bool) → not b ≡ true → b ≡ false
+pub if_not : (b : Bool) → not b ≡ true → b ≡ false
 if_not true is = absurd cc
 if_not false is = refl
 
@@ -50,7 +50,7 @@ one_further p n before here i within = by (cases_lt i n) where
   by (inl less) = before i less
   by (inr past) = ap p (let same : i ≡ n = omega (arith, past, within) in same) ∙ here
 
-none_if : {A : Type 0} (o : Option A) → is_none o ≡ true → o ≡ None
+pub none_if : {A : Type 0} (o : Option A) → is_none o ≡ true → o ≡ None
 none_if None is = refl
 none_if (Some x) is = absurd cc
 

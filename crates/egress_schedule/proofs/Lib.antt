@@ -9,3 +9,4 @@ mod AllSettled
 mod Unchanged
 mod Unnoted
 mod Fields
+mod Quiet

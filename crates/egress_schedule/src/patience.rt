@@ -1,11 +1,12 @@
 //! Giving up a neighbour that doesn't answer.
-ghost use Rattle.std.specs.Prelude.{◌≡◌, false, get_or, length, Some};
+ghost use Rattle.std.specs.Prelude.{◌≡◌, ◌&&◌, ◌||◌, false, get_or, length, Some};
 ghost use Rattle.egress_schedule.specs.Plan.{each_of, idle, planned, with_watch};
 ghost use Rattle.egress_schedule.specs.Patience as spec;
 ghost use Rattle.egress_schedule.specs.Patience.{IsUnnoted, NoneIsNoted, after_alignment_at, after_giving_up};
 ghost use Rattle.egress_schedule.specs.Patience.{after_look_at, after_patience_at, earliest_end};
 ghost use Rattle.egress_schedule.specs.Patience.{earliest_with, must_go, plan_after_look, unreachable_after};
 ghost use Rattle.egress_schedule.specs.Patience.{watch_after_giving_up, without_first};
+ghost use Rattle.egress_schedule.specs.Queues.{has_others, is_crowded};
 ghost use Rattle.socket_set.specs.SocketSet.{socket_at};
 
 use crate::queues::{has_others, is_crowded};
@@ -180,6 +181,7 @@ impl Schedule {
 
     /// Whether the first packet of the socket at an index has to make room for those that wait behind it: the request for
     /// its neighbour wasn't answered for a second; or the queue has no room for more, and the socket just gave one up.
+    #[inline(always)]
     pub(crate) fn must_go<L: Drop>(
         &self,
         index: usize,
@@ -195,11 +197,7 @@ impl Schedule {
         if !is_unanswered && !is_recent {
             return false;
         }
-        match by_index::socket(sockets, index) {
-            None => false,
-            Some(socket) => has_others(socket)
-                && (is_unanswered || is_crowded(socket) && is_recent),
-        }
+        must_go_now(index, is_unanswered, is_recent, sockets)
     }
 
     /// Gives up the first packet of the socket at an index.
@@ -237,6 +235,24 @@ impl Schedule {
             watch.given_up = Some(neighbor);
             watch.dropped = Some(now);
         }
+    }
+}
+
+/// Whether the first packet of the socket at an index has to make room, where the request for its neighbour wasn't
+/// answered for a second, or the socket just gave one up.
+#[inline(never)]
+fn must_go_now<L: Drop>(
+    index: usize,
+    is_unanswered: bool,
+    is_recent: bool,
+    sockets: &SocketSetOf<L>,
+) -> bool
+    ensures { let socket = socket_at sockets.now index in
+        result ≡ has_others socket && (is_unanswered || is_crowded socket && is_recent) }
+{
+    match by_index::socket(sockets, index) {
+        None => false,
+        Some(socket) => has_others(socket) && (is_unanswered || is_crowded(socket) && is_recent),
     }
 }
 

@@ -3,10 +3,10 @@ ghost use Rattle.std.specs.Prelude.{◌≡◌, ◌<◌, ℕ, true, false, not, i
 ghost use Rattle.egress_schedule.specs.Patience.{after_look, is_given_up, must_go};
 ghost use Rattle.egress_schedule.specs.Plan.{planned};
 ghost use Rattle.egress_schedule.specs.Rounds.{with_waits_ended};
-ghost use Rattle.egress_schedule.specs.Settled.{ends_at, is_settled, is_some_over, is_written, waits_at};
+ghost use Rattle.egress_schedule.specs.Settled.{ends_at, is_settled, is_quiet, is_some_over, waits_at};
 
 use crate::schedule::Schedule;
-use crate::watch::{Waiting, is_given_up};
+use crate::watch::{Waiting, Watch, is_given_up, is_second_over};
 use ip_wire::IpAddress;
 use net_base::time::Instant;
 use socket_set::{SocketSetOf, by_index};
@@ -91,23 +91,34 @@ impl Schedule {
     ) -> bool
         ensures { result ≡ is_settled now end (planned self.now sockets.now) index }
     {
-        let wait = by_index::wait(sockets, index);
-        match self.watches.get(index) {
-            None => wait.is_none(),
-            Some(watch) => match wait {
-                None => watch.waiting.is_none() && watch.unreachable.is_none(),
-                Some((neighbor, until)) => match &watch.waiting {
-                    None => false,
-                    Some(waiting) => {
-                        waiting.is_written(end, neighbor, until)
-                            && self.keeps_packet(index, now, watch.unreachable, waiting, sockets)
-                    }
-                },
-            },
+        let Some(watch) = self.watches.get(index) else {
+            return !by_index::is_waiting(sockets, index);
+        };
+        match &watch.waiting {
+            None => watch.unreachable.is_none() && !by_index::is_waiting(sockets, index),
+            Some(waiting) => {
+                waiting.until == end
+                    && by_index::is_wait_at(sockets, index, &waiting.neighbor, end)
+                    && (self.is_quiet(now, watch, waiting)
+                        || self.keeps_packet(index, now, watch.unreachable, waiting, sockets))
+            }
         }
     }
 
+    /// Whether a socket keeps its first packet, which waits, whatever is queued behind it: it gave none up, and the request
+    /// for its neighbour, and its wait, haven't lasted long enough.
+    #[inline(always)]
+    fn is_quiet(&self, now: Instant, watch: &Watch, waiting: &Waiting) -> bool
+        ensures { result ≡ is_quiet self.now.patience now watch.now waiting.now }
+    {
+        watch.unreachable.is_none()
+            && watch.dropped.is_none()
+            && !is_second_over(now, waiting.asked)
+            && !waiting.is_at_end(self.patience, now, false)
+    }
+
     /// Whether the socket at an index keeps its first packet, which waits.
+    #[inline(never)]
     fn keeps_packet<L: Drop>(
         &self,
         index: usize,
@@ -121,15 +132,6 @@ impl Schedule {
     {
         let must_go = self.must_go(index, now, waiting, sockets);
         !is_given_up(self.patience, now, must_go, unreachable, waiting)
-    }
-}
-
-impl Waiting {
-    /// Whether a wait for a neighbour until an instant is written down as it is, and ends at this one.
-    fn is_written(&self, end: Instant, neighbor: IpAddress, until: Instant) -> bool
-        ensures { result ≡ is_written end (neighbor, until) self.now }
-    {
-        self.neighbor == neighbor && (self.until == end && until == end)
     }
 }
 

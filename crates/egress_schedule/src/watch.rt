@@ -1,5 +1,6 @@
 //! What is written down of a socket from one round to the next.
-ghost use Rattle.std.specs.Prelude.{◌≡◌, false};
+ghost use Rattle.std.specs.Prelude.{◌≡◌, ◌≤ℤ◌, ◌+ℤ◌, pos, false};
+ghost use Rattle.std.specs.Ordering.{int_cmp, is_le};
 ghost use Rattle.egress_schedule.specs.Patience as spec;
 ghost use Rattle.egress_schedule.specs.Plan.{idle};
 ghost use Rattle.egress_schedule.specs.Turns as turns;
@@ -53,13 +54,25 @@ impl Watch {
     }
 }
 
+/// Whether so many microseconds after an instant have come.
+#[inline(always)]
+fn is_past(now: Instant, at: Instant, micros: i64) -> bool
+    requires { pos 0 ≤ℤ micros }
+    ensures { result ≡ is_le (int_cmp (at +ℤ micros) now) }
+{
+    match now.total_micros().checked_sub(micros) {
+        None => false,
+        Some(last) => at.total_micros() <= last,
+    }
+}
+
 /// Whether a second after an instant, if there is one, has come.
 pub(crate) fn is_second_over(now: Instant, at: Option<Instant>) -> bool
     ensures { result ≡ spec.is_second_over now at }
 {
     match at {
         None => false,
-        Some(at) => i128::from(at.total_micros()) + 1_000_000 <= i128::from(now.total_micros()),
+        Some(at) => is_past(now, at, 1_000_000),
     }
 }
 
@@ -69,7 +82,7 @@ pub(crate) fn is_recent(now: Instant, at: Option<Instant>) -> bool
 {
     match at {
         None => false,
-        Some(at) => i128::from(at.total_micros()) + 10_000_000 > i128::from(now.total_micros()),
+        Some(at) => !is_past(now, at, 10_000_000),
     }
 }
 
@@ -188,8 +201,9 @@ impl Waiting {
     pub(crate) fn is_at_end(&self, patience: Duration, now: Instant, must_go: bool) -> bool
         ensures { result ≡ spec.is_at_end patience now must_go self.now }
     {
-        let end = i128::from(self.since.total_micros()) + i128::from(patience.total_micros());
-        patience.total_micros() != 0 && (end <= i128::from(now.total_micros()) || must_go)
+        let (since, now) = (self.since.total_micros(), now.total_micros());
+        let patience = patience.total_micros();
+        patience != 0 && (must_go || since <= now && patience <= now.abs_diff(since))
     }
 
     /// Whether a socket asks again: its wait is over, and has not lasted long enough.

@@ -1,8 +1,9 @@
 -- The wait of a socket: the neighbour that one of its packets needs, and the moment until which it
 -- is not asked for again.
-use Rattle.std.specs.Prelude.{◌≡◌, ℤ, Bool, true, ◌||◌, if◌then◌else◌, Option, Some, None, refl}
-use Rattle.std.specs.Ordering.{int_cmp, is_ge}
+use Rattle.std.specs.Prelude.{◌≡◌, ℤ, Bool, false, true, ◌&&◌, ◌||◌, if◌then◌else◌, Option, Some, None, refl}
+use Rattle.std.specs.Ordering.{int_cmp, int_eq, is_ge}
 use Rattle.ip_address.specs.declared.ip.IpAddress.{IpAddress}
+use Rattle.socket_base.specs.Source.{is_same}
 use Rattle.socket_base.specs.declared.poll_at.PollAt.{PollAt}
 use Rattle.socket_base.specs.declared.poll_at.PollAt.TheVariants.{Time}
 use Rattle.socket_set.specs.declared.socket_meta.NeighborState.{NeighborState}
@@ -11,6 +12,11 @@ use Rattle.socket_set.specs.declared.socket_meta.NeighborState.TheVariants.{Acti
 -- the neighbour that a socket waits for, and until when; none where it does not wait
 abbrev pub Wait : Type 0
 Wait = Option (IpAddress × ℤ)
+
+-- it waits for the next hop to this destination, until this instant
+abbrev pub is_wait : IpAddress → ℤ → Wait → Bool
+is_wait destination until None = false
+is_wait destination until (Some wait) = int_eq wait.1 until && is_same destination wait.0
 
 -- known is what is told of the neighbour that is waited for
 abbrev pub IsAnswerFor : (IpAddress → Bool → Type 0) → Wait → Bool → Type 0

@@ -1,6 +1,6 @@
 //! The sockets of a set by their indices, for the layers that serve all of them in turn.
 ghost use Rattle.std.specs.Borrow.{sem, LendsIf};
-ghost use Rattle.std.specs.Prelude.{◌≡◌, ◌≢◌, ◌<◌, ◌≤◌, ℕ, Bool, true, false, Some, IsSome, IsNone, IfSome, length};
+ghost use Rattle.std.specs.Prelude.{◌≡◌, ◌≢◌, ◌<◌, ◌≤◌, ℕ, Bool, true, false, Some, IsSome, IsNone, IfSome, is_some, length};
 ghost use Rattle.std.specs.Option.{option_copied, option_copied_mut, option_and_then};
 ghost use Rattle.net_base.specs.Time.{IsMoment, silence_from};
 ghost use Rattle.sockets.specs.Kinds.{own_port, poll_at as own_poll_at};
@@ -9,7 +9,7 @@ ghost use Rattle.socket_base.specs.declared.poll_at.PollAt.TheVariants.{Ingress}
 ghost use Rattle.socket_set.specs.Busy.{IsIdle};
 ghost use Rattle.socket_set.specs.Datagrams.{after_datagram, is_udp};
 ghost use Rattle.socket_set.specs.Keys.{AllHavePorts};
-ghost use Rattle.socket_set.specs.SocketMeta.{poll_at as poll_at_of, IsAnswerFor, after_asking, is_permitted};
+ghost use Rattle.socket_set.specs.SocketMeta.{poll_at as poll_at_of, IsAnswerFor, after_asking, is_permitted, is_wait};
 ghost use Rattle.socket_set.specs.SocketSet.{socket_at, wait_at, wait_of, with_place, with_wait};
 ghost use Rattle.socket_set.specs.contracts.socket_set.SocketSetOf.{the_row as set_row};
 
@@ -107,6 +107,28 @@ pub fn set_wait<L: Drop>(
     ensures { sockets.new ≡ with_wait sockets.old index wait }
 {
     sockets.set_wait(index, wait);
+}
+
+/// Whether the socket at an index waits. `false` for a free index, and one out of range.
+#[inline(always)]
+pub fn is_waiting<L: Drop>(sockets: &SocketSetOf<L>, index: usize) -> bool
+    ensures { result ≡ is_some (wait_of sockets.now index) }
+{
+    sockets.is_waiting(index)
+}
+
+/// Whether the socket at an index waits for the next hop to a destination, until an instant. `false` where it doesn't
+/// wait, for a free index, and one out of range.
+#[inline(always)]
+pub fn is_wait_at<L: Drop>(
+    sockets: &SocketSetOf<L>,
+    index: usize,
+    destination: &IpAddress,
+    until: Instant,
+) -> bool
+    ensures { result ≡ is_wait destination.now until (wait_of sockets.now index) }
+{
+    sockets.is_wait_at(index, destination, until)
 }
 
 /// Whether the socket at an index may be asked for packets at a moment: it doesn't wait, or the next hop that it

@@ -98,6 +98,20 @@ impl Meta {
         }
     }
 
+    // Whether it waits for the next hop to this destination, until this instant.
+    #[inline(always)]
+    pub(crate) fn is_wait(&self, destination: &IpAddress, until: Instant) -> bool
+        ensures { result ≡ spec.is_wait destination.now until self.now }
+    {
+        match &self.neighbor_state {
+            NeighborState::Active => false,
+            NeighborState::Waiting {
+                neighbor,
+                silent_until,
+            } => *silent_until == until && destination == neighbor,
+        }
+    }
+
     /// Returns when the socket wants to be asked for a packet, where `socket_poll_at` is its own answer: that, unless
     /// it has to wait, and then the end of the wait. `has_neighbor` says whether the next hop to a destination is
     /// known.

@@ -8,7 +8,7 @@ ghost use Rattle.socket_base.specs.declared.poll_at.PollAt.TheVariants.{Ingress}
 ghost use Rattle.socket_set.specs.Busy.{IsIdle};
 ghost use Rattle.socket_set.specs.Datagrams.{after_datagram, is_udp};
 ghost use Rattle.socket_set.specs.Keys.{AllHavePorts, key_of};
-ghost use Rattle.socket_set.specs.SocketMeta.{poll_at as poll_at_of, IsAnswerFor, after_asking, is_permitted};
+ghost use Rattle.socket_set.specs.SocketMeta.{poll_at as poll_at_of, IsAnswerFor, after_asking, is_permitted, is_wait};
 ghost use Rattle.socket_set.specs.SocketSet.{set_after_add, first_free, given_back, handles, has_free, is_full};
 ghost use Rattle.socket_set.specs.SocketSet.{over, pairs, socket_at, wait_at, wait_of, with_place, with_wait};
 
@@ -75,6 +75,23 @@ impl<L> SocketStorageOf<L> {
             return None;
         }
         self.meta.wait()
+    }
+
+    // Whether its socket, if there is one, waits.
+    #[inline(always)]
+    fn is_waiting(&self) -> bool
+        ensures { result ≡ is_some (option_and_then (λ socket. self.now.wait) self.now.socket) }
+    {
+        self.inner.is_some() && self.meta.is_waiting()
+    }
+
+    // Whether its socket, if there is one, waits for the next hop to a destination, until an instant.
+    #[inline(always)]
+    fn is_wait(&self, destination: &IpAddress, until: Instant) -> bool
+        ensures { result
+            ≡ is_wait destination.now until (option_and_then (λ socket. self.now.wait) self.now.socket) }
+    {
+        self.inner.is_some() && self.meta.is_wait(destination, until)
     }
 
     // The socket, if there is one.
@@ -622,6 +639,28 @@ impl<L: Drop> SocketSetOf<L> {
             return;
         };
         storage.meta = Meta::of(wait);
+    }
+
+    /// Whether the socket at an index waits.
+    #[inline(always)]
+    pub(crate) fn is_waiting(&self, index: usize) -> bool
+        ensures { result ≡ is_some (wait_of self.now index) }
+    {
+        match self.sockets.get(index) {
+            Some(storage) => storage.is_waiting(),
+            None => false,
+        }
+    }
+
+    /// Whether the socket at an index waits for the next hop to a destination, until an instant.
+    #[inline(always)]
+    pub(crate) fn is_wait_at(&self, index: usize, destination: &IpAddress, until: Instant) -> bool
+        ensures { result ≡ is_wait destination.now until (wait_of self.now index) }
+    {
+        match self.sockets.get(index) {
+            Some(storage) => storage.is_wait(destination, until),
+            None => false,
+        }
     }
 
     /// Removes the socket of a handle, and returns it. `None` exactly for a free index or one out of range; then the
