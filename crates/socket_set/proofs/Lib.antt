@@ -1,3 +1,4 @@
 pub mod BusyLemmas
 pub mod KeyLemmas
 pub mod SocketSetLemmas
+pub mod WaitLemmas

@@ -6,6 +6,7 @@ ghost use Rattle.net_base.specs.Time.{IsMoment, silence_from};
 ghost use Rattle.sockets.specs.Kinds.{own_port, poll_at as own_poll_at};
 ghost use Rattle.sockets.specs.contracts.socket.SocketOf.{the_row as socket_row};
 ghost use Rattle.socket_base.specs.declared.poll_at.PollAt.TheVariants.{Ingress};
+ghost use Rattle.socket_set.specs.Alike.{waits_like};
 ghost use Rattle.socket_set.specs.Busy.{IsIdle};
 ghost use Rattle.socket_set.specs.Datagrams.{after_datagram, is_udp};
 ghost use Rattle.socket_set.specs.Keys.{AllHavePorts};
@@ -96,6 +97,20 @@ pub fn wait<L: Drop>(sockets: &SocketSetOf<L>, index: usize) -> Option<(IpAddres
     ensures { result ≡ wait_of sockets.now index }
 {
     sockets.wait_at(index)
+}
+
+/// Returns until when the socket at an index waits, if it waits for the destination that the one at another index waits
+/// for, and this isn't over at a moment.
+#[inline(always)]
+pub fn waits_like<L: Drop>(
+    sockets: &SocketSetOf<L>,
+    index: usize,
+    other: usize,
+    timestamp: Instant,
+) -> Option<Instant>
+    ensures { result ≡ waits_like sockets.now index other timestamp }
+{
+    sockets.waits_like(index, other, timestamp)
 }
 
 /// Lets the socket at an index wait for the next hop to a destination until an instant, or not wait.

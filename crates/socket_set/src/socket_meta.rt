@@ -1,6 +1,7 @@
 //! What an interface keeps for each socket: whether it waits for the next hop of its first packet.
 ghost use Rattle.std.specs.Prelude.{◌≡◌, Bool, Some, None, is_some};
 ghost use Rattle.net_base.specs.Time.{IsMoment, silence_from};
+ghost use Rattle.socket_set.specs.Alike.{alike_until};
 ghost use Rattle.socket_set.specs.SocketMeta as spec;
 ghost use Rattle.socket_set.specs.SocketMeta.{IsAnswerFor, after_asking, is_permitted};
 
@@ -67,6 +68,26 @@ impl Meta {
         match self.neighbor_state {
             NeighborState::Active => false,
             NeighborState::Waiting { .. } => true,
+        }
+    }
+
+    // Until when it waits, if it waits for the destination that another one waits for, and this isn't over.
+    #[inline(always)]
+    pub(crate) fn waits_like(&self, other: &Meta, timestamp: Instant) -> Option<Instant>
+        ensures { result ≡ alike_until self.now other.now timestamp }
+    {
+        match (&self.neighbor_state, &other.neighbor_state) {
+            (
+                NeighborState::Waiting {
+                    neighbor,
+                    silent_until,
+                },
+                NeighborState::Waiting {
+                    neighbor: others,
+                    ..
+                },
+            ) if timestamp < *silent_until && neighbor == others => Some(*silent_until),
+            _ => None,
         }
     }
 

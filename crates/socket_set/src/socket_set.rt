@@ -5,6 +5,7 @@ ghost use Rattle.std.specs.Option.{option_copied, option_copied_mut, option_and_
 ghost use Rattle.net_base.specs.Time.{IsMoment, silence_from};
 ghost use Rattle.sockets.specs.Kinds.{own_port, poll_at as own_poll_at};
 ghost use Rattle.socket_base.specs.declared.poll_at.PollAt.TheVariants.{Ingress};
+ghost use Rattle.socket_set.specs.Alike.{waits_like};
 ghost use Rattle.socket_set.specs.Busy.{IsIdle};
 ghost use Rattle.socket_set.specs.Datagrams.{after_datagram, is_udp};
 ghost use Rattle.socket_set.specs.Keys.{AllHavePorts, key_of};
@@ -455,6 +456,25 @@ impl<L: Drop> SocketSetOf<L> {
             Some(storage) => storage.wait(),
             None => None,
         }
+    }
+
+    /// Returns until when the socket at an index waits, if it waits for the destination that the one at another index
+    /// waits for, and this isn't over at a moment.
+    #[inline(always)]
+    pub(crate) fn waits_like(
+        &self,
+        index: usize,
+        other: usize,
+        timestamp: Instant,
+    ) -> Option<Instant>
+        ensures { result ≡ waits_like self.now index other timestamp }
+    {
+        let other = self.sockets.get(other)?;
+        let storage = self.sockets.get(index)?;
+        if other.inner.is_none() || storage.inner.is_none() {
+            return None;
+        }
+        storage.meta.waits_like(&other.meta, timestamp)
     }
 
     /// Returns the socket at an index for writing, if it is of a kind. At `None` the set stays as it was.
