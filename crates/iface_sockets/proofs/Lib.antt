@@ -1,4 +1,5 @@
 mod IdleSockets
+mod PassedSockets
 mod PayloadRules
 mod SocketTurns
 mod UdpDelivery

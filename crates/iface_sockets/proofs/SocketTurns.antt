@@ -31,7 +31,7 @@ use Rattle.host_machine.specs.Sockets.Turns.{Begins, Goes, Stops, Stopped, Whole
 use Rattle.iface_context.specs.declared.context.Context.{Context}
 use Rattle.iface_context.specs.Refines.{RefinesBuilding, RefinesTelling}
 use Rattle.iface_context.specs.Stands.{host_in, host_of}
-use Rattle.iface_sockets.specs.Turns.{HasTurn, OfferTurn, OfferHasTurn, NoPacket, NotGiven, Given, IsPermitted, NoSocket, OfSocket, outcome_of}
+use Rattle.iface_sockets.specs.Turns.{HasIdleTurn, HasTurn, OfferTurn, OfferHasTurn, NoPacket, NotGiven, Given, IsPermitted, NoSocket, OfSocket, outcome_of}
 
 -- of an offer of some kind
 module _ {A B : Type 0} (kind : B → Offered) (shown : A → B) {offers : Option B} (r : Option A) (is : option_map shown r ≡ offers) where
@@ -203,13 +203,13 @@ decided {P} c sockets new i permitted knows asked none = by (socket_at sockets i
       OfSocket s e.0 is (λ slots. told_as (wait_at sockets i) e.0 (knows slots) e.1) e.2 e.3
 
 -- a socket that may not be asked keeps its wait
-waits_on : (w : Wait) (known : Bool) (t : ℤ) → is_permitted w known t ≡ false → after_asking w known ≡ w
+pub waits_on : (w : Wait) (known : Bool) (t : ℤ) → is_permitted w known t ≡ false → after_asking w known ≡ w
 waits_on None known t is = absurd cc
 waits_on (Some wait) true t is = absurd cc
 waits_on (Some wait) false t is = refl
 
 -- the wait after it was decided stands at its place
-decided_wait : (ws : List Wait) (i : ℕ) (known : Bool) →
+pub decided_wait : (ws : List Wait) (i : ℕ) (known : Bool) →
     get_or (slice_set ws i (after_asking (get_or ws i None) known)) i None ≡ after_asking (get_or ws i None) known
 decided_wait [] i known = refl
 decided_wait (w ∷ ws) zero known = refl
@@ -238,6 +238,22 @@ there c sockets mid i permitted allowed (OfSocket s known some knows is same) fr
     let both : Some s ≡ None = sym some ∙ sym (ap (λ (x : SocketSet). socket_at x i) same) ∙ free in
     absurd cc
 
+-- the turn of a place whose socket doesn't wait and has nothing to send comes to nothing
+pub idle_turn : (c : Context) (slots : Slots) (sockets : SocketSet) (i : ℕ) →
+    i < length sockets.places → IsIdle sockets i → HasIdleTurn (host_in c slots sockets) i
+idle_turn c slots sockets i within rests = by (socket_at sockets i) refl rests where
+  by : (o : Option Socket) → socket_at sockets i ≡ o → IfSome o (λ s. (kinds.poll_at s ≡ Ingress) × (wait_at sockets i ≡ None)) →
+      HasIdleTurn (host_in c slots sockets) i
+  by None none rests = Free (free_slot (slice_get sockets.places i) none (inside sockets.places i within)) refl refl refl refl
+  by (Some s) some rests =
+      let no_wait = rests.1 in
+      let q = socket_quiet (source_for c.ip_addrs.items) s c.moment c.timely.low (rw rests.0 tt) in
+      let back : with_wait (with_place sockets i (Some s)) i None ≡ sockets =
+      ap (λ (ps : List Storage). with_wait (record sockets { places = ps }) i None) (places_back sockets.places i s some)
+      ∙ ap (λ (ws : List Wait). record sockets { waits = ws }) (waits_back sockets.waits i no_wait) in
+      Served s s true (host_in c slots sockets) (taken_place (slice_get sockets.places i) s some) (rw no_wait tt) (rw no_wait refl)
+      (Silent (ap (option_and_then packet_of) q.0) refl refl refl refl (sym q.1)) (rw no_wait (ap (host_in c slots) (sym back)))
+
 module _ {D : Type 0} {tells : D → List Event → D → Type 0} where
   -- a place that isn't asked has its turn for nothing
   pub not_asked : {d : D} (c : Context) (slots : Slots) (sockets new : SocketSet) (i : ℕ) (permitted : Bool) →
@@ -265,28 +281,8 @@ module _ {D : Type 0} {tells : D → List Event → D → Type 0} where
   pub idle_served : {d : D} (c : Context) (slots : Slots) (sockets : SocketSet) (i : ℕ) →
       tells d [] d → i < length sockets.places → IsIdle sockets i →
       RefinesTelling tells d d (Serves i Idle (host_in c slots sockets)) (host_in c slots sockets)
-  idle_served {d} c slots sockets i quiet within rests = by (socket_at sockets i) refl rests where
-    by : (o : Option Socket) → socket_at sockets i ≡ o → IfSome o (λ s. (kinds.poll_at s ≡ Ingress) × (wait_at sockets i ≡ None)) →
-        RefinesTelling tells d d (Serves i Idle (host_in c slots sockets)) (host_in c slots sockets)
-    by None none rests = record {
-      told = [];
-      notes = [];
-      tells_it = quiet;
-      follows = Free (free_slot (slice_get sockets.places i) none (inside sockets.places i within)) refl refl refl refl;
-    }
-    by (Some s) some rests =
-        let no_wait = rests.1 in
-        let q = socket_quiet (source_for c.ip_addrs.items) s c.moment c.timely.low (rw rests.0 tt) in
-        let back : with_wait (with_place sockets i (Some s)) i None ≡ sockets =
-        ap (λ (ps : List Storage). with_wait (record sockets { places = ps }) i None) (places_back sockets.places i s some)
-        ∙ ap (λ (ws : List Wait). record sockets { waits = ws }) (waits_back sockets.waits i no_wait) in
-        record {
-          told = [];
-          notes = [];
-          tells_it = quiet;
-          follows = Served s s true (host_in c slots sockets) (taken_place (slice_get sockets.places i) s some) (rw no_wait tt) (rw no_wait refl)
-              (Silent (ap (option_and_then packet_of) q.0) refl refl refl refl (sym q.1)) (rw no_wait (ap (host_in c slots) (sym back)));
-        }
+  idle_served c slots sockets i quiet within rests =
+      record { told = []; notes = []; tells_it = quiet; follows = idle_turn c slots sockets i within rests }
 
   -- the socket of a place had its turn, and waits or not from then on
   was_asked : {d e : D} (c c' : Context) (s s' : Socket) (t : Turn) (slots : Slots) (sockets mid new : SocketSet) (i : ℕ) (permitted : Bool) →
@@ -343,22 +339,21 @@ module _ {D : Type 0} {tells : D → List Event → D → Type 0} where
     follows = Goes t one.told one.notes new so.follows one.follows granted;
   }
 
-  -- over idle places a walk goes on for nothing
-  pub idle_passed : {d m : D} {old : Host} {changed : Bool} →
+  -- over places whose turns come to nothing a walk goes on for nothing
+  pub passed : {d m : D} {old new : Host} {changed : Bool} →
       ((a b c : D) (xs ys : List Event) → tells a xs b → tells b ys c → tells a (xs ++ ys) c) → tells m [] m →
-      (c : Context) (slots : Slots) (sockets : SocketSet) (from to : ℕ) →
-      from ≤ to → to ≤ length sockets.places → ((i : ℕ) → from ≤ i → i < to → IsIdle sockets i) →
-      RefinesTelling tells d m (Walks old from true changed) (host_in c slots sockets) →
-      RefinesTelling tells d m (Walks old to true changed) (host_in c slots sockets)
-  idle_passed {d} {m} {old} {changed} tells_on quiet c slots sockets from to behind within idle so = walk (to - from) from (omega arith) idle so where
+      (from to : ℕ) → from ≤ to → ((i : ℕ) → from ≤ i → i < to → HasIdleTurn new i) →
+      RefinesTelling tells d m (Walks old from true changed) new → RefinesTelling tells d m (Walks old to true changed) new
+  passed {d} {m} {old} {new} {changed} tells_on quiet from to behind idle so = walk (to - from) from (omega arith) idle so where
     at : ℕ → Type 0
-    at n = RefinesTelling tells d m (Walks old n true changed) (host_in c slots sockets)
+    at n = RefinesTelling tells d m (Walks old n true changed) new
 
-    walk : (k n : ℕ) → n + k ≡ to → ((i : ℕ) → n ≤ i → i < to → IsIdle sockets i) → at n → at to
+    walk : (k n : ℕ) → n + k ≡ to → ((i : ℕ) → n ≤ i → i < to → HasIdleTurn new i) → at n → at to
     walk zero n is idle so = subst at (omega (arith, is)) so
     walk (suc k) n is idle so =
-        let one = idle_served c slots sockets n quiet (omega (arith, is)) (idle n (omega arith) (omega (arith, is))) in
-        let next : at (n + 1) = subst (λ (b : Bool). RefinesTelling tells d m (Walks old (n + 1) true b) (host_in c slots sockets))
+        let one : RefinesTelling tells m m (Serves n Idle new) new =
+        record { told = []; notes = []; tells_it = quiet; follows = idle n (omega arith) (omega (arith, is)) } in
+        let next : at (n + 1) = subst (λ (b : Bool). RefinesTelling tells d m (Walks old (n + 1) true b) new)
         (or_false changed) (one_served tells_on Idle so one refl) in
         walk k (n + 1) (omega (arith, is)) (λ i after. idle i (omega (arith, after))) next
 

@@ -1,19 +1,19 @@
 -- The turns of sockets, over a context.
-use Rattle.std.specs.Prelude.{◌≡◌, ℕ, Bool, true, false, List, [], ◌∷◌, Option, Some, None}
+use Rattle.std.specs.Prelude.{◌≡◌, ℕ, Bool, true, false, List, [], ◌∷◌, Option, Some, None, IfSome}
 use Rattle.net_base.specs.Device.{Event, Asked}
 use Rattle.host_machine.specs.declared.results.Turn.{Turn}
 use Rattle.host_machine.specs.declared.results.Turn.TheVariants.{Idle, Done, Deferred, Exhausted}
 use Rattle.host_machine.specs.Context.Note.{Note}
 use Rattle.fragmentation.specs.Slots.{Slots}
 use Rattle.socket_set.specs.SocketMeta.{IsAnswerFor, is_permitted, after_asking}
-use Rattle.socket_set.specs.SocketSet.{socket_at, wait_at, with_wait}
+use Rattle.socket_set.specs.SocketSet.{socket_at, wait_at, wait_of, with_wait}
 use Rattle.host_machine.specs.Context.Host.{Host, Socket, SocketSet}
 use Rattle.host_machine.specs.Packet.Packet.{Packet}
 use Rattle.host_machine.specs.Packet.Frame.{sends}
 use Rattle.host_machine.specs.Send.Outcome.{Outcome}
 use Rattle.host_machine.specs.Send.Dispatch.{Dispatches}
 use Rattle.host_machine.specs.Send.Hops.{HasNeighbor}
-use Rattle.host_machine.specs.Sockets.Turns.{SocketTurn, turn_of}
+use Rattle.host_machine.specs.Sockets.Turns.{SocketTurn, Serves, turn_of}
 use Rattle.iface_context.specs.declared.context.Context.{Context}
 use Rattle.iface_context.specs.Stands.{host_in}
 
@@ -60,3 +60,11 @@ pub data IsPermitted (c : Context) (sockets : SocketSet) (i : ℕ) (permitted : 
       permitted ≡ is_permitted (wait_at sockets i) known c.moment →
       new ≡ with_wait sockets i (after_asking (wait_at sockets i) known) →
       IsPermitted c sockets i permitted new
+
+-- the turn of the socket at an index would come to nothing: nothing is sent, and all stays as it is
+abbrev pub HasIdleTurn : Host → ℕ → Type 0
+HasIdleTurn H i = Serves i Idle H [] [] H
+
+-- the socket at an index doesn't wait, or the next hop that it waits for isn't known
+abbrev pub WaitsInVain : Host → ℕ → Type 0
+WaitsInVain H i = IfSome (wait_of H.sockets i) (λ wait. HasNeighbor H wait.0 false)

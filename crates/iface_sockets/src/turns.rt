@@ -1,6 +1,6 @@
 //! The turns of sockets: each socket that isn't waiting is asked for a packet in order, until the device grants no
 //! transmit token.
-ghost use Rattle.std.specs.Prelude.{◌≡◌, ◌<◌, length, Some, IfSome};
+ghost use Rattle.std.specs.Prelude.{◌≡◌, ℕ, ◌<◌, ◌≤◌, ◌^◌, length, Some, IfSome};
 ghost use Rattle.network_sockets.specs.Icmp as icmp;
 ghost use Rattle.network_sockets.specs.Raw as raw;
 ghost use Rattle.transport_sockets.specs.Tcp as tcp;
@@ -9,11 +9,12 @@ ghost use Rattle.net_base.specs.Time.{IsMoment};
 ghost use Rattle.socket_set.specs.SocketSet.{socket_at, wait_at, with_place, with_wait};
 ghost use Rattle.fragmentation.specs.Slots.{Slots};
 ghost use Rattle.host_machine.specs.Context.Host.{Socket, SocketSet};
+ghost use Rattle.host_machine.specs.declared.results.Turn.TheVariants.{Idle};
 ghost use Rattle.host_machine.specs.Send.Hops.{HasNeighbor};
 ghost use Rattle.host_machine.specs.Sockets.Turns as spec;
 ghost use Rattle.iface_context.specs.Stands.{host_in};
 ghost use Rattle.iface_context.specs.Refines.{RefinesTelling};
-ghost use Rattle.iface_sockets.specs.Turns.{HasTurn, IsPermitted};
+ghost use Rattle.iface_sockets.specs.Turns.{HasIdleTurn, HasTurn, IsPermitted, WaitsInVain};
 
 use crate::icmp::give_icmp_turn;
 use crate::raw::give_raw_turn;
@@ -48,9 +49,50 @@ pub fn socket_egress<D: Device>(
             return changed;
         }
         changed |= turn.is_done();
-        index = by_index::next_busy(sockets, index + 1);
+        index = next_unlike(context, sockets, index, turn);
     }
     changed
+}
+
+/// The first index behind a socket that had its turn whose own socket may have something to do. If nothing came of that
+/// turn, the sockets that wait as the one does are passed: their next hop is as unknown, and their turns as idle.
+#[inline(always)]
+fn next_unlike(context: &Context, sockets: &SocketSet<'_>, served: usize, turn: Turn) -> usize
+    requires fits { length sockets.now.places < 2 ^ 64 }
+    requires within { served < length sockets.now.places }
+    requires unknown { turn ≡ Idle → (slots : Slots) → WaitsInVain (host_in context.now slots sockets.now) served }
+    ensures within { result ≤ length sockets.now.places }
+    ensures after { served < result }
+    ensures passed { (slots : Slots) (i : ℕ) → served < i → i < result →
+        HasIdleTurn (host_in context.now slots sockets.now) i }
+{
+    let next = served + 1;
+    match turn {
+        Turn::Idle if by_index::waits_like(sockets, next, served, context.now()).is_some() => {
+            next_behind_run(context, sockets, served)
+        }
+        _ => by_index::next_busy(sockets, next),
+    }
+}
+
+/// The same, where the next socket waits as that one does.
+#[inline(never)]
+fn next_behind_run(context: &Context, sockets: &SocketSet<'_>, served: usize) -> usize
+    requires fits { length sockets.now.places < 2 ^ 64 }
+    requires within { served < length sockets.now.places }
+    requires unknown { (slots : Slots) → WaitsInVain (host_in context.now slots sockets.now) served }
+    ensures within { result ≤ length sockets.now.places }
+    ensures after { served < result }
+    ensures passed { (slots : Slots) (i : ℕ) → served < i → i < result →
+        HasIdleTurn (host_in context.now slots sockets.now) i }
+{
+    let now = context.now();
+    for index in served + 1..by_index::places(sockets) {
+        if by_index::waits_like(sockets, index, served, now).is_none() {
+            return by_index::next_busy(sockets, index);
+        }
+    }
+    by_index::places(sockets)
 }
 
 /// Gives the socket at an index its turn. A socket whose packet could not be sent waits for its destination from then

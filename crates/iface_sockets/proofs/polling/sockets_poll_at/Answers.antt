@@ -1,4 +1,4 @@
-use Rattle.std.proofs.Common.{◌≡◌, ◌+◌, None, arith, length}
+use Rattle.std.proofs.Common.{◌≡◌, None, arith, length}
 use Rattle.host_machine.specs.Sockets.Polling.{instant_of}
 use Rattle.host_machine.proofs.Interface.EarliestInstant.{own_least, below_more, below_none, sockets_least}
 use Rattle.iface_context.specs.Stands.{host_in}
@@ -17,14 +17,14 @@ loop-index-init c =
 pub loop-index-preserved : goal.loop-index-preserved
 loop-index-preserved c =
     let idle = c.next_busy-index-in-loop-index.ensures in
-    let next = c.loop-index.index + 1 in (
+    let passed = c.pass_alike-next.ensures in (
       λ slots.
           let H = host_in c.args.context.now slots c.args.sockets.now in
-          below_passed H next c.next_busy-index-in-loop-index.result c.earlier_of-least.result (idle.after (omega arith)) idle.idle
-          (rw (c.earlier_of-least.ensures, c.instant_of.ensures)
+          below_passed H c.pass_alike-next.result.0 c.next_busy-index-in-loop-index.result c.pass_alike-next.result.1 (idle.after passed.within) idle.idle
+          (passed.least slots (rw (c.earlier_of-least.ensures, c.instant_of.ensures)
           (below_more H c.loop-index.index c.loop-index.least (instant_of c.poll_at-own.result) (c.loop-index.invariant.0 slots)
           (own_least H c.loop-index.index c.poll_at-own.result _ (λ a known is. is.1 slots c.args.sockets.now)
-          (rw c.now-now.ensures at c.poll_at-own.ensures.socket) c.poll_at-own.ensures.nobody))),
+          (rw c.now-now.ensures at c.poll_at-own.ensures.socket) c.poll_at-own.ensures.nobody)))),
       idle.within,
     )
 
