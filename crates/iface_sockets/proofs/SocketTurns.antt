@@ -1,7 +1,7 @@
 -- The turns of sockets, from their parts.
 use Rattle.std.proofs.Common.{◌≡◌, ℕ, ◌+◌, ◌-◌, ◌<◌, Bool, true, false, List, [], ◌∷◌, ◌++◌, length, ◌≤◌, refl, sym}
 use Rattle.std.proofs.Common.{ap, ◌∙◌, subst, zero, suc, ◌⊎◌, inl, inr, get_or, arith, Option, Some, None, Ok, Err}
-use Rattle.std.specs.Prelude.{not, IfSome, IsSome, IsNone, ℤ, ◌||◌, is_ok, slice_get, slice_set}
+use Rattle.std.specs.Prelude.{IfSome, IsSome, IsNone, ℤ, ◌||◌, is_ok, slice_get, slice_set}
 use Rattle.std.specs.Option.{option_map, option_and_then}
 use Rattle.std.proofs.lemmas.List.{set-get_or, set-set}
 use Rattle.std.proofs.lemmas.Option.{slice_get_cases}

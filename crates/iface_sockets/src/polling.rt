@@ -1,5 +1,5 @@
 //! When the sockets of an interface have to be polled again.
-ghost use Rattle.std.specs.Prelude.{◌≡◌, ◌+◌, ◌<◌, ◌≤◌, ◌^◌, length};
+ghost use Rattle.std.specs.Prelude.{◌≡◌, ◌+◌, ◌<◌, ◌≤◌, ◌^◌, length, None};
 ghost use Rattle.fragmentation.specs.Slots.{Slots};
 ghost use Rattle.host_machine.specs.Context.Host.{SocketSet};
 ghost use Rattle.host_machine.specs.Send.Hops.{HasNeighbor};
@@ -22,9 +22,24 @@ use sockets::{PollAt, SocketContext};
 pub fn sockets_poll_at(context: &Context, sockets: &SocketSet<'_>) -> Option<Instant>
     ensures { (slots : Slots) → IsLeast (SocketsDue (host_in context.now slots sockets.now)) result }
 {
+    let first = by_index::next_busy(sockets, 0);
+    if first >= by_index::places(sockets) {
+        return None;
+    }
+    least_from(context, sockets, first)
+}
+
+/// The same, where no socket before an index has an instant. A call, so that a set of idle sockets costs no more.
+#[inline(never)]
+fn least_from(context: &Context, sockets: &SocketSet<'_>, first: usize) -> Option<Instant>
+    requires fits { length sockets.now.places < 2 ^ 64 }
+    requires within { first ≤ length sockets.now.places }
+    requires idle { (slots : Slots) → IsLeast (DueBefore (host_in context.now slots sockets.now) first) None }
+    ensures { (slots : Slots) → IsLeast (SocketsDue (host_in context.now slots sockets.now)) result }
+{
     let now = context.now();
     let mut least = None;
-    let mut index = by_index::next_busy(sockets, 0);
+    let mut index = first;
     while index < by_index::places(sockets) {
         let own = by_index::poll_at(
             sockets,

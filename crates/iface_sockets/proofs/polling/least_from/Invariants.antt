@@ -3,7 +3,7 @@ use Rattle.fragmentation.specs.Slots.{Slots}
 use Rattle.host_machine.specs.Interface.Due.{IsLeast}
 use Rattle.host_machine.proofs.Interface.EarliestInstant.{DueBelow}
 use Rattle.iface_context.specs.Stands.{host_in}
-use Rattle.iface_sockets.proofs.polling.sockets_poll_at.Given as goal
+use Rattle.iface_sockets.proofs.polling.least_from.Given as goal
 
 abbrev pub invariant-loop-index : goal.invariant-loop-index
 invariant-loop-index l =
