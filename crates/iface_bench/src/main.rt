@@ -104,9 +104,19 @@ fn run(host: &mut Host, peer: &mut Host, work: &str, rounds: u64, octets: Vec<u8
     Ok(read)
 }
 
-fn main(rt: HostRuntime) -> Result<()> {
-    let alloc = rt.alloc();
-    let mut args = env::args(&rt)?;
+/// What the arguments ask for.
+#[derive(Drop)]
+struct Asked {
+    work: String,
+    rounds: u64,
+    sockets: u64,
+    version: IpVersion,
+    medium: Medium,
+}
+
+/// Reads the arguments.
+fn read_arguments(rt: &HostRuntime) -> Result<Asked> {
+    let mut args = env::args(rt)?;
     let work = args.nth(1).context("what is to be done?")?;
     let rounds = args.next().context("how many times?")?.parse::<u64>()?;
     let sockets = match args.next() {
@@ -121,20 +131,62 @@ fn main(rt: HostRuntime) -> Result<()> {
         "packet" => Medium::Ip,
         _ => Medium::Ethernet,
     };
-    let mut host = Host::new(alloc, sockets, medium, version)?;
+    Ok(Asked {
+        work,
+        rounds,
+        sockets,
+        version,
+        medium,
+    })
+}
+
+/// Reads a line of hex digits.
+fn octets_of_line(rt: &HostRuntime) -> Result<Vec<u8>> {
+    let mut digits = String::new(rt.alloc());
+    rt.read_line(&mut digits)?;
+    Ok(hex::decode(rt.alloc(), digits.as_str().trim())?)
+}
+
+/// What the host sent and read.
+#[derive(Drop)]
+struct Measured {
+    read: u64,
+    frames: u64,
+    octets: u64,
+    last: String,
+}
+
+/// Has a host do what is asked for, after a frame that it receives first.
+fn measure(alloc: Global, asked: &Asked, first: Vec<u8>, octets: Vec<u8>) -> Result<Measured> {
+    let mut host = Host::new(alloc, asked.sockets, asked.medium, asked.version)?;
     host.poll();
     let mut peer = Host::peer(alloc)?;
-    let mut digits = String::new(alloc);
-    rt.read_line(&mut digits)?;
-    host.link.load(hex::decode(alloc, digits.as_str().trim())?);
+    host.link.load(first);
     host.receive();
-    digits.clear();
-    rt.read_line(&mut digits)?;
-    let octets = hex::decode(alloc, digits.as_str().trim())?;
-    let read = run(&mut host, &mut peer, work.as_str(), rounds, octets)?;
-    let frames = host.link.frames_sent();
-    let octets = host.link.octets_sent();
-    println!(rt; "sent {frames} frames, {octets} octets; read {read} octets")?;
-    println!(rt; "{}", hex::encode(alloc, host.link.last())?)?;
+    let read = run(
+        &mut host,
+        &mut peer,
+        asked.work.as_str(),
+        asked.rounds,
+        octets,
+    )?;
+    Ok(Measured {
+        read,
+        frames: host.link.frames_sent(),
+        octets: host.link.octets_sent(),
+        last: hex::encode(alloc, host.link.last())?,
+    })
+}
+
+fn main(rt: HostRuntime) -> Result<()> {
+    let asked = read_arguments(&rt)?;
+    let first = octets_of_line(&rt)?;
+    let octets = octets_of_line(&rt)?;
+    let all = measure(rt.alloc(), &asked, first, octets)?;
+    println!(rt;
+        "sent {} frames, {} octets; read {} octets",
+        all.frames, all.octets, all.read
+    )?;
+    println!(rt; "{}", all.last.as_str())?;
     Ok(())
 }
