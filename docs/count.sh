@@ -19,7 +19,8 @@ frames=(receive:arp receive:echo-56 receive:echo-1400 deliver:deliver-64 deliver
     receive:solicit-6:1:6 receive:echo-6-56:1:6 receive:echo-6-1400:1:6 deliver:deliver-6-64:1:6
     deliver:deliver-6-1400:1:6 receive:unreachable-6-64:1:6)
 # What is done, with how many sockets.
-calls=(arp echo deliver back send poll_at next:1 next:16 next:64 next:256 next:1024 waiting:1 waiting:16 waiting:64)
+calls=(arp echo deliver back send poll_at poll_at:64 poll_at:1024 next:1 next:16 next:64 next:256 next:1024 waiting:1 waiting:16
+    waiting:64 until:1 until:16 until:64)
 
 # The instructions of a program with these arguments, whose input is a file.
 count() {
