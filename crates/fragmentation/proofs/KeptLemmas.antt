@@ -1,13 +1,13 @@
 -- Places with their keys, no two of which are taken for one.
-use Rattle.std.proofs.Common.{◌≡◌, ◌<◌, ◌≤◌, ◌+◌, ℕ, ℤ, zero, suc, Bool, true, false, List, [], ◌∷◌, Option, Some, None}
-use Rattle.std.proofs.Common.{length, get_or, slice_get, slice_set, add-one, refl, sym, ap, ◌∙◌, arith, inl, inr}
+use Rattle.std.proofs.Common.{◌≡◌, ◌<◌, ◌≤◌, ◌+◌, ℕ, ℤ, zero, suc, Bool, true, false, List, [], ◌∷◌, ◌++◌, Option, Some, None}
+use Rattle.std.proofs.Common.{map as each, length, get_or, slice_get, slice_set, add-one, refl, sym, ap, ◌∙◌, arith, inl, inr}
 use Rattle.std.specs.Prelude.{cond, is_none, not, ◌&&◌, ◌⊎◌, ◌==◌}
 use Rattle.std.proofs.lemmas.Bool.Decides.{nat_tests}
 use Rattle.std.proofs.Math.Path.{fun_ext}
 use Rattle.std.proofs.lemmas.List.{length-set}
 use Rattle.std.specs.List.{refill}
-use Rattle.fragmentation.specs.Assembly.{Assembly, index_of_key, free_slot, slot_for, has_key, IsFree}
-use Rattle.fragmentation.specs.Assembly.{taken, with_key, with_keys, keys_of, taken_at, AreApart, AreKept}
+use Rattle.fragmentation.specs.Assembly.{Assembly, index_of_key, free_slot, slot_for, has_key, IsFree, AreFree}
+use Rattle.fragmentation.specs.Assembly.{taken, with_key, with_keys, keys_of, taken_at, live_at, are_none, AreApart, AreKept, AreTwo, AreLent}
 use Rattle.fragmentation.specs.Lending.{FreedIfLent}
 use Rattle.fragmentation.proofs.PlacesLemmas.{choose_keyed, index_of_key-le, refilled}
 
@@ -56,7 +56,7 @@ module _ {K : Type 0} where
   lent_left s new last None key left = with_own s.key last (ap (λ (x : Assembly K). x.key) left ∙ key)
   lent_left s new last (Some b) key left = with_none s.key last (ap (λ (x : Assembly K). x.key) left)
 
-  pub free_with : (o : Option K) (s : Assembly K) → IsFree s → IsFree (with_key o s)
+  free_with : (o : Option K) (s : Assembly K) → IsFree s → IsFree (with_key o s)
   free_with o s e = rw (with_none o s (ap (λ (x : Assembly K). x.key) e)) e
 
   pub length-with_keys : (os : List (Option K)) (ss : List (Assembly K)) → length os ≡ length ss → length (with_keys os ss) ≡ length ss
@@ -86,6 +86,17 @@ module _ {K : Type 0} where
   get_taken zero k end (s ∷ ss) d h = refl
   get_taken (suc i) k end (s ∷ ss) d h = get_taken i k end ss d (omega arith)
 
+  pub set_taken : (i : ℕ) (k : K) (end : ℤ) (ss : List (Assembly K)) (d : Assembly K) →
+      i < length ss → slice_set ss i (taken k end (get_or ss i d)) ≡ taken_at i k end ss
+  set_taken i k end [] d h = absurd (omega arith)
+  set_taken zero k end (s ∷ ss) d h = refl
+  set_taken (suc i) k end (s ∷ ss) d h = ap (λ (xs : List (Assembly K)). s ∷ xs) (set_taken i k end ss d (omega arith))
+
+  pub keys_of_set : (i : ℕ) (ss : List (Assembly K)) (new : Assembly K) → keys_of (slice_set ss i new) ≡ slice_set (keys_of ss) i new.key
+  keys_of_set i [] new = refl
+  keys_of_set zero (s ∷ ss) new = refl
+  keys_of_set (suc i) (s ∷ ss) new = ap (λ (os : List (Option K)). s.key ∷ os) (keys_of_set i ss new)
+
   -- whatever is left in it
   lent_one : (i : ℕ) (k : K) (end : ℤ) (ss : List (Assembly K)) (o : Option K) (d w : Assembly K) →
       i < length ss → o ≡ (taken k end (get_or ss i d)).key
@@ -103,11 +114,65 @@ module _ {K : Type 0} where
       (λ w. slice_set ss i (with_key o w))
   lent_as i k end ss o d h e = fun_ext (λ w. lent_one i k end ss o d w h e)
 
-  -- no two of two places without a key have one
-  pub none_apart : AreApart {K = K} (None ∷ None ∷ [])
-  none_apart zero j k a b = absurd (no_key k (same_some None (Some k) a))
-  none_apart (suc zero) j k a b = absurd (no_key k (same_some None (Some k) a))
-  none_apart (suc (suc i)) j k a b = absurd (no_key (Some k) a)
+  -- where no place has a key, no two have one
+  abbrev pub AreNone : List (Option K) → Type 0
+  AreNone [] = Unit {0}
+  AreNone (o ∷ os) = (o ≡ None) × AreNone os
+
+  pub none_more : (os : List (Option K)) (o : Option K) → AreNone os → o ≡ None → AreNone (os ++ o ∷ [])
+  none_more [] o h e = (e, tt)
+  none_more (p ∷ os) o h e = (h.0, none_more os o h.1 e)
+
+  none_there : (os : List (Option K)) (i : ℕ) (k : K) → AreNone os → slice_get os i ≡ Some (Some k) → ⊥
+  none_there [] i k h e = no_key (Some k) e
+  none_there (o ∷ os) zero k h e = no_key k (sym h.0 ∙ same_some o (Some k) e)
+  none_there (o ∷ os) (suc i) k h e = none_there os i k h.1 e
+
+  pub none_apart : (os : List (Option K)) → AreNone os → AreApart os
+  none_apart os h i j k a b = absurd (none_there os i k h a)
+
+  pub none_set : (os : List (Option K)) → AreNone os → are_none os ≡ true
+  none_set [] h = refl
+  none_set (o ∷ os) h = rw h.0 (none_set os h.1)
+
+  -- places without keys are free, so that no moment changes them
+  free_live : (t : ℤ) (s : Assembly K) → live_at t (with_key None s) ≡ with_key None s
+  free_live t s = elim s.key as (λ q. live_at t (record s { key = cond (is_none q) None None }) ≡ record s { key = cond (is_none q) None None }) [
+    | None ↦ refl
+    | Some j ↦ refl
+  ]
+
+  pub idle_live : (t : ℤ) (os : List (Option K)) (ss : List (Assembly K)) →
+      are_none os ≡ true → with_keys os ss ≡ each (live_at t) (with_keys os ss)
+  idle_live t [] ss h = refl
+  idle_live t (o ∷ os) [] h = refl
+  idle_live t (None ∷ os) (s ∷ ss) h = ap (λ (xs : List (Assembly K)). with_key None s ∷ xs) (idle_live t os ss h)
+      ∙ sym (ap (λ (x : Assembly K). x ∷ each (live_at t) (with_keys os ss)) (free_live t s))
+  idle_live t (Some k ∷ os) (s ∷ ss) h = cc
+
+  -- without the keys of free places they are the same
+  with_again : (o : Option K) (s : Assembly K) → with_key (with_key o s).key s ≡ with_key o s
+  with_again o s =
+      elim s.key as (λ q. record s { key = cond (is_none q) None (cond (is_none q) None o) } ≡ record s { key = cond (is_none q) None o }) [
+        | None ↦ refl
+        | Some j ↦ refl
+      ]
+
+  pub with_keys_again : (os : List (Option K)) (ss : List (Assembly K)) → with_keys (keys_of (with_keys os ss)) ss ≡ with_keys os ss
+  with_keys_again [] ss = refl
+  with_keys_again (o ∷ os) [] = refl
+  with_keys_again (o ∷ os) (s ∷ ss) = ap (λ (x : Assembly K). x ∷ with_keys (keys_of (with_keys os ss)) ss) (with_again o s)
+      ∙ ap (λ (xs : List (Assembly K)). with_key o s ∷ xs) (with_keys_again os ss)
+
+  -- free places stay free, whatever their keys
+  pub free_more : (ss : List (Assembly K)) (s : Assembly K) → AreFree ss → IsFree s → AreFree (ss ++ s ∷ [])
+  free_more [] s h e = (e, tt)
+  free_more (t ∷ ss) s h e = (h.0, free_more ss s h.1 e)
+
+  pub free_with_keys : (os : List (Option K)) (ss : List (Assembly K)) → AreFree ss → AreFree (with_keys os ss)
+  free_with_keys [] ss h = tt
+  free_with_keys (o ∷ os) [] h = tt
+  free_with_keys (o ∷ os) (s ∷ ss) h = (free_with o s h.0, free_with_keys os ss h.1)
 
   -- a place is taken for its key alone
   with_only : (o : Option K) (s : Assembly K) (k : K) → (with_key o s).key ≡ Some k → o ≡ Some k
@@ -198,6 +263,31 @@ module _ {K : Type 0} where
           ]
         ]
 
+  -- places that were swept, once the keys of free ones are forgotten
+  module _ (t : ℤ) (os ks : List (Option K)) (ss ws : List (Assembly K)) (kept : AreKept os ss) (long : length ws ≡ length ss)
+      (left : with_keys os ws ≡ each (live_at t) (with_keys os ss)) (forgot : ks ≡ keys_of (with_keys os ws)) where
+    length-forgot : length (keys_of (with_keys os ws)) ≡ length ss
+    length-forgot = length-keys_of (with_keys os ws) ∙ length-with_keys os ws (kept.as_many ∙ sym long) ∙ long
+
+    keys_forgot : refill (length os) os ks ≡ keys_of (with_keys os ws)
+    keys_forgot = refilled os ks (ap length forgot ∙ length-forgot ∙ sym kept.as_many) ∙ forgot
+
+    pub shown_swept : with_keys (refill (length os) os ks) (refill (length ss) ss ws) ≡ each (live_at t) (with_keys os ss)
+    shown_swept =
+        ap (λ xs. with_keys xs (refill (length ss) ss ws)) keys_forgot
+        ∙ ap (with_keys (keys_of (with_keys os ws))) (refilled ss ws long)
+        ∙ with_keys_again os ws ∙ left
+
+    pub lent_swept : (is_idle : Bool) → is_idle ≡ are_none (refill (length os) os ks) →
+        AreLent is_idle (refill (length os) os ks) (refill (length ss) ss ws)
+    lent_swept is_idle e = record {
+      kept = record {
+        as_many = ap length keys_forgot ∙ length-forgot ∙ sym (ap length (refilled ss ws long) ∙ long);
+        apart = rw keys_forgot (apart_with os ws kept.apart);
+      };
+      idle = λ h. sym e ∙ h;
+    }
+
   -- the first of two slots has a key, and the second one is free
   free_key_is : (o : Option K) → is_none o ≡ true → o ≡ None
   free_key_is None h = refl
@@ -277,34 +367,42 @@ module _ {K : Type 0} where
 
   module _ (eq : K → K → Bool) (reflexive : (k : K) → eq k k ≡ true) (k : K) (end : ℤ) (os : List (Option K)) (ss : List (Assembly K)) (p : ℕ)
       (ks : List (Option K)) (ps : List (Assembly K)) (kept : AreKept os ss) (took : Took eq k end os ss p ks ps) where
-    pub length-shown : length (with_keys os ss) ≡ 2
-    length-shown = length-with_keys os ss (kept.keys ∙ sym kept.places) ∙ kept.places
+    pub length-shown : length (with_keys os ss) ≡ length ss
+    length-shown = length-with_keys os ss kept.as_many
 
-    length-places : length ps ≡ 2
+    length-places : length ps ≡ length ss
     length-places = ap length took.taken ∙ length-taken_at (slot_for eq k (with_keys os ss)) k end (with_keys os ss) ∙ length-shown
 
-    length-keys : length ks ≡ 2
+    length-keys : length ks ≡ length ss
     length-keys = ap length took.keys ∙ length-keys_of ps ∙ length-places
 
     keys_are : refill (length os) os ks ≡ keys_of (taken_at (slot_for eq k (with_keys os ss)) k end (with_keys os ss))
-    keys_are = refilled os ks (length-keys ∙ sym kept.keys) ∙ took.keys ∙ ap keys_of took.taken
+    keys_are = refilled os ks (length-keys ∙ sym kept.as_many) ∙ took.keys ∙ ap keys_of took.taken
 
     places_are : refill (length ss) ss ps ≡ taken_at (slot_for eq k (with_keys os ss)) k end (with_keys os ss)
-    places_are = refilled ss ps (length-places ∙ sym kept.places) ∙ took.taken
+    places_are = refilled ss ps length-places ∙ took.taken
+
+    pub length-lent : length (refill (length ss) ss ps) ≡ length (with_keys os ss)
+    length-lent = ap length (refilled ss ps length-places) ∙ length-places ∙ sym length-shown
 
     apart_then : AreApart (refill (length os) os ks)
     apart_then = rw keys_are (apart_taken eq reflexive k end (with_keys os ss) (apart_with os ss kept.apart))
 
     pub kept_then : AreKept (refill (length os) os ks) (refill (length ss) ss ps)
     kept_then = record {
-      keys = ap length keys_are ∙ length-keys_of (taken_at (slot_for eq k (with_keys os ss)) k end (with_keys os ss))
-          ∙ sym (ap length took.taken) ∙ length-places;
-      places = ap length places_are ∙ sym (ap length took.taken) ∙ length-places;
+      as_many = ap length keys_are ∙ length-keys_of (taken_at (slot_for eq k (with_keys os ss)) k end (with_keys os ss))
+          ∙ sym (ap length places_are);
       apart = apart_then;
     }
 
     pub kept_lent : (w : Assembly K) → AreKept (refill (length os) os ks) (slice_set (refill (length ss) ss ps) p w)
-    kept_lent w = record { keys = kept_then.keys; places = length-set (refill (length ss) ss ps) p w ∙ kept_then.places; apart = apart_then }
+    kept_lent w = record { as_many = kept_then.as_many ∙ sym (length-set (refill (length ss) ss ps) p w); apart = apart_then }
+
+    pub two_then : length ss ≡ 2 → AreTwo (refill (length os) os ks) (refill (length ss) ss ps)
+    two_then two = record { two = length-lent ∙ length-shown ∙ two; kept = kept_then }
+
+    pub two_lent : length ss ≡ 2 → (w : Assembly K) → AreTwo (refill (length os) os ks) (slice_set (refill (length ss) ss ps) p w)
+    two_lent two w = record { two = length-set (refill (length ss) ss ps) p w ∙ length-lent ∙ length-shown ∙ two; kept = kept_lent w }
 
     pub shown_place : (d : Assembly K) → p < length (with_keys os ss) →
         get_or (refill (length ss) ss ps) p d ≡ taken k end (get_or (with_keys os ss) (slot_for eq k (with_keys os ss)) d)

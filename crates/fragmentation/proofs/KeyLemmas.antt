@@ -9,7 +9,7 @@ use Rattle.std.specs.FinMap as map
 use Rattle.std.specs.FinMap.{IsAntisymmetric, nat_cmp-IsAntisymmetric, same_map, get-insert, get-remove, get-empty, get-retain_keys, len-insert}
 use Rattle.fragmentation.specs.declared.key.FragKey.{FragKey}
 use Rattle.fragmentation.specs.Keys.{key_cmp}
-use Rattle.fragmentation.specs.Slots.{Slot, Slots, has_ended, live_at}
+use Rattle.fragmentation.specs.Slots.{Slot, Held, has_ended, held_at}
 
 pub key_total : IsTotalOrder key_cmp
 key_total =
@@ -59,19 +59,19 @@ keys_apart a b apart = elim (eq_by_cmp key_cmp a b) as (λ t. eq_by_cmp key_cmp 
   | false ↦ λ h. refl
 ] refl
 
-pub get_put : (m : Slots) (k : FragKey) (v : Slot) → map.get (map.insert m k v) k ≡ Some v
+pub get_put : (m : Held) (k : FragKey) (v : Slot) → map.get (map.insert m k v) k ≡ Some v
 get_put m k v = get-insert key_total m k v k ∙ rw (key_tied k) refl
 
-pub get_put_apart : (m : Slots) (k q : FragKey) (v : Slot) → (q ≡ k → ⊥) → map.get (map.insert m k v) q ≡ map.get m q
+pub get_put_apart : (m : Held) (k q : FragKey) (v : Slot) → (q ≡ k → ⊥) → map.get (map.insert m k v) q ≡ map.get m q
 get_put_apart m k q v apart = get-insert key_total m k v q ∙ rw (keys_apart q k apart) refl
 
-pub get_out : (m : Slots) (k : FragKey) → map.get (map.remove m k) k ≡ None
+pub get_out : (m : Held) (k : FragKey) → map.get (map.remove m k) k ≡ None
 get_out m k = get-remove key_total m k k ∙ rw (key_tied k) refl
 
-pub get_out_apart : (m : Slots) (k q : FragKey) → (q ≡ k → ⊥) → map.get (map.remove m k) q ≡ map.get m q
+pub get_out_apart : (m : Held) (k q : FragKey) → (q ≡ k → ⊥) → map.get (map.remove m k) q ≡ map.get m q
 get_out_apart m k q apart = get-remove key_total m k q ∙ rw (keys_apart q k apart) refl
 
-same : (m n : Slots) → ((q : FragKey) → map.get m q ≡ map.get n q) → m ≡ n
+same : (m n : Held) → ((q : FragKey) → map.get m q ≡ map.get n q) → m ≡ n
 same = same_map key_total key_same
 
 shadowed : {A : Type 0} (b : Bool) (x y z : A) → cond b x (cond b y z) ≡ cond b x z
@@ -89,18 +89,18 @@ both_out true false x z = refl
 both_out false b x z = refl
 
 -- what is put in and taken out again
-pub put_out : (m : Slots) (k : FragKey) (v : Slot) → map.remove (map.insert m k v) k ≡ map.remove m k
+pub put_out : (m : Held) (k : FragKey) (v : Slot) → map.remove (map.insert m k v) k ≡ map.remove m k
 put_out m k v = same _ _ (λ q.
     get-remove key_total (map.insert m k v) k q ∙ ap (cond (eq_by_cmp key_cmp q k) None) (get-insert key_total m k v q)
     ∙ shadowed (eq_by_cmp key_cmp q k) None (Some v) (map.get m q) ∙ sym (get-remove key_total m k q))
 
-pub put_out_apart : (m : Slots) (j k : FragKey) (v : Slot) → (k ≡ j → ⊥) → map.remove (map.insert m k v) j ≡ map.insert (map.remove m j) k v
+pub put_out_apart : (m : Held) (j k : FragKey) (v : Slot) → (k ≡ j → ⊥) → map.remove (map.insert m k v) j ≡ map.insert (map.remove m j) k v
 put_out_apart m j k v apart = same _ _ (λ q.
     get-remove key_total (map.insert m k v) j q ∙ ap (cond (eq_by_cmp key_cmp q j) None) (get-insert key_total m k v q)
     ∙ swapped (eq_by_cmp key_cmp q j) (eq_by_cmp key_cmp q k) None (Some v) (map.get m q) (λ a b. apart (sym (keys_equal q k b) ∙ keys_equal q j a))
     ∙ ap (cond (eq_by_cmp key_cmp q k) (Some v)) (sym (get-remove key_total m j q)) ∙ sym (get-insert key_total (map.remove m j) k v q))
 
-pub out_out : (m : Slots) (j k : FragKey) → map.remove (map.remove m k) j ≡ map.remove (map.remove m j) k
+pub out_out : (m : Held) (j k : FragKey) → map.remove (map.remove m k) j ≡ map.remove (map.remove m j) k
 out_out m j k = same _ _ (λ q.
     get-remove key_total (map.remove m k) j q ∙ ap (cond (eq_by_cmp key_cmp q j) None) (get-remove key_total m k q)
     ∙ both_out (eq_by_cmp key_cmp q j) (eq_by_cmp key_cmp q k) None (map.get m q)
@@ -111,7 +111,7 @@ absent : (b : Bool) (o : Option Slot) → (b ≡ true → o ≡ None) → cond b
 absent true o h = sym (h refl)
 absent false o h = refl
 
-pub out_absent : (m : Slots) (k : FragKey) → map.get m k ≡ None → map.remove m k ≡ m
+pub out_absent : (m : Held) (k : FragKey) → map.get m k ≡ None → map.remove m k ≡ m
 out_absent m k e =
     same _ _ (λ q. get-remove key_total m k q ∙ absent (eq_by_cmp key_cmp q k) (map.get m q) (λ h. ap (map.get m) (keys_equal q k h) ∙ e))
 
@@ -120,16 +120,16 @@ present : (b : Bool) (o : Option Slot) (v : Slot) → (b ≡ true → o ≡ Some
 present true o v h = sym (h refl)
 present false o v h = refl
 
-pub out_put : (m : Slots) (k : FragKey) (v : Slot) → map.get m k ≡ Some v → map.insert (map.remove m k) k v ≡ m
+pub out_put : (m : Held) (k : FragKey) (v : Slot) → map.get m k ≡ Some v → map.insert (map.remove m k) k v ≡ m
 out_put m k v e = same _ _ (λ q.
     get-insert key_total (map.remove m k) k v q ∙ ap (cond (eq_by_cmp key_cmp q k) (Some v)) (get-remove key_total m k q)
     ∙ present (eq_by_cmp key_cmp q k) (map.get m q) v (λ h. ap (map.get m) (keys_equal q k h) ∙ e))
 
-pub len_out : (m : Slots) (k : FragKey) (v : Slot) → map.get m k ≡ Some v → map.len m ≡ map.len (map.remove m k) + 1
+pub len_out : (m : Held) (k : FragKey) (v : Slot) → map.get m k ≡ Some v → map.len m ≡ map.len (map.remove m k) + 1
 len_out m k v e = sym (ap map.len (out_put m k v e)) ∙ len-insert key_total (map.remove m k) k v ∙ rw (get_out m k) refl
 
 -- what is left at t
-pub get_left : (t : ℤ) (m : Slots) (q : FragKey) → map.get (live_at t m) q ≡ cond (not (has_ended t (map.get m q))) (map.get m q) None
+pub get_left : (t : ℤ) (m : Held) (q : FragKey) → map.get (held_at t m) q ≡ cond (not (has_ended t (map.get m q))) (map.get m q) None
 get_left t m q = get-retain_keys m (λ k. not (has_ended t (map.get m k))) q (λ x e. ap (λ k. not (has_ended t (map.get m k))) (sym (key_same q x e)))
 
 left_out : (t : ℤ) (b : Bool) (o : Option Slot) →
@@ -137,20 +137,20 @@ left_out : (t : ℤ) (b : Bool) (o : Option Slot) →
 left_out t true o = refl
 left_out t false o = refl
 
-pub left_remove : (t : ℤ) (m : Slots) (k : FragKey) → map.remove (live_at t m) k ≡ live_at t (map.remove m k)
+pub left_remove : (t : ℤ) (m : Held) (k : FragKey) → map.remove (held_at t m) k ≡ held_at t (map.remove m k)
 left_remove t m k = same _ _ (λ q.
-    get-remove key_total (live_at t m) k q ∙ ap (cond (eq_by_cmp key_cmp q k) None) (get_left t m q)
+    get-remove key_total (held_at t m) k q ∙ ap (cond (eq_by_cmp key_cmp q k) None) (get_left t m q)
     ∙ left_out t (eq_by_cmp key_cmp q k) (map.get m q)
     ∙ sym (ap (λ (o : Option Slot). cond (not (has_ended t o)) o None) (get-remove key_total m k q)) ∙ sym (get_left t (map.remove m k) q))
 
 -- a slot that has ended is not left
-pub left_ended : (t : ℤ) (m : Slots) (k : FragKey) → has_ended t (map.get m k) ≡ true → live_at t (map.remove m k) ≡ live_at t m
-left_ended t m k e = sym (left_remove t m k) ∙ out_absent (live_at t m) k (get_left t m k ∙ rw e refl)
+pub left_ended : (t : ℤ) (m : Held) (k : FragKey) → has_ended t (map.get m k) ≡ true → held_at t (map.remove m k) ≡ held_at t m
+left_ended t m k e = sym (left_remove t m k) ∙ out_absent (held_at t m) k (get_left t m k ∙ rw e refl)
 
-pub left_kept : (t : ℤ) (m : Slots) (k : FragKey) → has_ended t (map.get m k) ≡ false → map.get (live_at t m) k ≡ map.get m k
+pub left_kept : (t : ℤ) (m : Held) (k : FragKey) → has_ended t (map.get m k) ≡ false → map.get (held_at t m) k ≡ map.get m k
 left_kept t m k e = get_left t m k ∙ rw e refl
 
-pub left_none : (t : ℤ) → live_at t map.empty ≡ map.empty
+pub left_none : (t : ℤ) → held_at t map.empty ≡ map.empty
 left_none t = same _ _ (λ q. get_left t map.empty q ∙ rw (get-empty {X = Slot} key_cmp q) refl)
 
 ties : (r s : Ordering) → is_eq (ordering_then r s) ≡ is_eq r && is_eq s

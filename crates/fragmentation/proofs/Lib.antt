@@ -1,6 +1,7 @@
 pub mod FragmentsLemmas
 pub mod KeptLemmas
 pub mod KeyLemmas
+pub mod LoopLemmas
 pub mod Pieces
 pub mod PlacesLemmas
 pub mod ReassemblyLemmas

@@ -1,10 +1,14 @@
 -- Places of a set.
-use Rattle.std.proofs.Common.{◌≡◌, ◌<◌, ◌≤◌, ◌+◌, ℕ, zero, suc, Bool, true, false, List, [], ◌∷◌, ◌++◌}
-use Rattle.std.proofs.Common.{map, take, drop, length, get_or, slice_set, add-one, ap, ◌∙◌, arith}
+use Rattle.std.proofs.Common.{◌≡◌, ◌<◌, ◌≤◌, ◌+◌, ℕ, suc, Bool, true, false, List, [], ◌∷◌, ◌++◌}
+use Rattle.std.proofs.Common.{take, length, slice_set, refl, ap, ◌∙◌, arith}
 use Rattle.std.proofs.lemmas.Bool.Decides.{nat_tests}
 use Rattle.std.proofs.lemmas.List.{take_all, drop_all, append-nil}
 use Rattle.std.specs.List.{refill}
 use Rattle.std.specs.Prelude.{cond, is_none, ◌==◌}
+use Rattle.fragmentation.specs.Slots.{slot_room_over}
+use Rattle.fragmentation.specs.Place.{slots_at, with_slot_at}
+use Rattle.fragmentation.specs.declared.place.Place.{Place}
+use Rattle.fragmentation.specs.declared.place.Place.TheVariants.{Own, Lent}
 use Rattle.fragmentation.specs.Assembly.{Assembly, index_of_key, free_slot, slot_for, has_key}
 
 pub choose_keyed : (k n f : ℕ) → k < n → cond (k == n) f k ≡ k
@@ -42,14 +46,11 @@ pub refilled : {A : Type 0} (xs ws : List A) → length ws ≡ length xs → ref
 refilled xs ws e = ap (take (length xs)) (ap (λ ys. ws ++ ys) (drop_all (length ws) xs (omega arith)) ∙ append-nil ws)
     ∙ take_all (length xs) ws (omega arith)
 
--- a loop that maps each item in its place
-module _ {A : Type 0} (f : A → A) where
-  step : (xs : List A) (i : ℕ) (y d : A) → i < length xs → y ≡ f (get_or (map f (take i xs) ++ drop i xs) i d) →
-      slice_set (map f (take i xs) ++ drop i xs) i y ≡ map f (take (suc i) xs) ++ drop (suc i) xs
-  step [] i y d h e = absurd (omega arith)
-  step (x ∷ xs) zero y d h e = ap (λ (z : A). z ∷ xs) e
-  step (x ∷ xs) (suc i) y d h e = ap (λ (zs : List A). f x ∷ zs) (step xs i y d (omega arith) e)
+-- a write of a slot, wherever the slots are
+pub slots_at-with_slot_at : {K : Type 0} (p : Place K) (i : ℕ) (w : Assembly K) → slots_at (with_slot_at p i w) ≡ slice_set (slots_at p) i w
+slots_at-with_slot_at (Own slots) i w = refl
+slots_at-with_slot_at (Lent slots) i w = refl
 
-  pub mapped_more : (xs ys : List A) (i : ℕ) (x y : A) → i < length xs → ys ≡ map f (take i xs) ++ drop i xs → x ≡ get_or ys i x → y ≡ f x →
-      slice_set ys i y ≡ map f (take (i + 1) xs) ++ drop (i + 1) xs
-  mapped_more xs ys i x y h e at k = rw (e, add-one) (step xs i y x h (k ∙ ap f (at ∙ ap (λ (zs : List A). get_or zs i x) e)))
+-- storage that has capacity has as many slots
+pub slot_room_over-some : (n : ℕ) → (n ≡ 0 → ⊥) → n ≡ slot_room_over n
+slot_room_over-some n h = grind (arith, nat_tests)

@@ -12,12 +12,11 @@ use Rattle.net_base.specs.Ranges.{AreSeparate, covered}
 use Rattle.fragmentation.specs.declared.key.FragKey.{FragKey}
 use Rattle.fragmentation.specs.Keys.{key_cmp}
 use Rattle.fragmentation.specs.Fragments.{Fragment, Got, is_covered, octet_at, has_place}
-use Rattle.fragmentation.specs.Slots.{Slot, Slots}
+use Rattle.fragmentation.specs.Slots.{Slot, Held, Slots}
 use Rattle.fragmentation.specs.Assembly.{Assembly, IsSound, AllSound, AreApart, with_keys, keys_of}
-use Rattle.fragmentation.specs.Stands.{Gathers, StandsFor, StandForSlots}
+use Rattle.fragmentation.specs.Stands.{Gathers, StandsFor, StandForHeld, StandForSlots}
 use Rattle.fragmentation.proofs.KeyLemmas.{get_put, get_out_apart, put_out, out_absent}
 use Rattle.fragmentation.proofs.SlotsLemmas.{cases, key_is}
-use Rattle.fragmentation.proofs.KeptLemmas.{apart_with}
 
 -- the octets of a range as a fragment
 abbrev range_fragment : List ℕ → Range → Fragment
@@ -94,7 +93,7 @@ module _ {K : Type 0} where
   stands_it : (s : Assembly K) → IsSound s → StandsFor s (slot_of s)
   stands_it s h = record { ends = refl; got = gathers_it s h }
 
-  all_with : (os : List (Option K)) (ss : List (Assembly K)) → AllSound ss → AllSound (with_keys os ss)
+  pub all_with : (os : List (Option K)) (ss : List (Assembly K)) → AllSound ss → AllSound (with_keys os ss)
   all_with [] ss h = tt
   all_with (o ∷ os) [] h = tt
   all_with (o ∷ os) (s ∷ ss) h = (record { ranges = h.0.ranges; octets = h.0.octets }, all_with os ss h.1)
@@ -106,31 +105,31 @@ zero_suc : (n : ℕ) → 0 ≡ suc n → ⊥
 zero_suc n e = omega arith
 
 -- a key that no place has has no slot
-no_slot : (ss : List (Assembly FragKey)) (m : Slots) (k : FragKey) →
-    StandForSlots ss m → ((i : ℕ) → slice_get (keys_of ss) i ≡ Some (Some k) → ⊥) → map.get m k ≡ None
-no_slot [] m k h none = ap (λ (n : Slots). map.get n k) h ∙ get-empty key_cmp k
+no_slot : (ss : List (Assembly FragKey)) (m : Held) (k : FragKey) →
+    StandForHeld ss m → ((i : ℕ) → slice_get (keys_of ss) i ≡ Some (Some k) → ⊥) → map.get m k ≡ None
+no_slot [] m k h none = ap (λ (n : Held). map.get n k) h ∙ get-empty key_cmp k
 no_slot (s ∷ ss) m k h none =
-    cases (λ k. k) s (StandForSlots ss) m (λ o. ((i : ℕ) → slice_get (o ∷ keys_of ss) i ≡ Some (Some k) → ⊥) → map.get m k ≡ None) h
+    cases (λ k. k) s (StandForHeld ss) m (λ o. ((i : ℕ) → slice_get (o ∷ keys_of ss) i ≡ Some (Some k) → ⊥) → map.get m k ≡ None) h
     (λ _ others none. no_slot ss m k others (λ i e. none (suc i) e))
     (λ j _ at others none. sym (get_out_apart m j k (λ same. none 0 (ap (λ (q : FragKey). Some (Some q)) (sym same))))
     ∙ no_slot ss (map.remove m j) k others (λ i e. none (suc i) e))
     none
 
 -- a taken place stands for a slot of its key, and the others for the rest
-with_slot : (s : Assembly FragKey) (ss : List (Assembly FragKey)) (m : Slots) (k : FragKey) →
-    s.key ≡ Some k → IsSound s → StandForSlots ss m → map.get m k ≡ None → StandForSlots (s ∷ ss) (map.insert m k (slot_of s))
+with_slot : (s : Assembly FragKey) (ss : List (Assembly FragKey)) (m : Held) (k : FragKey) →
+    s.key ≡ Some k → IsSound s → StandForHeld ss m → map.get m k ≡ None → StandForHeld (s ∷ ss) (map.insert m k (slot_of s))
 with_slot s ss m k e sound h none =
-    key_is (λ k. k) s (StandForSlots ss) (map.insert m k (slot_of s)) (Some k) e (
+    key_is (λ k. k) s (StandForHeld ss) (map.insert m k (slot_of s)) (Some k) e (
       record { slot = slot_of s; found = get_put m k (slot_of s); stands = stands_it s sound },
-      subst (StandForSlots ss) (sym (put_out m k (slot_of s) ∙ out_absent m k none)) h,
+      subst (StandForHeld ss) (sym (put_out m k (slot_of s) ∙ out_absent m k none)) h,
     )
 
-all_stand : (ss : List (Assembly FragKey)) → AllSound ss → AreApart (keys_of ss) → (m : Slots) × StandForSlots ss m
+all_stand : (ss : List (Assembly FragKey)) → AllSound ss → AreApart (keys_of ss) → (m : Held) × StandForHeld ss m
 all_stand [] sound apart = (map.empty, refl)
 all_stand (s ∷ ss) sound apart =
     let rest = all_stand ss sound.1 (apart_tail s.key (keys_of ss) apart) in
-    elim s.key as (λ o. s.key ≡ o → (m : Slots) × StandForSlots (s ∷ ss) m) [
-      | None ↦ λ e. (rest.0, key_is (λ k. k) s (StandForSlots ss) rest.0 None e rest.1)
+    elim s.key as (λ o. s.key ≡ o → (m : Held) × StandForHeld (s ∷ ss) m) [
+      | None ↦ λ e. (rest.0, key_is (λ k. k) s (StandForHeld ss) rest.0 None e rest.1)
       | Some k ↦ λ e. (
         map.insert rest.0 k (slot_of s),
         with_slot s ss rest.0 k e sound.0 rest.1
@@ -138,7 +137,8 @@ all_stand (s ∷ ss) sound apart =
       )
     ] refl
 
--- whatever keys they have, where no key is there twice
-pub some_slots : (os : List (Option FragKey)) (ss : List (Assembly FragKey)) →
-    AllSound ss → AreApart os → (m : Slots) × StandForSlots (with_keys os ss) m
-some_slots os ss sound apart = all_stand (with_keys os ss) (all_with os ss sound) (apart_with os ss apart)
+-- where no key is there twice
+pub some_slots : (ss : List (Assembly FragKey)) → AllSound ss → AreApart (keys_of ss) → (slots : Slots) × StandForSlots ss slots
+some_slots ss sound apart =
+    let m = all_stand ss sound apart in
+    (record { room = length ss; held = m.0 }, record { room = refl; held = m.1 })

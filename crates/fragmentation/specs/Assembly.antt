@@ -107,10 +107,9 @@ module _ {K : Type 0} where
   abbrev pub AreApart : List (Option K) → Type 0
   AreApart os = (i j : ℕ) (k : K) → slice_get os i ≡ Some (Some k) → slice_get os j ≡ Some (Some k) → i ≡ j
 
-  -- two keys for two slots, and no key for both
+  -- a key or none for each slot, and no key for two
   pub record AreKept (os : List (Option K)) (ss : List (Assembly K)) : Type 0 where
-    pub keys : length os ≡ 2
-    pub places : length ss ≡ 2
+    pub as_many : length os ≡ length ss
     pub apart : AreApart os
 
   -- the index of the slot with the key, or the length
@@ -126,3 +125,18 @@ module _ {K : Type 0} where
   -- the index of the slot that serves a key: its own, otherwise the first free one
   abbrev pub slot_for : (K → K → Bool) → K → List (Assembly K) → ℕ
   slot_for eq k ss = if index_of_key eq k ss == length ss then free_slot ss else index_of_key eq k ss
+
+  -- two of them
+  pub record AreTwo (os : List (Option K)) (ss : List (Assembly K)) : Type 0 where
+    pub two : length ss ≡ 2
+    pub kept : AreKept os ss
+
+  -- whether no key is set
+  abbrev pub are_none : List (Option K) → Bool
+  are_none [] = true
+  are_none (o ∷ os) = is_none o && are_none os
+
+  -- kept, and none is set if they are idle
+  pub record AreLent (is_idle : Bool) (os : List (Option K)) (ss : List (Assembly K)) : Type 0 where
+    pub kept : AreKept os ss
+    pub idle : is_idle ≡ true → are_none os ≡ true

@@ -15,12 +15,12 @@ module _ (K : RattleType) (s : MutBor (Assembly K.Denot)) where
   abbrev pub Frees : {B : Type 0} → Option B → Fml
   Frees r = Rests (the_row K) s (FreedIfLent s.now r)
 
-module _ (K : RattleType) (s : MutBor (List (Assembly K.Denot))) where
-  -- the key for which the slot is taken to which the reference points
-  abbrev pub key_of : {E : Type 0} → Result (MutBor (Assembly K.Denot)) E → Option K.Denot
-  key_of (Ok slot) = slot.now.key
-  key_of (Err e) = None
+-- the key for which the slot is taken to which the reference points
+abbrev pub key_of : {K E : Type 0} → Result (MutBor (Assembly K)) E → Option K
+key_of (Ok slot) = slot.now.key
+key_of (Err e) = None
 
+module _ (K : RattleType) (s : MutBor (List (Assembly K.Denot))) where
   -- the value of a slot after the borrow is what the reference had last, except that it keeps the key for which it was
   -- lent, or is free. A refusal changes nothing
   abbrev pub LendsPlace : {E : Type 0} → ℕ → Result (MutBor (Assembly K.Denot)) E → Fml

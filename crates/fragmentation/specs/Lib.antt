@@ -6,5 +6,7 @@ pub mod Cuts
 pub mod Assembly
 pub mod Stands
 pub mod Lending
+pub mod Place
+pub mod PlaceLending
 pub mod Reassembled
 pub mod Pending

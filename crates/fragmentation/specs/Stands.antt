@@ -1,10 +1,10 @@
 -- Which slots the assemblers of a set stand for.
-use Rattle.std.specs.Prelude.{◌≡◌, ℕ, Bool, true, List, [], ◌∷◌, ◌++◌, Option, Some, None, slice_index, if◌then◌else◌}
+use Rattle.std.specs.Prelude.{◌≡◌, ℕ, Bool, true, List, [], ◌∷◌, ◌++◌, Option, Some, None, length, slice_index, if◌then◌else◌}
 use Rattle.std.specs.FinMap as map
 use Rattle.net_base.specs.Ranges.{covered}
 use Rattle.fragmentation.specs.declared.key.FragKey.{FragKey}
 use Rattle.fragmentation.specs.Fragments.{Fragment, Got, is_covered, octet_at, keeps_few}
-use Rattle.fragmentation.specs.Slots.{Slot, Slots}
+use Rattle.fragmentation.specs.Slots.{Slot, Held, Slots}
 use Rattle.fragmentation.specs.Assembly.{Assembly}
 
 -- the fragment with these octets at an offset
@@ -30,24 +30,32 @@ module _ {K : Type 0} where
     pub ends : s.expires_at ≡ slot.ends
     pub got : Gathers s slot.got
 
-  -- the key has a slot in the map, for which s stands
-  pub record StandsAt (s : Assembly K) (k : FragKey) (slots : Slots) : Type 0 where
+  -- the key has a slot among those taken, for which s stands
+  pub record StandsAt (s : Assembly K) (k : FragKey) (held : Held) : Type 0 where
     pub slot : Slot
-    pub found : map.get slots k ≡ Some slot
+    pub found : map.get held k ≡ Some slot
     pub stands : StandsFor s slot
 
 module _ {K : Type 0} (key_of : K → FragKey) where
   -- a taken assembler stands for the slot of its key, and the others for the rest of the slots; a
   -- free one stands for none
-  abbrev pub StandsBefore : Assembly K → Option K → (Slots → Type 0) → Slots → Type 0
-  StandsBefore s None Others slots = Others slots
-  StandsBefore s (Some k) Others slots = StandsAt s (key_of k) slots × Others (map.remove slots (key_of k))
+  abbrev pub StandsBefore : Assembly K → Option K → (Held → Type 0) → Held → Type 0
+  StandsBefore s None Others held = Others held
+  StandsBefore s (Some k) Others held = StandsAt s (key_of k) held × Others (map.remove held (key_of k))
 
-  -- each taken assembler stands for the slot of its key, no two of them for the same, and there are no other slots
-  abbrev pub StandForSlotsOf : List (Assembly K) → Slots → Type 0
-  StandForSlotsOf [] slots = slots ≡ map.empty
-  StandForSlotsOf (s ∷ ss) slots = StandsBefore s s.key (StandForSlotsOf ss) slots
+  -- each taken assembler stands for the slot of its key, no two of them for the same, and no other slots are taken
+  abbrev pub StandForHeldOf : List (Assembly K) → Held → Type 0
+  StandForHeldOf [] held = held ≡ map.empty
+  StandForHeldOf (s ∷ ss) held = StandsBefore s s.key (StandForHeldOf ss) held
+
+  -- there are as many assemblers as slots, and they stand for those taken
+  pub record StandForSlotsOf (ss : List (Assembly K)) (slots : Slots) : Type 0 where
+    pub room : length ss ≡ slots.room
+    pub held : StandForHeldOf ss slots.held
 
 -- if the keys are those of the slots
+abbrev pub StandForHeld : List (Assembly FragKey) → Held → Type 0
+StandForHeld = StandForHeldOf (λ k. k)
+
 abbrev pub StandForSlots : List (Assembly FragKey) → Slots → Type 0
 StandForSlots = StandForSlotsOf (λ k. k)

@@ -3,6 +3,9 @@
 
 pub mod fragmenter;
 pub mod key;
+mod lent_slots;
+mod own_slots;
+mod place;
 pub mod reassembly;
 
 pub use fragmenter::{Fragmenter, NextPiece};

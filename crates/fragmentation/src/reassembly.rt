@@ -1,19 +1,22 @@
 //! Reassembly of datagrams from their fragments (RFC 791 3.2, RFC 815).
 //!
-//! A [`PacketAssembler`] is a slot for one datagram, and a [`PacketAssemblerSet`] has two of them, each for the
-//! datagram of one key. Where fragments overlap, the one received last counts.
+//! A [`PacketAssembler`] is a slot for one datagram, and a [`PacketAssemblerSet`] has some of them, two or as many as
+//! storage was handed over for, each for the datagram of one key. Where fragments overlap, the one received last counts.
 ghost use Rattle.std.specs.Prelude.{◌≡◌, List, ℤ, ◌↔◌, ◌≤◌, ◌<◌, ◌+◌, ◌-◌, ℕ, Bool, nat_le, nat_lt, not, ◌&&◌};
 ghost use Rattle.std.specs.Prelude.{IsTrue, is_none, IsSome, false, true, IsOk, IsErr, slice_index, slice_index_or};
 ghost use Rattle.std.specs.Prelude.{if◌then◌else◌, IfOk, OnOk, OnErr, IfSome, map as each, length, None, Some};
+ghost use Rattle.std.specs.Prelude.{min, vec_capacity};
 ghost use Rattle.std.specs.Borrow.{sem};
 ghost use Rattle.fragmentation.specs.Assembly as spec;
 ghost use Rattle.fragmentation.specs.Assembly.{octets_after_write, index_of_key, free_slot, has_key};
-ghost use Rattle.fragmentation.specs.Assembly.{live_at, with_keys, keys_of, taken_at, AllSound};
+ghost use Rattle.fragmentation.specs.Assembly.{live_at, with_key, with_keys, keys_of, taken_at, AllSound};
 ghost use Rattle.fragmentation.specs.Stands.{fragment};
 ghost use Rattle.fragmentation.specs.Reassembled.{RestsReassembled};
 
 use crate::key::FragKey;
-use arrayvec::ArrayVec;
+use crate::lent_slots::LentSlots;
+use crate::own_slots::OwnSlots;
+use crate::place::Place;
 use net_base::assembler::Assembler;
 use net_base::time::Instant;
 use std::marker::Model;
@@ -22,7 +25,7 @@ use thiserror::Error;
 /// The maximum length of a reassembled payload, in octets.
 pub const REASSEMBLY_BUFFER_SIZE: usize = 4096;
 
-/// How many datagrams are reassembled at a time.
+/// How many datagrams are reassembled at a time, where no storage is handed over.
 pub const REASSEMBLY_BUFFER_COUNT: usize = 2;
 
 /// There is no free slot for a datagram.
@@ -289,25 +292,24 @@ fn write(buffer: &mut [u8], offset: usize, octets: &[u8])
     buffer[offset..offset + octets.len()].copy_from_slice(octets);
 }
 
-/// Two slots for datagrams, each for the fragments of one key, and no two for the same key.
+/// Slots for datagrams, each for the fragments of one key, and no two for the same key. There are two in the set itself;
+/// where storage is handed over, those in it serve in their place.
 ///
 /// In contracts it is the list of the slots. Since the set keeps the keys itself, a slot that was borrowed keeps the
 /// key for which it was borrowed, or is free, whatever was written to it.
 #[derive(Drop)]
 pub struct PacketAssemblerSet<K> {
-    keys: ArrayVec<Option<K>, REASSEMBLY_BUFFER_COUNT>,
-    assemblers: ArrayVec<PacketAssembler<K>, REASSEMBLY_BUFFER_COUNT>,
+    place: Place<K>,
 }
 
 impl<K> Model for PacketAssemblerSet<K> {
     ghost use Rattle.std.specs.Prelude.{List};
-    ghost use Rattle.fragmentation.specs.Assembly.{Assembly, with_keys, AreKept};
+    ghost use Rattle.fragmentation.specs.Assembly.{Assembly};
+    ghost use Rattle.fragmentation.specs.Place.{slots_at};
 
     ghost Value = { List (Assembly K) };
 
-    ghost view = { λ a. with_keys a.keys.items a.assemblers.items };
-
-    ghost invariant = { λ a. AreKept a.keys.items a.assemblers.items };
+    ghost view = { λ s. slots_at s.place };
 }
 
 impl<K: Eq + Copy> PacketAssemblerSet<K> {
@@ -328,26 +330,15 @@ impl<K: Eq + Copy> PacketAssemblerSet<K> {
             (λ r. r.now ≡ taken key.now end (slice_index_or self.old (slot_for K.eq key.now self.old) r.now)) }
         ensures refused { IsErr result ↔ (slot_for K.eq key.now self.old ≡ length self.old) }
         ensures within { slot_for K.eq key.now self.old ≤ length self.old }
-        ensures two { length self.old ≡ 2 }
     {
-        let slot = take(
-            self.keys.as_mut_slice(),
-            self.assemblers.as_mut_slice(),
-            key,
-            end,
-        );
-        match self.assemblers.get_mut(slot) {
-            Some(assembler) => Ok(assembler),
-            None => Err(AssemblerFullError),
-        }
+        self.place.get(key, end)
     }
 }
 
 impl<K: Drop> PacketAssemblerSet<K> {
-    ghost use Rattle.std.specs.FinMap as map;
     ghost use Rattle.fragmentation.specs.declared.key.FragKey.{FragKey};
     ghost use Rattle.fragmentation.specs.Slots as slots;
-    ghost use Rattle.fragmentation.specs.Slots.{Slots};
+    ghost use Rattle.fragmentation.specs.Slots.{Slots, free_slots, slot_room_over};
     ghost use Rattle.fragmentation.specs.Assembly.{AreFree};
     ghost use Rattle.fragmentation.specs.Stands.{StandForSlotsOf};
 
@@ -355,15 +346,23 @@ impl<K: Drop> PacketAssemblerSet<K> {
     pub fn new() -> PacketAssemblerSet<K>
         ensures two { length result ≡ 2 }
         ensures free { AreFree result }
-        ensures stands { (key_of : K → FragKey) → StandForSlotsOf key_of result map.empty }
+        ensures stands { (key_of : K → FragKey) → StandForSlotsOf key_of result (free_slots 2) }
     {
-        let mut keys = ArrayVec::new();
-        keys.push(None);
-        keys.push(None);
-        let mut assemblers = ArrayVec::new();
-        assemblers.push(PacketAssembler::new());
-        assemblers.push(PacketAssembler::new());
-        PacketAssemblerSet { keys, assemblers }
+        PacketAssemblerSet {
+            place: Place::Own(OwnSlots::new()),
+        }
+    }
+
+    /// From now on the slots are those in storage that is handed over, as many as each vector has capacity for, or the
+    /// two in the set itself if one of them has none. All are free. What is in the vectors is dropped, and so is what the
+    /// slots had so far.
+    pub fn set_storage(&mut self, keys: Vec<Option<K>>, slots: Vec<PacketAssembler<K>>)
+        ensures room { length self.new ≡ slot_room_over (min (vec_capacity keys) (vec_capacity slots)) }
+        ensures free { AreFree self.new }
+        ensures stands { (key_of : K → FragKey) →
+            StandForSlotsOf key_of self.new (free_slots (slot_room_over (min (vec_capacity keys) (vec_capacity slots)))) }
+    {
+        self.place.set_storage(keys, slots);
     }
 
     /// Frees the slots whose expiry is before a moment.
@@ -373,11 +372,7 @@ impl<K: Drop> PacketAssemblerSet<K> {
         ensures stands { (key_of : K → FragKey) (m : Slots) →
             StandForSlotsOf key_of self.old m → StandForSlotsOf key_of self.new (slots.live_at timestamp m) }
     {
-        drop_expired(
-            self.keys.as_slice(),
-            self.assemblers.as_mut_slice(),
-            timestamp,
-        );
+        self.place.remove_expired(timestamp);
     }
 }
 
@@ -388,7 +383,7 @@ impl<K> PacketAssemblerSet<K> {
     pub fn no_key_has_two_slots(&self)
         ensures { AreApart (keys_of self.now) }
     {
-        let _ = &self.keys;
+        self.place.are_kept();
     }
 }
 
@@ -401,7 +396,7 @@ impl PacketAssemblerSet<FragKey> {
     pub fn stands_for_slots(&self)
         ensures { (slots : Slots) × StandForSlots self.now slots }
     {
-        are_sound(self.assemblers.as_slice());
+        self.place.are_kept();
     }
 }
 
@@ -435,7 +430,25 @@ pub fn reassemble<'s>(
 
 // Frees the slots whose expiry is before a moment.
 #[inline(always)]
-fn drop_expired<K: Drop>(
+pub(crate) fn drop_expired<K: Drop>(
+    keys: &[Option<K>],
+    assemblers: &mut [PacketAssembler<K>],
+    timestamp: Instant,
+)
+    requires as_many { length keys.now ≡ length assemblers.old }
+    ensures left { with_keys keys.now assemblers.new ≡ each (live_at timestamp) (with_keys keys.now assemblers.old) }
+    ensures places { length assemblers.new ≡ length assemblers.old }
+{
+    for (i, key) in keys.iter().enumerate() {
+        if key.is_some() {
+            assemblers[i].leave_at(timestamp);
+        }
+    }
+}
+
+// The same of two slots.
+#[inline(always)]
+pub(crate) fn drop_expired_of_two<K: Drop>(
     keys: &[Option<K>],
     assemblers: &mut [PacketAssembler<K>],
     timestamp: Instant,
@@ -443,7 +456,7 @@ fn drop_expired<K: Drop>(
     requires keys { length keys.now ≡ 2 }
     requires places { length assemblers.old ≡ 2 }
     ensures left { with_keys keys.now assemblers.new ≡ each (live_at timestamp) (with_keys keys.now assemblers.old) }
-    ensures places { length assemblers.new ≡ 2 }
+    ensures places { length assemblers.new ≡ length assemblers.old }
 {
     if keys[0].is_some() {
         assemblers[0].leave_at(timestamp);
@@ -453,18 +466,66 @@ fn drop_expired<K: Drop>(
     }
 }
 
-// A lemma: what holds of two slots by their type.
-fn are_sound<K>(assemblers: &[PacketAssembler<K>])
-    requires { length assemblers.now ≡ 2 }
+// Forgets the keys of free slots.
+pub(crate) fn forget_free<K: Drop>(keys: &mut [Option<K>], assemblers: &[PacketAssembler<K>])
+    requires as_many { length keys.old ≡ length assemblers.now }
+    ensures { keys.new ≡ keys_of (with_keys keys.old assemblers.now) }
+{
+    for i in 0..keys.len() {
+        forget_if_free(&mut keys[i], &assemblers[i]);
+    }
+}
+
+// Forgets a slot's key, if it has one and is free.
+fn forget_if_free<K: Drop>(key: &mut Option<K>, assembler: &PacketAssembler<K>)
+    ensures { key.new ≡ (with_key key.old assembler.now).key }
+{
+    if key.is_some() && assembler.is_free() {
+        *key = None;
+    }
+}
+
+// Whether no key is set.
+pub(crate) fn are_none<K>(keys: &[Option<K>]) -> bool
+    ensures { result ≡ spec.are_none keys.now }
+{
+    for key in keys {
+        if key.is_some() {
+            return false;
+        }
+    }
+    true
+}
+
+// A lemma: what holds of slots by their type.
+pub(crate) fn are_sound<K>(assemblers: &[PacketAssembler<K>])
     ensures { AllSound assemblers.now }
 {
-    assemblers[0].is_sound();
-    assemblers[1].is_sound();
+    for assembler in assemblers {
+        assembler.is_sound();
+    }
 }
 
 // Takes a free slot for the key, if it has none, and returns the index of the slot that serves it. The keys are those
 // of the slots then.
-fn take<K: Eq + Copy>(
+pub(crate) fn take<K: Eq + Copy>(
+    keys: &mut [Option<K>],
+    assemblers: &mut [PacketAssembler<K>],
+    key: &K,
+    end: Instant,
+) -> usize
+    requires as_many { length keys.old ≡ length assemblers.old }
+    ensures slot { result ≡ spec.slot_for K.eq key.now (with_keys keys.old assemblers.old) }
+    ensures taken { assemblers.new ≡ taken_at (spec.slot_for K.eq key.now (with_keys keys.old assemblers.old))
+        key.now end (with_keys keys.old assemblers.old) }
+    ensures keys { keys.new ≡ keys_of assemblers.new }
+{
+    keep_keys(keys, assemblers);
+    take_among(keys, assemblers, key, end)
+}
+
+// The same of two slots.
+pub(crate) fn take_of_two<K: Eq + Copy>(
     keys: &mut [Option<K>],
     assemblers: &mut [PacketAssembler<K>],
     key: &K,
@@ -480,16 +541,32 @@ fn take<K: Eq + Copy>(
     if is_first_for(keys, assemblers, key) {
         return 0;
     }
-    keep_keys(keys, assemblers);
+    keep_two_keys(keys, assemblers);
+    take_among(keys, assemblers, key, end)
+}
+
+// Takes a free slot for the key, if it has none, where the keys are those of the slots.
+#[inline(always)]
+fn take_among<K: Eq + Copy>(
+    keys: &mut [Option<K>],
+    assemblers: &mut [PacketAssembler<K>],
+    key: &K,
+    end: Instant,
+) -> usize
+    requires keys { keys.old ≡ keys_of assemblers.old }
+    ensures slot { result ≡ spec.slot_for K.eq key.now assemblers.old }
+    ensures taken { assemblers.new ≡ taken_at (spec.slot_for K.eq key.now assemblers.old) key.now end assemblers.old }
+    ensures keys { keys.new ≡ keys_of assemblers.new }
+{
     let slot = slot_for(assemblers, key);
-    if slot < 2 {
+    if slot < assemblers.len() {
         keys[slot] = assemblers[slot].take_for(key, end);
     }
     slot
 }
 
-// Whether the first slot has the key, and the second one is free. Then each gets its key among these, and the free one
-// none.
+// Whether the first of two slots has the key, and the second one is free. Then each gets its key among these, and the
+// free one none.
 #[inline(always)]
 fn is_first_for<K: Eq + Copy>(
     keys: &mut [Option<K>],
@@ -548,6 +625,17 @@ fn is_key<K: Eq>(of_slot: &Option<K>, key: &K) -> bool
 
 // Each taken slot gets its key among these, and each free one has none from now on.
 fn keep_keys<K: Copy>(keys: &mut [Option<K>], assemblers: &mut [PacketAssembler<K>])
+    requires { length keys.old ≡ length assemblers.old }
+    ensures places { assemblers.new ≡ with_keys keys.old assemblers.old }
+    ensures keys { keys.new ≡ keys_of assemblers.new }
+{
+    for i in 0..keys.len() {
+        keys[i] = assemblers[i].keep_key(keys[i]);
+    }
+}
+
+// The same of two slots.
+fn keep_two_keys<K: Copy>(keys: &mut [Option<K>], assemblers: &mut [PacketAssembler<K>])
     requires keys { length keys.old ≡ 2 }
     requires places { length assemblers.old ≡ 2 }
     ensures places { assemblers.new ≡ with_keys keys.old assemblers.old }

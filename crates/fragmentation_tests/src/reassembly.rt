@@ -149,6 +149,48 @@ fn pairs_and_keys_of_fragments_have_places(rt: HostRuntime) {
 }
 
 #[test]
+fn storage_has_a_place_for_each_of_its_slots(rt: HostRuntime) -> Result<(), Fail> {
+    let keys = Vec::with_capacity(rt.alloc(), 5)?;
+    let slots = Vec::with_capacity(rt.alloc(), 3)?;
+    let mut set: PacketAssemblerSet<u8> = PacketAssemblerSet::new();
+    set.set_storage(keys, slots);
+    for (k, fits) in [(0, true), (1, true), (2, true), (3, false), (1, true)] {
+        assert!(rt; set.get(&k, MINUTE).is_ok() == fits);
+    }
+    set.remove_expired(Instant { micros: 60_000_001 });
+    assert!(rt; set.get(&3, MINUTE).is_ok());
+    Ok(())
+}
+
+#[test]
+fn storage_without_capacity_leaves_two_slots(rt: HostRuntime) -> Result<(), Fail> {
+    let keys = Vec::new(rt.alloc());
+    let slots = Vec::with_capacity(rt.alloc(), 3)?;
+    let mut set: PacketAssemblerSet<u8> = PacketAssemblerSet::new();
+    set.set_storage(keys, slots);
+    for (k, fits) in [(0, true), (1, true), (2, false)] {
+        assert!(rt; set.get(&k, MINUTE).is_ok() == fits);
+    }
+    Ok(())
+}
+
+#[test]
+fn a_slot_of_storage_serves_one_key_after_another(rt: HostRuntime) -> Result<(), Fail> {
+    let keys = Vec::with_capacity(rt.alloc(), 1)?;
+    let slots = Vec::with_capacity(rt.alloc(), 1)?;
+    let mut set: PacketAssemblerSet<u8> = PacketAssemblerSet::new();
+    set.set_storage(keys, slots);
+    for k in [1, 2, 3] {
+        set.remove_expired(Instant { micros: 60_000_001 });
+        set.remove_expired(Instant { micros: 60_000_001 });
+        assert!(rt; set.get(&k, MINUTE).is_ok());
+        set.remove_expired(MINUTE);
+        assert!(rt; set.get(&0, MINUTE).is_err());
+    }
+    Ok(())
+}
+
+#[test]
 fn a_total_of_none_is_complete(rt: HostRuntime) {
     let mut set: PacketAssemblerSet<u8> = PacketAssemblerSet::new();
     for k in [0, 0, 1, 2] {

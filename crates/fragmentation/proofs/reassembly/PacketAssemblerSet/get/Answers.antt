@@ -1,78 +1,17 @@
-use Rattle.std.proofs.Common.{◌≡◌, ◌<◌, ◌≤◌, ℕ, true, false, List, Option, length, refl, sym, ap, ◌∙◌, arith, inl, inr}
-use Rattle.fragmentation.specs.Assembly.{Assembly, with_keys}
-use Rattle.fragmentation.proofs.PlacesLemmas.{slot_for-le}
-use Rattle.fragmentation.proofs.KeptLemmas.{Took, took_of, length-shown, kept_then, kept_lent, shown_place, lent_shown, none_shown}
+use borrow.Follows.Closed.{read_of}
+use Rattle.std.specs.Borrow.{MutBor, name_if_ok}
+use Rattle.fragmentation.specs.Assembly.{Assembly, slot_for, with_key}
+use Rattle.fragmentation.specs.Lending.{key_of}
+use Rattle.fragmentation.specs.Place.{slots_at}
+use Rattle.fragmentation.proofs.PlacesLemmas.{slots_at-with_slot_at}
 use Rattle.fragmentation.proofs.reassembly.PacketAssemblerSet.get.Goals as goal
 
-not_true : false ≡ true → ⊥
-not_true f = cc
-
-not_below : (p n m : ℕ) → (p < n → ⊥) → n ≡ m → m ≤ p
-not_below p n m h e = omega arith
-
-full : (p q n : ℕ) → p ≡ q → n ≤ p → q ≤ n → q ≡ n
-full p q n e h k = omega arith
-
-pub invariant_of-self-lent : goal.invariant_of-self-lent
-invariant_of-self-lent g c =
-    let took : Took g.K.PartialEq.eq c.args.key.now c.args.end c.self.inside.keys.items
-    c.self.inside.assemblers.items c.take-slot.result c.take-slot.new.keys c.take-slot.new.assemblers =
-    took_of c.as_mut_slice.ensures.value c.as_mut_slice-2.ensures.value c.take-slot.ensures.slot c.take-slot.ensures.taken c.take-slot.ensures.keys in
-    kept_lent g.K.PartialEq.eq g.met.K.Eq.laws.refl c.args.key.now c.args.end _ _ _ _ _ c.self.invariant took
-
-pub invariant_of-self : goal.invariant_of-self
-invariant_of-self g c =
-    let took : Took g.K.PartialEq.eq c.args.key.now c.args.end c.self.inside.keys.items
-    c.self.inside.assemblers.items c.take-slot.result c.take-slot.new.keys c.take-slot.new.assemblers =
-    took_of c.as_mut_slice.ensures.value c.as_mut_slice-2.ensures.value c.take-slot.ensures.slot c.take-slot.ensures.taken c.take-slot.ensures.keys in
-    kept_then g.K.PartialEq.eq g.met.K.Eq.laws.refl c.args.key.now c.args.end _ _ _ _ _ c.self.invariant took
-
-pub returns-in-Some : goal.returns-in-Some
-returns-in-Some g c =
-    let eq = g.K.PartialEq.eq in
-    let k = c.args.key.now in
-    let os : List (Option g.row.K.Denot) = c.self.inside.keys.items in
-    let ss : List (Assembly g.row.K.Denot) = c.self.inside.assemblers.items in
-    let ps : List (Assembly g.row.K.Denot) = c.take-slot.new.assemblers in
-    let took : Took eq k c.args.end os ss c.take-slot.result c.take-slot.new.keys ps =
-    took_of c.as_mut_slice.ensures.value c.as_mut_slice-2.ensures.value c.take-slot.ensures.slot c.take-slot.ensures.taken c.take-slot.ensures.keys in
-    let reflexive = g.met.K.Eq.laws.refl in
-    let two = length-shown eq reflexive k c.args.end os ss c.take-slot.result c.take-slot.new.keys ps c.self.invariant took in
-    let then = kept_then eq reflexive k c.args.end os ss c.take-slot.result c.take-slot.new.keys ps c.self.invariant took in
-    let there = c.in-Some.ensures.variant.0 refl in
-    let below : c.take-slot.result < length (with_keys os ss) = omega (arith, there, two, then.places) in
-    let value = c.in-Some.ensures.value
-    ∙ shown_place eq reflexive k c.args.end os ss c.take-slot.result c.take-slot.new.keys ps c.self.invariant took c.in-Some.assembler.now below in
-    let lent = lent_shown eq reflexive k c.args.end os ss c.take-slot.result c.take-slot.new.keys ps c.self.invariant took c.in-Some.assembler.now.key
-    c.in-Some.assembler.now below (ap (λ (x : Assembly g.row.K.Denot). x.key) value) in
-    let slot = took.slot in
+pub returns : goal.returns
+returns g c =
+    let place = c.self.inside.place in
+    let i = slot_for g.K.PartialEq.eq c.args.key.now (slots_at place) in
     rw (← c.self.view_is) (
-      ap (λ (F : Assembly g.row.K.Denot → List (Assembly g.row.K.Denot)). inl (c.in-Some.assembler.ghost_name, F)) lent,
-      record {
-        lends = tt;
-        value = value;
-        refused = (λ f. absurd (not_true f), λ f. absurd (omega (arith, f, below, slot)));
-        within = slot_for-le eq k (with_keys os ss);
-        two = two;
-      },
-    )
-
-pub returns-in-None : goal.returns-in-None
-returns-in-None g c =
-    let eq = g.K.PartialEq.eq in
-    let k = c.args.key.now in
-    let os : List (Option g.row.K.Denot) = c.self.inside.keys.items in
-    let ss : List (Assembly g.row.K.Denot) = c.self.inside.assemblers.items in
-    let ps : List (Assembly g.row.K.Denot) = c.take-slot.new.assemblers in
-    let took : Took eq k c.args.end os ss c.take-slot.result c.take-slot.new.keys ps =
-    took_of c.as_mut_slice.ensures.value c.as_mut_slice-2.ensures.value c.take-slot.ensures.slot c.take-slot.ensures.taken c.take-slot.ensures.keys in
-    let reflexive = g.met.K.Eq.laws.refl in
-    let two = length-shown eq reflexive k c.args.end os ss c.take-slot.result c.take-slot.new.keys ps c.self.invariant took in
-    let then = kept_then eq reflexive k c.args.end os ss c.take-slot.result c.take-slot.new.keys ps c.self.invariant took in
-    let beyond : length (with_keys os ss) ≤ c.take-slot.result =
-    not_below _ _ _ (λ h. not_true (c.in-None.ensures.variant.1 h)) (then.places ∙ sym two) in
-    let within = slot_for-le eq k (with_keys os ss) in
-    rw (← c.self.view_is) (
-      ap inr (none_shown eq reflexive k c.args.end os ss c.take-slot.result c.take-slot.new.keys ps c.self.invariant took beyond),
-      record { lends = tt; value = tt; refused = (λ _. full _ _ _ took.slot beyond within, λ f. refl); within = within; two = two },
+      λ t. read_of (name_if_ok (λ (x : MutBor (Assembly g.row.K.Denot)). x.ghost_name) c.get.result)
+          (λ (w : Assembly g.row.K.Denot). slots_at-with_slot_at place i (with_key (key_of c.get.result) w) t) (slots_at place),
+      c.get.ensures,
     )
