@@ -24,14 +24,15 @@ use Rattle.group_table.proofs.GroupsLemmas.{same_itself, state_at_index, taken_a
 within : (gs : List Group) (a : IpAddress) (s : GroupState) → state_of gs a ≡ Some s → index_of gs a < length gs
 within gs a s is = place_within gs a (rw is refl)
 
-distinct-joined : (gs : List Group) (a : IpAddress) → AreDistinct gs → (o : Option GroupState) → state_of gs a ≡ o → AreDistinct (joined_from o gs a)
-distinct-joined gs a distinct None is = by (is_full gs) where
+distinct-joined : (gs : List Group) (a : IpAddress) → AreDistinct gs → (o : Option GroupState) → state_of gs a ≡ o →
+    (room : ℕ) → AreDistinct (joined_from o room gs a)
+distinct-joined gs a distinct None is = λ room. by (is_full room gs) where
   by : (b : Bool) → AreDistinct (cond b gs (with_new gs a))
   by true = distinct
   by false = distinct_after-new gs a is distinct
-distinct-joined gs a distinct (Some Joining) is = distinct
-distinct-joined gs a distinct (Some Joined) is = distinct
-distinct-joined gs a distinct (Some Leaving) is = distinct_after-state gs a Joined (within gs a Leaving is) distinct
+distinct-joined gs a distinct (Some Joining) is = λ room. distinct
+distinct-joined gs a distinct (Some Joined) is = λ room. distinct
+distinct-joined gs a distinct (Some Leaving) is = λ room. distinct_after-state gs a Joined (within gs a Leaving is) distinct
 
 distinct-left : (gs : List Group) (a : IpAddress) → AreDistinct gs → (o : Option GroupState) → state_of gs a ≡ o → AreDistinct (left_from o gs a)
 distinct-left gs a distinct None is = distinct
@@ -173,12 +174,12 @@ gone_state gs a distinct h = no_state (taken_out gs a) a (new_group a) none wher
       (distinct from p d (came_from-lt (length gs) p k (omega (arith, n))) h (is ∙ sym (addr_at_index gs a d h)))
 
 pub joins_member : JoinsMember
-joins_member gs a distinct taken = by (state_of gs a) refl taken where
-  by : (o : Option GroupState) → state_of gs a ≡ o → (is_none o && is_full gs) ≡ false → is_member (joined_from o gs a) a ≡ true
-  by None is taken = room (is_full gs) taken where
-    room : (b : Bool) → b ≡ false → is_member (cond b gs (with_new gs a)) a ≡ true
-    room true t = absurd cc
-    room false t = ap is_member_in (new_state gs a distinct is)
+joins_member room gs a distinct taken = by (state_of gs a) refl taken where
+  by : (o : Option GroupState) → state_of gs a ≡ o → (is_none o && is_full room gs) ≡ false → is_member (joined_from o room gs a) a ≡ true
+  by None is taken = unless_full (is_full room gs) taken where
+    unless_full : (b : Bool) → b ≡ false → is_member (cond b gs (with_new gs a)) a ≡ true
+    unless_full true t = absurd cc
+    unless_full false t = ap is_member_in (new_state gs a distinct is)
   by (Some Joining) is taken = ap is_member_in is
   by (Some Joined) is taken = ap is_member_in is
   by (Some Leaving) is taken = ap is_member_in (other_state gs a Joined distinct (within gs a Leaving is))
@@ -279,14 +280,14 @@ module _ (gs : List Group) (a b : IpAddress) (distinct : AreDistinct gs) (other 
     back : IsAlso b d (taken_out gs a) gs
     back j h at = (came_from (length gs) p j, came_from-lt (length gs) p j (omega (arith, n)), sym (taken_at gs a j d p_in h))
 
-  kept-joined : (o : Option GroupState) → state_of gs a ≡ o → state_of (joined_from o gs a) b ≡ state_of gs b
-  kept-joined None is = by (is_full gs) where
+  kept-joined : (o : Option GroupState) → state_of gs a ≡ o → (room : ℕ) → state_of (joined_from o room gs a) b ≡ state_of gs b
+  kept-joined None is = λ room. by (is_full room gs) where
     by : (t : Bool) → state_of (cond t gs (with_new gs a)) b ≡ state_of gs b
     by true = refl
     by false = kept_new is
-  kept-joined (Some Joining) is = refl
-  kept-joined (Some Joined) is = refl
-  kept-joined (Some Leaving) is = kept_state Joined (within gs a Leaving is)
+  kept-joined (Some Joining) is = λ room. refl
+  kept-joined (Some Joined) is = λ room. refl
+  kept-joined (Some Leaving) is = λ room. kept_state Joined (within gs a Leaving is)
 
   kept-left : (o : Option GroupState) → state_of gs a ≡ o → state_of (left_from o gs a) b ≡ state_of gs b
   kept-left None is = refl

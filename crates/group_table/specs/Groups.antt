@@ -30,9 +30,9 @@ is_same_state s t = false
 abbrev pub is_empty : List Group → Bool
 is_empty gs = length gs == 0
 
--- whether there is no room for another group: the table holds eight
-abbrev pub is_full : List Group → Bool
-is_full gs = nat_le 8 (length gs)
+-- whether there is no room for another group, where there is room for so many
+abbrev pub is_full : ℕ → List Group → Bool
+is_full room gs = nat_le room (length gs)
 
 -- a group that was just joined
 abbrev pub new_group : IpAddress → Group
@@ -79,23 +79,23 @@ abbrev pub is_member : List Group → IpAddress → Bool
 is_member gs a = is_member_in (state_of gs a)
 
 -- whether a join is refused: the group isn't there, and the table is full
-abbrev pub is_refused : List Group → IpAddress → Bool
-is_refused gs a = is_none (state_of gs a) && is_full gs
+abbrev pub is_refused : ℕ → List Group → IpAddress → Bool
+is_refused room gs a = is_none (state_of gs a) && is_full room gs
 
 -- the answer of a join
-abbrev pub done_or_full : List Group → IpAddress → Result Unit GroupTableFull
-done_or_full gs a = if is_refused gs a then Err (record {}) else Ok tt
+abbrev pub done_or_full : ℕ → List Group → IpAddress → Result Unit GroupTableFull
+done_or_full room gs a = if is_refused room gs a then Err (record {}) else Ok tt
 
 -- the groups after a join, by the state of the group before
-abbrev pub joined_from : Option GroupState → List Group → IpAddress → List Group
-joined_from None gs a = if is_full gs then gs else with_new gs a
-joined_from (Some Joining) gs a = gs
-joined_from (Some Joined) gs a = gs
-joined_from (Some Leaving) gs a = with_state gs a Joined
+abbrev pub joined_from : Option GroupState → ℕ → List Group → IpAddress → List Group
+joined_from None room gs a = if is_full room gs then gs else with_new gs a
+joined_from (Some Joining) room gs a = gs
+joined_from (Some Joined) room gs a = gs
+joined_from (Some Leaving) room gs a = with_state gs a Joined
 
--- the groups after a join
-abbrev pub groups_after_join : List Group → IpAddress → List Group
-groups_after_join gs a = joined_from (state_of gs a) gs a
+-- the groups after a join, where there is room for so many
+abbrev pub groups_after_join : ℕ → List Group → IpAddress → List Group
+groups_after_join room gs a = joined_from (state_of gs a) room gs a
 
 -- the groups after a leave, by the state of the group before: a join that wasn't reported needs no report
 abbrev pub left_from : Option GroupState → List Group → IpAddress → List Group
@@ -158,7 +158,7 @@ ipv6_groups gs = filter_map (λ (g : Group). of_ipv6 g.addr) gs
 
 -- no call makes an address occur twice
 pub record KeepsDistinct (gs : List Group) (a : IpAddress) : Type 0 where
-  pub after_join : AreDistinct (groups_after_join gs a)
+  pub after_join : (room : ℕ) → AreDistinct (groups_after_join room gs a)
   pub after_leave : AreDistinct (groups_after_leave gs a)
   pub after_join_reported : AreDistinct (join_reported gs a)
   pub after_leave_reported : AreDistinct (leave_reported gs a)
@@ -179,8 +179,8 @@ LastGoesAlone = (front : List Group) (g : Group) →
 
 -- after a join that wasn't refused the interface is a member
 abbrev pub JoinsMember : Type 0
-JoinsMember = (gs : List Group) (a : IpAddress) →
-    AreDistinct gs → is_refused gs a ≡ false → is_member (groups_after_join gs a) a ≡ true
+JoinsMember = (room : ℕ) (gs : List Group) (a : IpAddress) →
+    AreDistinct gs → is_refused room gs a ≡ false → is_member (groups_after_join room gs a) a ≡ true
 
 -- after a leave the interface is not a member
 abbrev pub LeavesNoMember : Type 0
@@ -188,7 +188,7 @@ LeavesNoMember = (gs : List Group) (a : IpAddress) → AreDistinct gs → is_mem
 
 -- no call changes the state of another group
 pub record KeepsOthers (gs : List Group) (a b : IpAddress) : Type 0 where
-  pub join : state_of (groups_after_join gs a) b ≡ state_of gs b
+  pub join : (room : ℕ) → state_of (groups_after_join room gs a) b ≡ state_of gs b
   pub leave : state_of (groups_after_leave gs a) b ≡ state_of gs b
   pub report_of_join : state_of (join_reported gs a) b ≡ state_of gs b
   pub report_of_leave : state_of (leave_reported gs a) b ≡ state_of gs b

@@ -16,8 +16,11 @@ use ip_address::{IpAddress, Ipv4Address, Ipv6Address};
 use std::marker::Model;
 use thiserror::Error;
 
-/// The maximum number of groups in a table.
+/// How many groups a host is in at most, unless it is told otherwise.
 pub const IFACE_MAX_MULTICAST_GROUP_COUNT: usize = 8;
+
+/// The maximum number of groups in a table.
+pub const MAX_GROUP_COUNT: usize = 16;
 
 /// The table is full, and the group isn't in it.
 #[derive(Clone, Copy, Debug, PartialEq, Eq, Error)]
@@ -62,12 +65,12 @@ impl Default for Group {
     }
 }
 
-/// A table of at most eight groups, in which no address occurs twice.
+/// A table of at most sixteen groups, in which no address occurs twice.
 ///
 /// In contracts it is the list of groups, in the order in which they are walked.
 #[derive(Drop)]
 pub struct Groups {
-    entries: ArrayVec<Group, IFACE_MAX_MULTICAST_GROUP_COUNT>,
+    entries: ArrayVec<Group, MAX_GROUP_COUNT>,
 }
 
 impl Model for Groups {
@@ -95,7 +98,7 @@ impl Groups {
     /// The number of groups, in any state.
     pub fn len(&self) -> usize
         ensures value { result ≡ length self.now }
-        ensures fits { result ≤ IFACE_MAX_MULTICAST_GROUP_COUNT }
+        ensures fits { result ≤ MAX_GROUP_COUNT }
     {
         self.entries.len()
     }
@@ -121,7 +124,7 @@ impl Groups {
     /// All groups, in the order in which they are walked.
     pub fn as_slice(&self) -> &[Group]
         ensures value { result.now ≡ self.now }
-        ensures fits { length result.now ≤ IFACE_MAX_MULTICAST_GROUP_COUNT }
+        ensures fits { length result.now ≤ MAX_GROUP_COUNT }
     {
         self.entries.as_slice()
     }
@@ -133,15 +136,16 @@ impl Groups {
         let _ = &self.entries;
     }
 
-    /// Joins a group. A new group is appended, with its join still to be reported. A group that was being left is
-    /// joined again, with nothing to report. Fails with `GroupTableFull` exactly if the group isn't in the table and
-    /// eight others are; then nothing changes.
-    pub fn join(&mut self, group: IpAddress) -> Result<(), GroupTableFull>
-        ensures answer { result ≡ done_or_full self.old group }
-        ensures groups { self.new ≡ groups_after_join self.old group }
+    /// Joins a group, where there is room for so many, at most sixteen. A new group is appended, with its join still to
+    /// be reported. A group that was being left is joined again, with nothing to report. Fails with `GroupTableFull`
+    /// exactly if the group isn't in the table and there is no room for another; then nothing changes.
+    pub fn join(&mut self, group: IpAddress, room: usize) -> Result<(), GroupTableFull>
+        requires { room ≤ MAX_GROUP_COUNT }
+        ensures answer { result ≡ done_or_full room self.old group }
+        ensures groups { self.new ≡ groups_after_join room self.old group }
         ensures unchanged { OnErr result (self.new ≡ self.old) }
     {
-        join_in(&mut self.entries, group)
+        join_in(&mut self.entries, group, room)
     }
 
     /// Leaves a group. If its join isn't reported yet, the group is removed, and the last group moves into the gap; if
@@ -188,7 +192,7 @@ impl Groups {
     #[tactic(auto, using(crate::proofs::GroupsCounts::none_left))]
     pub fn count_in(&self, state: GroupState) -> usize
         ensures value { result ≡ spec.count_in state self.now }
-        ensures fits { result ≤ IFACE_MAX_MULTICAST_GROUP_COUNT }
+        ensures fits { result ≤ MAX_GROUP_COUNT }
         ensures none { result ≡ 0 → spec.first_in state self.now ≡ None }
     {
         count_in(self.entries.as_slice(), state)
@@ -197,7 +201,7 @@ impl Groups {
     /// The number of IPv4 groups, in any state.
     pub fn ipv4_count(&self) -> usize
         ensures value { result ≡ length (ipv4_groups self.now) }
-        ensures fits { result ≤ IFACE_MAX_MULTICAST_GROUP_COUNT }
+        ensures fits { result ≤ MAX_GROUP_COUNT }
     {
         ipv4_count(self.entries.as_slice())
     }
@@ -205,7 +209,7 @@ impl Groups {
     /// The IPv4 group of an index among the IPv4 groups, in any state, counted from 0.
     pub fn nth_ipv4(&self, n: usize) -> Option<Ipv4Address>
         ensures value { result ≡ slice_get (ipv4_groups self.now) n }
-        ensures within { IsSome result → n < IFACE_MAX_MULTICAST_GROUP_COUNT }
+        ensures within { IsSome result → n < MAX_GROUP_COUNT }
     {
         nth_ipv4(self.entries.as_slice(), n)
     }
@@ -260,7 +264,7 @@ fn find(groups: &[Group], group: &IpAddress) -> (usize, Option<GroupState>)
 
 // Changes the state of the group at an index.
 fn set_state(
-    entries: &mut ArrayVec<Group, IFACE_MAX_MULTICAST_GROUP_COUNT>,
+    entries: &mut ArrayVec<Group, MAX_GROUP_COUNT>,
     group: &IpAddress,
     index: usize,
     state: GroupState,
@@ -280,11 +284,7 @@ fn set_state(
 }
 
 // Removes the group at an index. The last one moves into the gap.
-fn take_out(
-    entries: &mut ArrayVec<Group, IFACE_MAX_MULTICAST_GROUP_COUNT>,
-    group: &IpAddress,
-    index: usize,
-)
+fn take_out(entries: &mut ArrayVec<Group, MAX_GROUP_COUNT>, group: &IpAddress, index: usize)
     requires index { index ≡ index_of entries.old.items group.now }
     requires within { index < length entries.old.items }
     requires distinct { AreDistinct entries.old.items }
@@ -296,16 +296,18 @@ fn take_out(
 
 // Appends a group that isn't there, if there is room.
 fn append(
-    entries: &mut ArrayVec<Group, IFACE_MAX_MULTICAST_GROUP_COUNT>,
+    entries: &mut ArrayVec<Group, MAX_GROUP_COUNT>,
     group: IpAddress,
+    room: usize,
 ) -> Result<(), GroupTableFull>
+    requires room { room ≤ MAX_GROUP_COUNT }
     requires absent { state_of entries.old.items group ≡ None }
     requires distinct { AreDistinct entries.old.items }
-    ensures answer { result ≡ done_or_full entries.old.items group }
-    ensures groups { entries.new.items ≡ groups_after_join entries.old.items group }
+    ensures answer { result ≡ done_or_full room entries.old.items group }
+    ensures groups { entries.new.items ≡ groups_after_join room entries.old.items group }
     ensures distinct { AreDistinct entries.new.items }
 {
-    if entries.is_full() {
+    if entries.len() >= room {
         return Err(GroupTableFull);
     }
     entries.push(Group::new(group));
@@ -314,17 +316,19 @@ fn append(
 
 // Joins a group.
 fn join_in(
-    entries: &mut ArrayVec<Group, IFACE_MAX_MULTICAST_GROUP_COUNT>,
+    entries: &mut ArrayVec<Group, MAX_GROUP_COUNT>,
     group: IpAddress,
+    room: usize,
 ) -> Result<(), GroupTableFull>
-    requires { AreDistinct entries.old.items }
-    ensures answer { result ≡ done_or_full entries.old.items group }
-    ensures groups { entries.new.items ≡ groups_after_join entries.old.items group }
+    requires room { room ≤ MAX_GROUP_COUNT }
+    requires distinct { AreDistinct entries.old.items }
+    ensures answer { result ≡ done_or_full room entries.old.items group }
+    ensures groups { entries.new.items ≡ groups_after_join room entries.old.items group }
     ensures distinct { AreDistinct entries.new.items }
 {
     let (index, state) = find(entries.as_slice(), &group);
     match state {
-        None => append(entries, group),
+        None => append(entries, group, room),
         Some(GroupState::Joining | GroupState::Joined) => Ok(()),
         Some(GroupState::Leaving) => {
             set_state(entries, &group, index, GroupState::Joined);
@@ -334,7 +338,7 @@ fn join_in(
 }
 
 // Leaves a group.
-fn leave_in(entries: &mut ArrayVec<Group, IFACE_MAX_MULTICAST_GROUP_COUNT>, group: &IpAddress)
+fn leave_in(entries: &mut ArrayVec<Group, MAX_GROUP_COUNT>, group: &IpAddress)
     requires { AreDistinct entries.old.items }
     ensures groups { entries.new.items ≡ groups_after_leave entries.old.items group.now }
     ensures distinct { AreDistinct entries.new.items }
@@ -348,10 +352,7 @@ fn leave_in(entries: &mut ArrayVec<Group, IFACE_MAX_MULTICAST_GROUP_COUNT>, grou
 }
 
 // Records that the join of a group was reported.
-fn join_reported_in(
-    entries: &mut ArrayVec<Group, IFACE_MAX_MULTICAST_GROUP_COUNT>,
-    group: &IpAddress,
-)
+fn join_reported_in(entries: &mut ArrayVec<Group, MAX_GROUP_COUNT>, group: &IpAddress)
     requires { AreDistinct entries.old.items }
     ensures groups { entries.new.items ≡ join_reported entries.old.items group.now }
     ensures distinct { AreDistinct entries.new.items }
@@ -364,10 +365,7 @@ fn join_reported_in(
 }
 
 // Records that the leave of a group was reported.
-fn leave_reported_in(
-    entries: &mut ArrayVec<Group, IFACE_MAX_MULTICAST_GROUP_COUNT>,
-    group: &IpAddress,
-)
+fn leave_reported_in(entries: &mut ArrayVec<Group, MAX_GROUP_COUNT>, group: &IpAddress)
     requires { AreDistinct entries.old.items }
     ensures groups { entries.new.items ≡ leave_reported entries.old.items group.now }
     ensures distinct { AreDistinct entries.new.items }

@@ -4,5 +4,7 @@
 pub mod groups;
 pub mod report;
 
-pub use groups::{Group, GroupState, GroupTableFull, Groups, IFACE_MAX_MULTICAST_GROUP_COUNT};
+pub use groups::{
+    Group, GroupState, GroupTableFull, Groups, IFACE_MAX_MULTICAST_GROUP_COUNT, MAX_GROUP_COUNT,
+};
 pub use report::{IgmpReportState, MldReportState};

@@ -12,7 +12,8 @@ use Rattle.ip_address.specs.declared.ipv6.Ipv6Address.{Ipv6Address}
 use Rattle.ip_address.specs.declared.cidr.IpCidr.TheVariants as cidr
 use Rattle.ip_address.specs.Cidr.{contains, prefix_len_of}
 use Rattle.ip_address.specs.declared.cidr.IpCidr.{IpCidr}
-use Rattle.std.proofs.lemmas.Bool.{cases_eq, cases_order}
+use Rattle.std.proofs.lemmas.Bool.{cases_eq, cases_order, eq-eqb}
+use Rattle.std.proofs.lemmas.Nat.Bits.{bit_at_ones}
 use Rattle.std.proofs.lemmas.Bool.Decides.{nat_tests}
 use Rattle.std.proofs.lemmas.Option.{slice_get_cases, slice_get_read, slice_get_within}
 use Rattle.ip_address.specs.declared.ip.IpAddress.{IpAddress}
@@ -94,17 +95,10 @@ ends_more rs old new i x within is first done t k r until lt there =
     ]
 
 -- the mask of all indices, where no route has expired
-pub all_live : (rs : List Route) (end : Option ℤ) (t : ℤ) → length rs ≤ 4 → AllLiveUntil rs end → is_until end t ≡ true → AreLive rs t 15
+pub all_live : (rs : List Route) (end : Option ℤ) (t : ℤ) → length rs ≤ 32 → AllLiveUntil rs end → is_until end t ≡ true → AreLive rs t 4294967295
 all_live rs end t few all until k r there =
     let lt = slice_get_within rs k r there in
-    has_each k (omega (arith, lt, few)) ∙ sym (all t k r until there)
-  where
-    has_each : (k : ℕ) → k < 4 → has_place 15 k ≡ true
-    has_each zero lt = refl
-    has_each (suc zero) lt = refl
-    has_each (suc (suc zero)) lt = refl
-    has_each (suc (suc (suc zero))) lt = refl
-    has_each (suc (suc (suc (suc k)))) lt = absurd (omega arith)
+    eq-eqb _ _ (bit_at_ones 32 k (omega (arith, lt, few))) ∙ sym (all t k r until there)
 
 pub live_all : (rs : List Route) (t : ℤ) (mask i : ℕ) → length rs ≤ i
     → ((k : ℕ) (r : Route) → k < i → slice_get rs k ≡ Some r → has_place mask k ≡ is_live r t) → AreLive rs t mask
@@ -172,9 +166,9 @@ ipv6_gateway_by h g =
     ap of (le_prop h (lit≤ tt))
 
 -- the first of a kind made room
-pub replaces_first : (is_kind : Route → Bool) (rs : List Route) (r old : Route) (i : ℕ) →
-    i ≡ position_or_len is_kind rs → Some old ≡ slice_get rs i → Replaces is_kind rs r (Ok (Some old)) (remove rs i ++ r ∷ [])
-replaces_first is_kind rs r old i at is =
+pub replaces_first : (room : ℕ) (is_kind : Route → Bool) (rs : List Route) (r old : Route) (i : ℕ) →
+    i ≡ position_or_len is_kind rs → Some old ≡ slice_get rs i → Replaces room is_kind rs r (Ok (Some old)) (remove rs i ++ r ∷ [])
+replaces_first room is_kind rs r old i at is =
     let f : first is_kind rs ≡ Some old = first_is is_kind rs ∙ ap (slice_get rs) (sym at) ∙ sym is in
     record { answers = rw f refl; leaves = rw (f, at) refl }
 
@@ -187,25 +181,25 @@ none_first : (is_kind : Route → Bool) (rs : List Route) (i : ℕ) → i ≡ po
 none_first is_kind rs i at is = first_is is_kind rs ∙ ap (slice_get rs) (sym at) ∙ sym is
 
 -- and there is room
-pub replaces_none : (is_kind : Route → Bool) (rs : List Route) (r : Route) (i : ℕ) →
-    i ≡ position_or_len is_kind rs → None ≡ slice_get rs i → length (remove rs i) < 4 → Replaces is_kind rs r (Ok None) (remove rs i ++ r ∷ [])
-replaces_none is_kind rs r i at is room =
+pub replaces_none : (room : ℕ) (is_kind : Route → Bool) (rs : List Route) (r : Route) (i : ℕ) →
+    i ≡ position_or_len is_kind rs → None ≡ slice_get rs i → length (remove rs i) < room → Replaces room is_kind rs r (Ok None) (remove rs i ++ r ∷ [])
+replaces_none room is_kind rs r i at is free =
     let f = none_first is_kind rs i at is in
     let kept = remove_none rs i is in
-    let n : nat_le 4 (length rs) ≡ false = small _ (rw kept at room) in
+    let n : nat_le room (length rs) ≡ false = small _ (rw kept at free) in
     record { answers = rw (f, n) refl; leaves = rw (f, n, at) refl }
   where
-    small : (n : ℕ) → n < 4 → nat_le 4 n ≡ false
+    small : (n : ℕ) → n < room → nat_le room n ≡ false
     small n h = grind (arith, nat_tests)
 
 -- or none
-pub replaces_nothing : (is_kind : Route → Bool) (rs : List Route) (r : Route) (i : ℕ) →
-    i ≡ position_or_len is_kind rs → None ≡ slice_get rs i → length (remove rs i) ≡ 4 → Replaces is_kind rs r (Err (record {})) (remove rs i)
-replaces_nothing is_kind rs r i at is full =
+pub replaces_nothing : (room : ℕ) (is_kind : Route → Bool) (rs : List Route) (r : Route) (i : ℕ) →
+    i ≡ position_or_len is_kind rs → None ≡ slice_get rs i → room ≤ length (remove rs i) → Replaces room is_kind rs r (Err (record {})) (remove rs i)
+replaces_nothing room is_kind rs r i at is full =
     let f = none_first is_kind rs i at is in
     let kept = remove_none rs i is in
-    let n : nat_le 4 (length rs) ≡ true = large _ (rw kept at full) in
+    let n : nat_le room (length rs) ≡ true = large _ (rw kept at full) in
     record { answers = rw (f, n) refl; leaves = rw (f, n) kept }
   where
-    large : (n : ℕ) → n ≡ 4 → nat_le 4 n ≡ true
+    large : (n : ℕ) → room ≤ n → nat_le room n ≡ true
     large n h = grind (arith, nat_tests)

@@ -8,12 +8,25 @@ use Rattle.std.proofs.Math.Nat.{div-eq_of_lt, sub-zero}
 use Rattle.ip_address.specs.declared.cidr.IpCidr.{IpCidr}
 use Rattle.iface_tables.specs.declared.route_trie.Beginning.{Beginning}
 use Rattle.iface_tables.specs.declared.route_trie.Network.{Network}
-use Rattle.iface_tables.specs.declared.route_trie.Node.{Node}
+use Rattle.iface_tables.specs.declared.route_trie.RouteNode.{RouteNode}
 use Rattle.ip_address.specs.Cidr.{prefix_len_of}
 use Rattle.ip_address.specs.declared.cidr.IpCidr.TheVariants as cidr
 use Rattle.std.specs.List.{position_or_len}
+use Rattle.std.proofs.lemmas.List.{get_or-map, length-map}
+use Rattle.iface_tables.specs.declared.route.Route.{Route}
+use Rattle.iface_tables.specs.Route.{cidrs}
 use Rattle.iface_tables.specs.RouteTrie.{HasNodes, IsNodeOf, begins, has_place, is_marked, is_whole, network_of, number, index_of, start_of}
 use Rattle.std.proofs.lemmas.Bool.Decides.{nat_tests}
+
+-- the prefixes of routes: as many, in the same order
+pub length_cidrs : (rs : List Route) → length (cidrs rs) ≡ length rs
+length_cidrs rs = length-map rs (λ r. r.cidr)
+
+pub cidr_there : (rs : List Route) (i : ℕ) (r : Route) → i < length rs → r ≡ get_or rs i r → (i < length (cidrs rs)) × (r.cidr ≡ get_or (cidrs rs) i r.cidr)
+cidr_there rs i r within is = (
+  omega (arith, within, length_cidrs rs),
+  ap (λ (x : Route). x.cidr) is ∙ sym (get_or-map (λ (x : Route). x.cidr) rs i r r.cidr within),
+)
 
 -- the prefix of no bit
 pub whole_root : (b : Beginning) (p : Network) → p.len ≡ 0 → p.len ≡ b.len → p.width ≡ b.width → p.bits < 2 ^ p.width →
@@ -67,10 +80,10 @@ short (cidr.Ipv4 n) = (n.in_range, omega arith, refl)
 short (cidr.Ipv6 n) = (n.in_range, omega arith, refl)
 
 -- one node more is written
-pub filled_more : (cidrs : List IpCidr) (p : Network) (ns : List Node) (base i : ℕ) (x : Node) →
+pub filled_more : (cidrs : List IpCidr) (p : Network) (ns : List RouteNode) (base i : ℕ) (x : RouteNode) →
     base + i < length ns → IsNodeOf cidrs (start_of p (i + 1)) x
-    → ((m : ℕ) (d : Node) → m < i → IsNodeOf cidrs (start_of p (m + 1)) (get_or ns (base + m) d))
-    → (m : ℕ) (d : Node) → m < i + 1 → IsNodeOf cidrs (start_of p (m + 1)) (get_or (slice_set ns (base + i) x) (base + m) d)
+    → ((m : ℕ) (d : RouteNode) → m < i → IsNodeOf cidrs (start_of p (m + 1)) (get_or ns (base + m) d))
+    → (m : ℕ) (d : RouteNode) → m < i + 1 → IsNodeOf cidrs (start_of p (m + 1)) (get_or (slice_set ns (base + i) x) (base + m) d)
 filled_more cidrs p ns base i x within node filled m d lt =
     elim (cases_eq m i) [
       | inl at ↦ rw (at, get_or-set_same ns (base + i) x d within) node
@@ -78,23 +91,23 @@ filled_more cidrs p ns base i x within node filled m d lt =
           rw (get_or-set_other ns (base + i) (base + m) x d apart) (filled m d (omega arith))
     ]
 
-pub has_nodes : (cidrs : List IpCidr) (ns : List Node) (place i : ℕ) (x : IpCidr) (p : Network) →
+pub has_nodes : (cidrs : List IpCidr) (ns : List RouteNode) (place i : ℕ) (x : IpCidr) (p : Network) →
     place < length cidrs → x ≡ get_or cidrs place x → p ≡ network_of x → p.len ≤ i
-    → ((m : ℕ) (d : Node) → m < i → IsNodeOf cidrs (start_of p (m + 1)) (get_or ns (2 + 128 * place + m) d)) → HasNodes ns cidrs place
+    → ((m : ℕ) (d : RouteNode) → m < i → IsNodeOf cidrs (start_of p (m + 1)) (get_or ns (2 + 128 * place + m) d)) → HasNodes ns cidrs place
 has_nodes cidrs ns place i x p within is net all filled c m d there lt =
     let e : x ≡ c = some_is _ _ (sym (slice_get_read cidrs (length cidrs) place x refl within is) ∙ there) in
     let n : p ≡ network_of c = net ∙ ap network_of e in
     let l : p.len ≡ (network_of c).len = ap (λ (q : Network). q.len) n in
     rw (← n) (filled m d (omega arith))
 
-pub nodes_kept : (cidrs : List IpCidr) (ns ms : List Node) (j place : ℕ) →
-    j < place → ((k : ℕ) (d : Node) → k ≤ 1 + 128 * place → get_or ms k d ≡ get_or ns k d) → HasNodes ns cidrs j → HasNodes ms cidrs j
+pub nodes_kept : (cidrs : List IpCidr) (ns ms : List RouteNode) (j place : ℕ) →
+    j < place → ((k : ℕ) (d : RouteNode) → k ≤ 1 + 128 * place → get_or ms k d ≡ get_or ns k d) → HasNodes ns cidrs j → HasNodes ms cidrs j
 nodes_kept cidrs ns ms j place before kept has c m d there lt =
     let s = short c in
     rw (kept (2 + 128 * j + m) d (omega (arith, s.0, s.1))) (has c m d there lt)
 
-pub nodes_more : (cidrs : List IpCidr) (ns ms : List Node) (place : ℕ) →
-    ((k : ℕ) (d : Node) → k ≤ 1 + 128 * place → get_or ms k d ≡ get_or ns k d) → HasNodes ms cidrs place → ((j : ℕ) → j < place → HasNodes ns cidrs j)
+pub nodes_more : (cidrs : List IpCidr) (ns ms : List RouteNode) (place : ℕ) →
+    ((k : ℕ) (d : RouteNode) → k ≤ 1 + 128 * place → get_or ms k d ≡ get_or ns k d) → HasNodes ms cidrs place → ((j : ℕ) → j < place → HasNodes ns cidrs j)
     → (j : ℕ) → j < place + 1 → HasNodes ms cidrs j
 nodes_more cidrs ns ms place kept here before j lt =
     elim (cases_eq j place) [
@@ -151,7 +164,7 @@ number_cases cidrs b =
     not_below : (m n : ℕ) → n ≤ m → nat_lt m n ≡ false
     not_below m n h = grind (arith, nat_tests)
 
-pub trie_others : (cidrs : List IpCidr) (ns : List Node) → ((j : ℕ) → j < length cidrs → HasNodes ns cidrs j) → (b : Beginning) (d : Node) →
+pub trie_others : (cidrs : List IpCidr) (ns : List RouteNode) → ((j : ℕ) → j < length cidrs → HasNodes ns cidrs j) → (b : Beginning) (d : RouteNode) →
     0 < b.len → 0 < number cidrs b → IsNodeOf cidrs b (get_or ns (number cidrs b) d)
 trie_others cidrs ns filled b d some there =
     elim (number_cases cidrs b) [

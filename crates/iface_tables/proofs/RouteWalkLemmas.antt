@@ -19,7 +19,7 @@ use Rattle.ip_address.specs.declared.cidr.IpCidr.{IpCidr}
 use Rattle.ip_address.specs.declared.cidr.IpCidr.TheVariants as cidr
 use Rattle.iface_tables.specs.declared.route_trie.Beginning.{Beginning}
 use Rattle.iface_tables.specs.declared.route_trie.Network.{Network}
-use Rattle.iface_tables.specs.declared.route_trie.Node.{Node}
+use Rattle.iface_tables.specs.declared.route_trie.RouteNode.{RouteNode}
 use Rattle.iface_tables.specs.RouteTrie.{AreNextBits, IsAt, IsBestBelow, IsBestPlace, IsCandidate, IsLastOf, IsLongest, IsNodeOf, IsTrieOf}
 use Rattle.iface_tables.specs.RouteTrie.{begins, has_place, host_of, is_marked, longer_of, network_of, number, index_of, root_of, shares, start_of}
 use Rattle.iface_tables.proofs.RouteMaskLemmas.{both_have, each_has, empty_has, empty_is}
@@ -140,18 +140,18 @@ mark_of a n c has len =
     rw (eq-eqb _ _ l, t) refl
 
 -- a candidate with as many bits as the node is marked there, and the other way round
-is_marked_there : (cidrs : List IpCidr) (a : IpAddress) (live : ℕ) (n k : ℕ) (node : Node) → IsNodeOf cidrs (start_of (host_of a) n) node
+is_marked_there : (cidrs : List IpCidr) (a : IpAddress) (live : ℕ) (n k : ℕ) (node : RouteNode) → IsNodeOf cidrs (start_of (host_of a) n) node
     → IsCandidate cidrs a live k n → has_place node.places k ≡ true
 is_marked_there cidrs a live n k node is cand = is.marks k ∙ ap (is_marked (start_of (host_of a) n)) cand.is_there
     ∙ mark_of a n cand.prefix cand.is_match cand.len
 
-is_candidate : (cidrs : List IpCidr) (a : IpAddress) (live : ℕ) (n k : ℕ) (node : Node) → IsNodeOf cidrs (start_of (host_of a) n) node
+is_candidate : (cidrs : List IpCidr) (a : IpAddress) (live : ℕ) (n k : ℕ) (node : RouteNode) → IsNodeOf cidrs (start_of (host_of a) n) node
     → has_place node.places k ≡ true → has_place live k ≡ true → IsCandidate cidrs a live k n
 is_candidate cidrs a live n k node is mark alive =
     let m = marked a n (slice_get cidrs k) (sym (is.marks k) ∙ mark) in
     record { prefix = m.0; is_there = m.1; is_match = m.2; is_live = alive; len = m.3 }
 
-no_candidate : (cidrs : List IpCidr) (a : IpAddress) (live i k : ℕ) (node : Node) →
+no_candidate : (cidrs : List IpCidr) (a : IpAddress) (live i k : ℕ) (node : RouteNode) →
     IsNodeOf cidrs (start_of (host_of a) i) node → bit_and node.places live ≡ 0
     → IsCandidate cidrs a live k i → ⊥
 no_candidate cidrs a live i k node is none cand =
@@ -161,7 +161,7 @@ no_candidate cidrs a live i k node is none cand =
     cc
 
 -- where a node has no live place, nothing changes
-keeps_best : (cidrs : List IpCidr) (a : IpAddress) (live i : ℕ) (node : Node) (best : Option ℕ) → IsNodeOf cidrs (start_of (host_of a) i) node
+keeps_best : (cidrs : List IpCidr) (a : IpAddress) (live i : ℕ) (node : RouteNode) (best : Option ℕ) → IsNodeOf cidrs (start_of (host_of a) i) node
     → bit_and node.places live ≡ 0 → IsBestBelow cidrs a live i best → IsBestBelow cidrs a live (i + 1) best
 keeps_best cidrs a live i node None is none old = λ k n cand lt.
     elim (cases_eq n i) [
@@ -180,7 +180,7 @@ keeps_best cidrs a live i node (Some place) is none old = (
 )
 
 -- where it has one, the last is the best
-takes_best : (cidrs : List IpCidr) (a : IpAddress) (live i : ℕ) (node : Node) (best : Option ℕ) → IsNodeOf cidrs (start_of (host_of a) i) node
+takes_best : (cidrs : List IpCidr) (a : IpAddress) (live i : ℕ) (node : RouteNode) (best : Option ℕ) → IsNodeOf cidrs (start_of (host_of a) i) node
     → bit_and node.places live ≢ 0 → IsLastOf (bit_and node.places live) best → IsBestBelow cidrs a live (i + 1) best
 takes_best cidrs a live i node None is some last = absurd (some (empty_is (bit_and node.places live) last))
 takes_best cidrs a live i node (Some place) is some last = (
@@ -199,7 +199,7 @@ takes_best cidrs a live i node (Some place) is some last = (
 )
 
 -- one node more
-best_more : (cidrs : List IpCidr) (a : IpAddress) (live i : ℕ) (node : Node) (mask : ℕ) → IsNodeOf cidrs (start_of (host_of a) i) node
+best_more : (cidrs : List IpCidr) (a : IpAddress) (live i : ℕ) (node : RouteNode) (mask : ℕ) → IsNodeOf cidrs (start_of (host_of a) i) node
     → ((best : Option ℕ) → IsLastOf mask best → IsBestBelow cidrs a live i best)
     → (best : Option ℕ) → IsLastOf (cond (bit_and node.places live == 0) mask (bit_and node.places live)) best → IsBestBelow cidrs a live (i + 1) best
 best_more cidrs a live i node mask is old best last =
@@ -212,7 +212,7 @@ best_more cidrs a live i node mask is old best last =
     ]
 
 -- and the first
-best_first : (cidrs : List IpCidr) (a : IpAddress) (live : ℕ) (node : Node) → IsNodeOf cidrs (start_of (host_of a) 0) node → (best : Option ℕ)
+best_first : (cidrs : List IpCidr) (a : IpAddress) (live : ℕ) (node : RouteNode) → IsNodeOf cidrs (start_of (host_of a) 0) node → (best : Option ℕ)
     → IsLastOf (bit_and node.places live) best → IsBestBelow cidrs a live 1 best
 best_first cidrs a live node is best last =
     elim (cases_eq (bit_and node.places live) 0) [
@@ -242,7 +242,7 @@ pub ends_best : (cidrs : List IpCidr) (a : IpAddress) (live : ℕ) (i : ℕ) (be
 ends_best cidrs a live i None none best = λ k n cand. best k n cand (within cidrs a live i none k n cand)
 ends_best cidrs a live i (Some place) none best = (best.0, best.1, λ k m cand. best.2 k m cand (within cidrs a live i none k m cand))
 
-pub ends_longest : {cidrs : List IpCidr} {a : IpAddress} {live i : ℕ} {node : Node} {mask steps : ℕ} → NoneShares cidrs a i
+pub ends_longest : {cidrs : List IpCidr} {a : IpAddress} {live i : ℕ} {node : RouteNode} {mask steps : ℕ} → NoneShares cidrs a i
     → IsAt cidrs a live i node mask steps → IsLongest cidrs a i
 ends_longest none at = record { shared = at.shared; most = none }
 
@@ -264,15 +264,15 @@ none_longer cidrs a i zero_number k m c there h =
     ]
 
 -- the number that a node has for the next bit
-child_is : (cidrs : List IpCidr) (p : Network) (i bit : ℕ) (node : Node) → IsNodeOf cidrs (start_of p i) node → i < p.width
+child_is : (cidrs : List IpCidr) (p : Network) (i bit : ℕ) (node : RouteNode) → IsNodeOf cidrs (start_of p i) node → i < p.width
     → bit ≡ bit_at p.bits (p.width - 1 - i) → slice_index node.next bit ≡ number cidrs (start_of p (i + 1))
 child_is cidrs p i bit node is lt at =
     is.next bit (omega (arith, bit_at-lt p.bits (p.width - 1 - i))) ∙ ap (λ (b : ℕ). number cidrs (longer_of (start_of p i) b)) at
     ∙ ap (number cidrs) (longer_start p i lt)
 
--- the number of a node is one of the pool's
-pub within_pool : (cidrs : List IpCidr) (b : Beginning) → length cidrs ≤ 4 → number cidrs b < 514
-within_pool cidrs b few =
+-- the number of a node is below that of all nodes
+pub within_pool : (cidrs : List IpCidr) (b : Beginning) → number cidrs b < 2 + 128 * length cidrs
+within_pool cidrs b =
     elim (number_cases cidrs b) [
       | inl here ↦
           let first = first_passes (λ c. begins b (network_of c)) cidrs here.0 in
@@ -284,7 +284,7 @@ within_pool cidrs b few =
     ]
 
 -- where a walk may go on: j of the next bits are passed, and a number has the others on top
-pub child_at : {cidrs : List IpCidr} {a : IpAddress} {live : ℕ} (i j : ℕ) {count leading : ℕ} (bits : ℕ) {node : Node} {mask steps : ℕ}
+pub child_at : {cidrs : List IpCidr} {a : IpAddress} {live : ℕ} (i j : ℕ) {count leading : ℕ} (bits : ℕ) {node : RouteNode} {mask steps : ℕ}
     → IsAt cidrs a live (i + j) node mask steps → AreNextBits a i count leading → j < count → bits ≡ leading * 2 ^ j % 2 ^ 64
     → slice_index node.next (bits / 2 ^ 63) ≡ number cidrs (start_of (host_of a) (i + j + 1))
 child_at {cidrs} {a} i j {leading = leading} bits {node} at next lt is =
@@ -295,13 +295,13 @@ child_at {cidrs} {a} i j {leading = leading} bits {node} at next lt is =
     ∙ next.same j lt in
     child_is cidrs (host_of a) (i + j) (bits / 2 ^ 63) node at.node_is (omega arith) bit
 
-pub child_within : {cidrs : List IpCidr} {ns : List Node} (a : IpAddress) (n : ℕ) {child : ℕ} → IsTrieOf ns cidrs
+pub child_within : {cidrs : List IpCidr} {ns : List RouteNode} (a : IpAddress) (n : ℕ) {child : ℕ} → IsTrieOf ns cidrs
     → child ≡ number cidrs (start_of (host_of a) n)
-    → child < 514
-child_within {cidrs} a n trie is = let lt = within_pool cidrs (start_of (host_of a) n) trie.few in omega arith
+    → child < length ns
+child_within {cidrs} a n trie is = let lt = within_pool cidrs (start_of (host_of a) n) in omega (arith, lt, trie.fits)
 
 -- one bit further
-step : (cidrs : List IpCidr) (ns : List Node) (a : IpAddress) (live n child : ℕ) (node next : Node) (mask steps : ℕ) → IsTrieOf ns cidrs
+step : (cidrs : List IpCidr) (ns : List RouteNode) (a : IpAddress) (live n child : ℕ) (node next : RouteNode) (mask steps : ℕ) → IsTrieOf ns cidrs
     → IsAt cidrs a live n node mask steps
     → child ≡ number cidrs (start_of (host_of a) (n + 1)) → child ≢ 0 → next ≡ get_or ns child next
     → IsAt cidrs a live (n + 1) next (cond (bit_and next.places live == 0) mask (bit_and next.places live)) (steps + 1)
@@ -320,8 +320,8 @@ step cidrs ns a live n child node next mask steps trie at is some read =
       counted = (let c = at.counted in omega arith);
     }
 
-pub one_further : {cidrs : List IpCidr} {ns : List Node} {a : IpAddress} {live : ℕ} (i j : ℕ) {child : ℕ}
-    {node next : Node} {mask more steps counted : ℕ}
+pub one_further : {cidrs : List IpCidr} {ns : List RouteNode} {a : IpAddress} {live : ℕ} (i j : ℕ) {child : ℕ}
+    {node next : RouteNode} {mask more steps counted : ℕ}
     → IsTrieOf ns cidrs → IsAt cidrs a live (i + j) node mask steps
     → child ≡ number cidrs (start_of (host_of a) (i + j + 1)) → child ≢ 0 → next ≡ get_or ns child next
     → more ≡ cond (bit_and next.places live == 0) mask (bit_and next.places live) → counted ≡ steps + 1
@@ -331,7 +331,7 @@ one_further {cidrs} {ns} {a} {live} i j {child} {node} {next} {mask} {steps = st
     rw (e, better, count) (step cidrs ns a live (i + j) child node next mask steps trie at is some read)
 
 -- at the root
-root_is : (cidrs : List IpCidr) (a : IpAddress) (live : ℕ) (node : Node) → IsNodeOf cidrs (start_of (host_of a) 0) node
+root_is : (cidrs : List IpCidr) (a : IpAddress) (live : ℕ) (node : RouteNode) → IsNodeOf cidrs (start_of (host_of a) 0) node
     → IsAt cidrs a live 0 node (bit_and node.places live) 1
 root_is cidrs a live node is = record {
   node_is = is;
@@ -340,7 +340,7 @@ root_is cidrs a live node is = record {
   counted = refl;
 }
 
-pub ipv4_root : {cidrs : List IpCidr} {ns : List Node} (x : Ipv4Address) {live : ℕ} {node : Node} {mask none steps : ℕ} →
+pub ipv4_root : {cidrs : List IpCidr} {ns : List RouteNode} (x : Ipv4Address) {live : ℕ} {node : RouteNode} {mask none steps : ℕ} →
     IsTrieOf ns cidrs → x.bits < 2 ^ 32
     → node ≡ get_or ns 0 node → mask ≡ bit_and node.places live → none ≡ 0 → steps ≡ none + 1 → IsAt cidrs (Ipv4 x) live 0 node mask steps
 ipv4_root {cidrs} {ns} x {live} {node} trie fits read best first count =
@@ -349,7 +349,7 @@ ipv4_root {cidrs} {ns} x {live} {node} trie fits read best first count =
     subst (λ (b : Beginning). IsNodeOf cidrs b (get_or ns 0 node)) (start_none p fits) (trie.ipv4 node) in
     rw (best, count, first) (root_is cidrs (Ipv4 x) live node (subst (IsNodeOf cidrs (start_of p 0)) (sym read) at))
 
-pub ipv6_root : {cidrs : List IpCidr} {ns : List Node} (x : Ipv6Address) {live : ℕ} {node : Node} {mask none steps : ℕ} →
+pub ipv6_root : {cidrs : List IpCidr} {ns : List RouteNode} (x : Ipv6Address) {live : ℕ} {node : RouteNode} {mask none steps : ℕ} →
     IsTrieOf ns cidrs → x.bits < 2 ^ 128
     → node ≡ get_or ns 1 node → mask ≡ bit_and node.places live → none ≡ 0 → steps ≡ none + 1 → IsAt cidrs (Ipv6 x) live 0 node mask steps
 ipv6_root {cidrs} {ns} x {live} {node} trie fits read best first count =
@@ -359,14 +359,14 @@ ipv6_root {cidrs} {ns} x {live} {node} trie fits read best first count =
     rw (best, count, first) (root_is cidrs (Ipv6 x) live node (subst (IsNodeOf cidrs (start_of p 0)) (sym read) at))
 
 -- where it goes on
-pub at_middle : {cidrs : List IpCidr} {a : IpAddress} {live : ℕ} (i count : ℕ) {node : Node} {mask steps : ℕ} (over : Bool) → over ≡ false
+pub at_middle : {cidrs : List IpCidr} {a : IpAddress} {live : ℕ} (i count : ℕ) {node : RouteNode} {mask steps : ℕ} (over : Bool) → over ≡ false
     → ((n : ℕ) × IsAt cidrs a live n node mask steps × OnTrue over (IsLongest cidrs a n) × OnFalse over (n ≡ i + count))
     → IsAt cidrs a live (i + count) node mask steps
 at_middle i count true on w = absurd (true≢false on)
 at_middle {cidrs} {a} {live} i count {node} {mask} {steps} false on w = subst (λ (n : ℕ). IsAt cidrs a live n node mask steps) w.3 w.1
 
 -- at the last bit
-pub at_end : {cidrs : List IpCidr} {a : IpAddress} {live : ℕ} (i count : ℕ) {node : Node} {mask steps : ℕ} (over : Bool) →
+pub at_end : {cidrs : List IpCidr} {a : IpAddress} {live : ℕ} (i count : ℕ) {node : RouteNode} {mask steps : ℕ} (over : Bool) →
     (host_of a).width ≤ i + count
     → ((n : ℕ) × IsAt cidrs a live n node mask steps × OnTrue over (IsLongest cidrs a n) × OnFalse over (n ≡ i + count))
     → (n : ℕ) × IsAt cidrs a live n node mask steps × IsLongest cidrs a n

@@ -3,6 +3,7 @@ pub mod Neighbor
 pub mod Place
 pub mod PlaceLends
 pub mod Route
+pub mod RouteNodes
 pub mod RouteTrie
 pub mod Store
 pub mod StoreLends

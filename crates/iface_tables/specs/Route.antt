@@ -1,6 +1,6 @@
 -- Routes (RFC 1122 3.3.1, RFC 4632 5.1): of those that match an address, the one with the longest prefix is used.
-use Rattle.std.specs.Prelude.{◌≡◌, ℕ, ◌<◌, ◌≤◌, ◌==◌, ◌&&◌, nat_le, ℤ, Bool, true, false, is_none, if◌then◌else◌}
-use Rattle.std.specs.Prelude.{List, [], ◌∷◌, ◌++◌, length, map, slice_get, Option, Some, None, Result, Ok, Err}
+use Rattle.std.specs.Prelude.{◌≡◌, ℕ, ◌+◌, ◌-◌, ◌*◌, ◌/◌, ◌<◌, ◌≤◌, ◌==◌, ◌&&◌, nat_le, min, ℤ, Bool, true, false, is_none, if◌then◌else◌}
+use Rattle.std.specs.Prelude.{List, [], ◌∷◌, ◌++◌, length, map, slice_get, take, Option, Some, None, Result, Ok, Err}
 use Rattle.std.specs.List.{find, position_or_len, remove}
 use Rattle.std.specs.Ordering.{int_cmp, is_le}
 use Rattle.std.proofs.Common.{lit≤}
@@ -14,11 +14,29 @@ use Rattle.ip_address.specs.declared.cidr.IpCidr.{IpCidr}
 use Rattle.ip_address.specs.declared.cidr.IpCidr.TheVariants.{Ipv4, Ipv6}
 use Rattle.iface_tables.specs.declared.route.Route.{Route}
 use Rattle.iface_tables.specs.declared.route.RouteTableFull.{RouteTableFull}
-use Rattle.iface_tables.specs.RouteTrie.{has_place}
+use Rattle.iface_tables.specs.declared.route_trie.RouteNode.{RouteNode}
+use Rattle.iface_tables.specs.RouteTrie.{IsTrieOf, has_place}
+use Rattle.iface_tables.specs.Store.{Stored}
 
 -- a list of at most four routes, as it is passed to a call
 abbrev pub Storage : Type 0
 Storage = ArrayVec Route
+
+-- the first four routes, or all if there are no more
+abbrev pub first_four : List Route → List Route
+first_four rs = take 4 rs
+
+abbrev pub FirstFourAreAll : Type 0
+FirstFourAreAll = (rs : List Route) → length rs ≤ 4 → first_four rs ≡ rs
+
+-- how many routes storage has room for, by its capacity for routes and for nodes: a route takes 128 nodes, two more are
+-- for the roots, and a mask of routes has 32 bits
+abbrev pub least_room : ℕ → ℕ → ℕ
+least_room routes nodes = min (min routes ((nodes - 2) / 128)) 32
+
+-- how many there is room for over this storage: as many, or four if that is none
+abbrev pub route_room_over : ℕ → ℕ → ℕ
+route_room_over routes nodes = if least_room routes nodes == 0 then 4 else least_room routes nodes
 
 -- whether a lifetime has not ended at t: it includes its end, or lasts forever
 abbrev pub is_until : Option ℤ → ℤ → Bool
@@ -91,6 +109,17 @@ AreLive rs t live = (k : ℕ) (r : Route) → slice_get rs k ≡ Some r → has_
 abbrev pub AllLiveUntil : List Route → Option ℤ → Type 0
 AllLiveUntil rs end = (t : ℤ) (k : ℕ) (r : Route) → is_until end t ≡ true → slice_get rs k ≡ Some r → is_live r t ≡ true
 
+-- what always holds of a table's routes, of their trie, of how many there is room for, and of the end until which all
+-- are live: there is room in the storage and in the nodes, also for four
+pub record AreKept (nodes : List RouteNode) (stored : Stored Route) (room : ℕ) (end : Option ℤ) : Type 0 where
+  pub trie : IsTrieOf nodes (cidrs stored.items)
+  pub live : AllLiveUntil stored.items end
+  pub most : room ≤ 32
+  pub routes : room ≤ stored.room
+  pub four_routes : 4 ≤ stored.room
+  pub fits : 2 + 128 * room ≤ length nodes
+  pub fits_four : 2 + 128 * 4 ≤ length nodes
+
 -- the route at an index, if there is one
 abbrev pub route_at : List Route → Option ℕ → Option Route
 route_at rs None = None
@@ -133,20 +162,20 @@ first is_kind rs = find is_kind rs
 abbrev pub without_first : (Route → Bool) → List Route → List Route
 without_first is_kind rs = remove rs (position_or_len is_kind rs)
 
--- whether a route is refused: the table is full, and there is none of its kind to replace
-abbrev pub is_refused : (Route → Bool) → List Route → Bool
-is_refused is_kind rs = is_none (first is_kind rs) && nat_le 4 (length rs)
+-- whether a route is refused in a table with this room: it is full, and there is none of its kind to replace
+abbrev pub is_refused : ℕ → (Route → Bool) → List Route → Bool
+is_refused room is_kind rs = is_none (first is_kind rs) && nat_le room (length rs)
 
 -- the answer of a call that replaces the first route of a kind
-abbrev pub old_or_full : (Route → Bool) → List Route → Result (Option Route) RouteTableFull
-old_or_full is_kind rs = if is_refused is_kind rs then Err (record {}) else Ok (first is_kind rs)
+abbrev pub old_or_full : ℕ → (Route → Bool) → List Route → Result (Option Route) RouteTableFull
+old_or_full room is_kind rs = if is_refused room is_kind rs then Err (record {}) else Ok (first is_kind rs)
 
 -- the table with a route appended, in place of the first of its kind
-abbrev pub with_default : (Route → Bool) → List Route → Route → List Route
-with_default is_kind rs r = if is_refused is_kind rs then rs else without_first is_kind rs ++ r ∷ []
+abbrev pub with_default : ℕ → (Route → Bool) → List Route → Route → List Route
+with_default room is_kind rs r = if is_refused room is_kind rs then rs else without_first is_kind rs ++ r ∷ []
 
 -- a route replaces the first of its kind
-pub record Replaces (is_kind : Route → Bool) (old : List Route) (r : Route)
+pub record Replaces (room : ℕ) (is_kind : Route → Bool) (old : List Route) (r : Route)
     (answer : Result (Option Route) RouteTableFull) (new : List Route) : Type 0 where
-  pub answers : answer ≡ old_or_full is_kind old
-  pub leaves : new ≡ with_default is_kind old r
+  pub answers : answer ≡ old_or_full room is_kind old
+  pub leaves : new ≡ with_default room is_kind old r

@@ -11,7 +11,7 @@ use Rattle.ip_address.specs.declared.cidr.IpCidr.{IpCidr}
 use Rattle.ip_address.specs.declared.cidr.IpCidr.TheVariants as cidr
 use Rattle.iface_tables.specs.declared.route_trie.Beginning.{Beginning}
 use Rattle.iface_tables.specs.declared.route_trie.Network.{Network}
-use Rattle.iface_tables.specs.declared.route_trie.Node.{Node}
+use Rattle.iface_tables.specs.declared.route_trie.RouteNode.{RouteNode}
 
 -- a prefix by its numbers: the width of its family's addresses, the address, and the prefix length
 abbrev pub network_of : IpCidr → Network
@@ -70,21 +70,22 @@ IsLastOf mask None = (k : ℕ) → has_place mask k ≡ false
 IsLastOf mask (Some place) = (has_place mask place ≡ true) × ((k : ℕ) → has_place mask k ≡ true → k ≤ place)
 
 -- the node of a beginning links to those that are one bit longer, and marks the indices of the prefixes that equal it
-pub record IsNodeOf (cidrs : List IpCidr) (b : Beginning) (node : Node) : Type 0 where
+pub record IsNodeOf (cidrs : List IpCidr) (b : Beginning) (node : RouteNode) : Type 0 where
   pub next : (bit : ℕ) → bit < 2 → slice_index node.next bit ≡ number cidrs (longer_of b bit)
   pub marks : (k : ℕ) → has_place node.places k ≡ is_marked b (slice_get cidrs k)
 
 -- the trie of these prefixes: its roots, and a node for each beginning of one
-pub record IsTrieOf (nodes : List Node) (cidrs : List IpCidr) : Type 0 where
-  pub few : length cidrs ≤ 4
-  pub ipv4 : (d : Node) → IsNodeOf cidrs (root_of 32) (slice_index_or nodes 0 d)
-  pub ipv6 : (d : Node) → IsNodeOf cidrs (root_of 128) (slice_index_or nodes 1 d)
-  pub others : (b : Beginning) (d : Node) →
+pub record IsTrieOf (nodes : List RouteNode) (cidrs : List IpCidr) : Type 0 where
+  pub few : length cidrs ≤ 32
+  pub fits : 2 + 128 * length cidrs ≤ length nodes
+  pub ipv4 : (d : RouteNode) → IsNodeOf cidrs (root_of 32) (slice_index_or nodes 0 d)
+  pub ipv6 : (d : RouteNode) → IsNodeOf cidrs (root_of 128) (slice_index_or nodes 1 d)
+  pub others : (b : Beginning) (d : RouteNode) →
       0 < b.len → 0 < number cidrs b → IsNodeOf cidrs b (slice_index_or nodes (number cidrs b) d)
 
 -- the nodes of the prefix at an index are those of its beginnings
-abbrev pub HasNodes : List Node → List IpCidr → ℕ → Type 0
-HasNodes nodes cidrs place = (c : IpCidr) (m : ℕ) (d : Node) → slice_get cidrs place ≡ Some c → m < (network_of c).len →
+abbrev pub HasNodes : List RouteNode → List IpCidr → ℕ → Type 0
+HasNodes nodes cidrs place = (c : IpCidr) (m : ℕ) (d : RouteNode) → slice_get cidrs place ≡ Some c → m < (network_of c).len →
     IsNodeOf cidrs (start_of (network_of c) (m + 1)) (slice_index_or nodes (2 + 128 * place + m) d)
 
 -- the prefix at an index is live, has n bits, and the address begins with them
@@ -118,7 +119,7 @@ pub record IsLongest (cidrs : List IpCidr) (a : IpAddress) (n : ℕ) : Type 0 wh
 
 -- a walk has followed i bits of an address, by 1 + i nodes: it is at the node of these bits, and the last index in its
 -- mask is the best so far
-pub record IsAt (cidrs : List IpCidr) (a : IpAddress) (live i : ℕ) (node : Node) (mask steps : ℕ) : Type 0 where
+pub record IsAt (cidrs : List IpCidr) (a : IpAddress) (live i : ℕ) (node : RouteNode) (mask steps : ℕ) : Type 0 where
   pub node_is : IsNodeOf cidrs (start_of (host_of a) i) node
   pub best_is : (place : Option ℕ) → IsLastOf mask place → IsBestBelow cidrs a live (i + 1) place
   pub shared : 0 < i → (k : ℕ) × (c : IpCidr) × (slice_get cidrs k ≡ Some c) × (shares c a i ≡ true)

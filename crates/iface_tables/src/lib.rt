@@ -3,5 +3,6 @@
 
 pub mod neighbor;
 pub mod route;
+mod route_nodes;
 pub mod route_trie;
 pub mod store;

@@ -9,20 +9,25 @@ ghost use Rattle.std.specs.Int.RustNames.{bit_and};
 ghost use Rattle.std.specs.Bool.{OnFalse, OnTrue};
 ghost use Rattle.ip_address.specs.declared.cidr.IpCidr.{IpCidr};
 ghost use Rattle.ip_address.specs.declared.ip.IpAddress.{IpAddress};
-ghost use Rattle.iface_tables.specs.declared.route_trie.Node.{Node};
+ghost use Rattle.iface_tables.specs.declared.route_trie.RouteNode.{RouteNode};
+ghost use Rattle.iface_tables.specs.Route.{cidrs};
 ghost use Rattle.iface_tables.specs.RouteTrie as spec;
 ghost use Rattle.iface_tables.specs.RouteTrie.{AreNextBits, HasNodes, IsAt, IsBestPlace, IsLastOf};
 ghost use Rattle.iface_tables.specs.RouteTrie.{IsLongest, IsNodeOf, IsTrieOf, begins, has_place, is_marked};
 ghost use Rattle.iface_tables.specs.RouteTrie.{is_whole, longer_of, number, index_of, root_of, start_of};
 
+use crate::route::Route;
 use ip_wire::{IpAddress, IpCidr};
 use std::marker::Model;
 
-/// The maximum number of prefixes in a trie.
-pub const ROUTE_TRIE_PLACE_COUNT: usize = 4;
+/// The maximum number of prefixes in a trie: a mask of their indices has 32 bits.
+pub const ROUTE_TRIE_PLACE_COUNT: usize = 32;
 
-/// The number of nodes: two roots, and one for each bit of each prefix.
+/// How many nodes a table has in itself, for four routes.
 pub const ROUTE_TRIE_NODE_COUNT: usize = 514;
+
+// A walk reads a root and a node for each bit of an address.
+const READ_COUNT: usize = 129;
 
 /// How many nodes a walk read.
 #[derive(Clone, Copy, Debug, PartialEq, Eq)]
@@ -49,20 +54,31 @@ impl Steps {
     }
 }
 
-// A node: the numbers of the two nodes that are one bit longer, first the one for bit 0, where number 0 means none; and
-// the mask of the prefixes that equal it.
+/// A node of the trie of a table's routes. Storage for nodes is handed over beside that for routes, by
+/// [`Routes::set_storage`](crate::route::Routes::set_storage): 128 nodes for each route, and two more for the roots.
+// The numbers of the two nodes that are one bit longer, first the one for bit 0, where number 0 means none; and the mask
+// of the prefixes that equal it.
 #[derive(Clone, Copy)]
-struct Node {
+pub struct RouteNode {
     next: [u16; 2],
     places: u32,
+}
+
+impl Default for RouteNode {
+    fn default() -> RouteNode {
+        RouteNode {
+            next: [0; 2],
+            places: 0,
+        }
+    }
 }
 
 // The state of a walk: the node that it read last, the one of the longest live prefix so far, or else the root, and
 // whether no node follows.
 #[derive(Clone, Copy)]
 struct Walk<'t> {
-    node: &'t Node,
-    best: &'t Node,
+    node: &'t RouteNode,
+    best: &'t RouteNode,
     is_over: bool,
 }
 
@@ -82,147 +98,144 @@ struct Network {
     len: u8,
 }
 
-/// A trie of at most four prefixes.
-#[derive(Drop)]
-pub struct RouteTrie {
-    nodes: [Node; ROUTE_TRIE_NODE_COUNT],
+// As many nodes as a table has in itself, of a trie without prefixes.
+#[inline(always)]
+pub(crate) fn empty_nodes() -> [RouteNode; ROUTE_TRIE_NODE_COUNT]
+    ensures { IsTrieOf result [] }
+{
+    [RouteNode {
+        next: [0; 2],
+        places: 0,
+    }; ROUTE_TRIE_NODE_COUNT]
 }
 
-impl RouteTrie {
-    /// An empty trie.
-    pub fn new() -> RouteTrie
-        ensures { IsTrieOf result.nodes [] }
-    {
-        RouteTrie {
-            nodes: [Node {
-                next: [0; 2],
-                places: 0,
-            }; ROUTE_TRIE_NODE_COUNT],
+// Rebuilds the trie of these routes' prefixes, in the same order.
+pub(crate) fn build(nodes: &mut [RouteNode], routes: &[Route])
+    requires few { length routes.now ≤ ROUTE_TRIE_PLACE_COUNT }
+    requires fits { 2 + 128 * length routes.now ≤ length nodes.old }
+    ensures trie { IsTrieOf nodes.new (cidrs routes.now) }
+    ensures count { length nodes.new ≡ length nodes.old }
+{
+    nodes[0] = node_of(routes, &root_of(32));
+    nodes[1] = node_of(routes, &root_of(128));
+    for place in 0..routes.len() {
+        fill(nodes, routes, place);
+    }
+}
+
+// Looks up the best prefix for an address. Returns its index, and how many nodes were read. Among the prefixes that
+// contain the address and are in the mask of live ones, it is the longest, and of equal ones the last. The walk reads the
+// root, and a node for each further bit that a prefix shares with the address.
+pub(crate) fn best_place(
+    nodes: &[RouteNode],
+    address: &IpAddress,
+    live: u32,
+) -> (Option<usize>, Steps)
+    requires { (cidrs : List IpCidr) × IsTrieOf nodes.now cidrs }
+    ensures best { (cidrs : List IpCidr) →
+        IsTrieOf nodes.now cidrs → IsBestPlace cidrs address.now live result.0 }
+    ensures count { (cidrs : List IpCidr) →
+        IsTrieOf nodes.now cidrs → (n : ℕ) × IsLongest cidrs address.now n × (result.1 ≡ 1 + n) }
+{
+    let mut steps = Steps { count: 0 };
+    let end = end_of(nodes, address, live, &mut steps);
+    (last_marked(end.best.places & live), steps)
+}
+
+// Follows an address to its last bit, or to where no node follows.
+#[inline(always)]
+fn end_of<'t>(nodes: &'t [RouteNode], address: &IpAddress, live: u32, steps: &mut Steps) -> Walk<'t>
+    requires trie { (cidrs : List IpCidr) × IsTrieOf nodes.now cidrs }
+    requires first { steps.old ≡ 0 }
+    ensures { (cidrs : List IpCidr) → IsTrieOf nodes.now cidrs
+        → (n : ℕ) × IsAt cidrs address.now live n result.node.now (bit_and result.best.now.places live) steps.new
+        × IsLongest cidrs address.now n }
+{
+    match address {
+        IpAddress::Ipv4(address) => {
+            let root = start(nodes, 0, steps);
+            walk_on(nodes, root, u64::from(address.bits) << 32, 32, live, steps)
         }
-    }
-
-    /// Rebuilds the trie for these prefixes, of which there are at most four.
-    pub fn build(&mut self, cidrs: &[IpCidr])
-        requires { length cidrs.now ≤ ROUTE_TRIE_PLACE_COUNT }
-        ensures { IsTrieOf self.new.nodes cidrs.now }
-    {
-        self.nodes[0] = node_of(cidrs, &root_of(32));
-        self.nodes[1] = node_of(cidrs, &root_of(128));
-        for place in 0..cidrs.len() {
-            fill(&mut self.nodes, cidrs, place);
-        }
-    }
-
-    /// Looks up the best prefix for an address. Returns its index, and how many nodes were read. Among the prefixes
-    /// that contain the address and are in the mask of live ones, it is the longest, and of equal ones the last. The
-    /// walk reads the root, and a node for each further bit that a prefix shares with the address.
-    pub fn walk(&self, address: &IpAddress, live: u32) -> (Option<usize>, Steps)
-        requires { (cidrs : List IpCidr) × IsTrieOf self.now.nodes cidrs }
-        ensures best { (cidrs : List IpCidr) →
-            IsTrieOf self.now.nodes cidrs → IsBestPlace cidrs address.now live result.0 }
-        ensures count { (cidrs : List IpCidr) →
-            IsTrieOf self.now.nodes cidrs → (n : ℕ) × IsLongest cidrs address.now n × (result.1 ≡ 1 + n) }
-    {
-        let mut steps = Steps { count: 0 };
-        let end = self.end_of(address, live, &mut steps);
-        (last_marked(end.best.places & live), steps)
-    }
-
-    // Follows an address to its last bit, or to where no node follows.
-    #[inline(always)]
-    fn end_of(&self, address: &IpAddress, live: u32, steps: &mut Steps) -> Walk<'_>
-        requires trie { (cidrs : List IpCidr) × IsTrieOf self.now.nodes cidrs }
-        requires first { steps.old ≡ 0 }
-        ensures { (cidrs : List IpCidr) → IsTrieOf self.now.nodes cidrs
-            → (n : ℕ) × IsAt cidrs address.now live n result.node.now (bit_and result.best.now.places live) steps.new
-            × IsLongest cidrs address.now n }
-    {
-        match address {
-            IpAddress::Ipv4(address) => {
-                let root = self.start(0, steps);
-                self.walk_on(root, u64::from(address.bits) << 32, 32, live, steps)
+        IpAddress::Ipv6(address) => {
+            let root = start(nodes, 1, steps);
+            let middle = walk_on(nodes, root, first_half(address.bits), 64, live, steps);
+            if middle.is_over {
+                return middle;
             }
-            IpAddress::Ipv6(address) => {
-                let root = self.start(1, steps);
-                let middle = self.walk_on(root, first_half(address.bits), 64, live, steps);
-                if middle.is_over {
-                    return middle;
-                }
-                self.walk_on(middle, second_half(address.bits), 64, live, steps)
-            }
+            walk_on(nodes, middle, second_half(address.bits), 64, live, steps)
         }
     }
+}
 
-    // Reads a root, where the walk starts.
-    #[inline(always)]
-    fn start(&self, root: u16, steps: &mut Steps) -> Walk<'_>
-        requires within { root < ROUTE_TRIE_NODE_COUNT }
-        requires few { steps.old < ROUTE_TRIE_NODE_COUNT }
-        ensures node { result.node.now ≡ slice_index_or self.now.nodes root result.node.now }
-        ensures best { result.best.now ≡ result.node.now }
-        ensures counted { steps.new ≡ steps.old + 1 }
-    {
-        let node = self.visit(root, steps);
-        Walk {
-            node,
-            best: node,
-            is_over: false,
-        }
+// Reads a root, where the walk starts.
+#[inline(always)]
+fn start<'t>(nodes: &'t [RouteNode], root: u16, steps: &mut Steps) -> Walk<'t>
+    requires within { root < length nodes.now }
+    requires few { steps.old < READ_COUNT }
+    ensures node { result.node.now ≡ slice_index_or nodes.now root result.node.now }
+    ensures best { result.best.now ≡ result.node.now }
+    ensures counted { steps.new ≡ steps.old + 1 }
+{
+    let node = visit(nodes, root, steps);
+    Walk {
+        node,
+        best: node,
+        is_over: false,
     }
+}
 
-    // Follows `count` bits, the top ones of a number, or to where no node follows.
-    #[inline(always)]
-    fn walk_on<'t>(
-        &'t self,
-        from: Walk<'t>,
-        leading: u64,
-        count: u8,
-        live: u32,
-        steps: &mut Steps,
-    ) -> Walk<'t>
-        requires at { (cidrs : List IpCidr) × (a : IpAddress) × (i : ℕ) × IsTrieOf self.now.nodes cidrs
-            × IsAt cidrs a live i from.node.now (bit_and from.best.now.places live) steps.old
-            × AreNextBits a i count leading }
-        ensures { (cidrs : List IpCidr) (a : IpAddress) (i : ℕ) → IsTrieOf self.now.nodes cidrs
-            → IsAt cidrs a live i from.entry.node.now (bit_and from.entry.best.now.places live) steps.old
-            → AreNextBits a i count leading
-            → (n : ℕ) × IsAt cidrs a live n result.node.now (bit_and result.best.now.places live) steps.new
-            × OnTrue result.is_over (IsLongest cidrs a n) × OnFalse result.is_over (n ≡ i + count) }
-    {
-        let mut node = from.node;
-        let mut best = from.best;
-        let mut bits = leading;
-        for i in 0..count {
-            let child = child_of(node, bits);
-            if child == 0 {
-                return Walk {
-                    node,
-                    best,
-                    is_over: true,
-                };
-            }
-            node = self.visit(child, steps);
-            best = better(node, best, live);
-            bits <<= 1;
+// Follows `count` bits, the top ones of a number, or to where no node follows.
+#[inline(always)]
+fn walk_on<'t>(
+    nodes: &'t [RouteNode],
+    from: Walk<'t>,
+    leading: u64,
+    count: u8,
+    live: u32,
+    steps: &mut Steps,
+) -> Walk<'t>
+    requires at { (cidrs : List IpCidr) × (a : IpAddress) × (i : ℕ) × IsTrieOf nodes.now cidrs
+        × IsAt cidrs a live i from.node.now (bit_and from.best.now.places live) steps.old
+        × AreNextBits a i count leading }
+    ensures { (cidrs : List IpCidr) (a : IpAddress) (i : ℕ) → IsTrieOf nodes.now cidrs
+        → IsAt cidrs a live i from.entry.node.now (bit_and from.entry.best.now.places live) steps.old
+        → AreNextBits a i count leading
+        → (n : ℕ) × IsAt cidrs a live n result.node.now (bit_and result.best.now.places live) steps.new
+        × OnTrue result.is_over (IsLongest cidrs a n) × OnFalse result.is_over (n ≡ i + count) }
+{
+    let mut node = from.node;
+    let mut best = from.best;
+    let mut bits = leading;
+    for i in 0..count {
+        let child = child_of(node, bits);
+        if child == 0 {
+            return Walk {
+                node,
+                best,
+                is_over: true,
+            };
         }
-        Walk {
-            node,
-            best,
-            is_over: false,
-        }
+        node = visit(nodes, child, steps);
+        best = better(node, best, live);
+        bits <<= 1;
     }
+    Walk {
+        node,
+        best,
+        is_over: false,
+    }
+}
 
-    // Reads a node, and counts it.
-    #[inline(always)]
-    fn visit(&self, number: u16, steps: &mut Steps) -> &Node
-        requires within { number < ROUTE_TRIE_NODE_COUNT }
-        requires few { steps.old < ROUTE_TRIE_NODE_COUNT }
-        ensures node { result.now ≡ slice_index_or self.now.nodes number result.now }
-        ensures counted { steps.new ≡ steps.old + 1 }
-    {
-        steps.count += 1;
-        &self.nodes[usize::from(number)]
-    }
+// Reads a node, and counts it.
+#[inline(always)]
+fn visit<'t>(nodes: &'t [RouteNode], number: u16, steps: &mut Steps) -> &'t RouteNode
+    requires within { number < length nodes.now }
+    requires few { steps.old < READ_COUNT }
+    ensures node { result.now ≡ slice_index_or nodes.now number result.now }
+    ensures counted { steps.new ≡ steps.old + 1 }
+{
+    steps.count += 1;
+    &nodes[usize::from(number)]
 }
 
 // The first 64 bits of an address.
@@ -243,7 +256,7 @@ fn second_half(bits: u128) -> u64
 
 // The number of the node after this one by the top bit of a 64-bit number, or 0.
 #[inline(always)]
-fn child_of(node: &Node, bits: u64) -> u16
+fn child_of(node: &RouteNode, bits: u64) -> u16
     ensures { result ≡ slice_index node.now.next (bits / 2 ^ 63) }
 {
     node.next[(bits >> 63) as usize]
@@ -251,7 +264,7 @@ fn child_of(node: &Node, bits: u64) -> u16
 
 // The node of a longer prefix, or, if none of its prefixes is live, that of a shorter one.
 #[inline(always)]
-fn better<'t>(longer: &'t Node, shorter: &'t Node, live: u32) -> &'t Node
+fn better<'t>(longer: &'t RouteNode, shorter: &'t RouteNode, live: u32) -> &'t RouteNode
     ensures { bit_and result.now.places live ≡ cond (bit_and longer.now.places live == 0)
         (bit_and shorter.now.places live) (bit_and longer.now.places live) }
 {
@@ -346,41 +359,41 @@ fn is_whole(network: &Network, beginning: &Beginning) -> bool
 }
 
 // The first index of a prefix with this beginning, followed by a bit, or the length.
-fn index_of(cidrs: &[IpCidr], beginning: &Beginning, bit: u128) -> usize
+fn index_of(routes: &[Route], beginning: &Beginning, bit: u128) -> usize
     requires { bit < 2 }
-    ensures { result ≡ index_of cidrs.now (longer_of beginning.now bit) }
+    ensures { result ≡ index_of (cidrs routes.now) (longer_of beginning.now bit) }
 {
-    for (place, cidr) in cidrs.iter().enumerate() {
-        if goes_on(&network_of(cidr), beginning, bit) {
+    for (place, route) in routes.iter().enumerate() {
+        if goes_on(&network_of(&route.cidr), beginning, bit) {
             return place;
         }
     }
-    cidrs.len()
+    routes.len()
 }
 
 // The number of the node that is one bit longer, or 0 if there is none.
-fn number_of(cidrs: &[IpCidr], beginning: &Beginning, bit: u128) -> u16
-    requires few { length cidrs.now ≤ ROUTE_TRIE_PLACE_COUNT }
+fn number_of(routes: &[Route], beginning: &Beginning, bit: u128) -> u16
+    requires few { length routes.now ≤ ROUTE_TRIE_PLACE_COUNT }
     requires short { beginning.now.len ≤ 128 }
     requires bit { bit < 2 }
-    ensures { result ≡ number cidrs.now (longer_of beginning.now bit) }
+    ensures { result ≡ number (cidrs routes.now) (longer_of beginning.now bit) }
 {
-    let place = index_of(cidrs, beginning, bit);
-    if place >= cidrs.len() {
+    let place = index_of(routes, beginning, bit);
+    if place >= routes.len() {
         return 0;
     }
     2 + 128 * (place as u16) + u16::from(beginning.len)
 }
 
 // The mask of the prefixes that equal this beginning.
-fn marks_of(cidrs: &[IpCidr], beginning: &Beginning) -> u32
-    requires few { length cidrs.now ≤ ROUTE_TRIE_PLACE_COUNT }
+fn marks_of(routes: &[Route], beginning: &Beginning) -> u32
+    requires few { length routes.now ≤ ROUTE_TRIE_PLACE_COUNT }
     requires root { beginning.now.len ≡ 0 → beginning.now.leading ≡ 0 }
-    ensures { (k : ℕ) → has_place result k ≡ is_marked beginning.now (slice_get cidrs.now k) }
+    ensures { (k : ℕ) → has_place result k ≡ is_marked beginning.now (slice_get (cidrs routes.now) k) }
 {
     let mut places = 0;
-    for (place, cidr) in cidrs.iter().enumerate() {
-        if is_whole(&network_of(cidr), beginning) {
+    for (place, route) in routes.iter().enumerate() {
+        if is_whole(&network_of(&route.cidr), beginning) {
             places |= 1 << place;
         }
     }
@@ -388,33 +401,35 @@ fn marks_of(cidrs: &[IpCidr], beginning: &Beginning) -> u32
 }
 
 // The node of a beginning.
-fn node_of(cidrs: &[IpCidr], beginning: &Beginning) -> Node
-    requires few { length cidrs.now ≤ ROUTE_TRIE_PLACE_COUNT }
+fn node_of(routes: &[Route], beginning: &Beginning) -> RouteNode
+    requires few { length routes.now ≤ ROUTE_TRIE_PLACE_COUNT }
     requires short { beginning.now.len ≤ 128 }
     requires root { beginning.now.len ≡ 0 → beginning.now.leading ≡ 0 }
-    ensures { IsNodeOf cidrs.now beginning.now result }
+    ensures { IsNodeOf (cidrs routes.now) beginning.now result }
 {
-    Node {
+    RouteNode {
         next: [
-            number_of(cidrs, beginning, 0),
-            number_of(cidrs, beginning, 1),
+            number_of(routes, beginning, 0),
+            number_of(routes, beginning, 1),
         ],
-        places: marks_of(cidrs, beginning),
+        places: marks_of(routes, beginning),
     }
 }
 
 // Writes the nodes of a prefix: one for each of its beginnings.
-fn fill(nodes: &mut [Node; ROUTE_TRIE_NODE_COUNT], cidrs: &[IpCidr], place: usize)
-    requires few { length cidrs.now ≤ ROUTE_TRIE_PLACE_COUNT }
-    requires within { place < length cidrs.now }
-    ensures filled { HasNodes nodes.new cidrs.now place }
-    ensures kept { (k : ℕ) (d : Node) →
+fn fill(nodes: &mut [RouteNode], routes: &[Route], place: usize)
+    requires few { length routes.now ≤ ROUTE_TRIE_PLACE_COUNT }
+    requires fits { 2 + 128 * length routes.now ≤ length nodes.old }
+    requires within { place < length routes.now }
+    ensures count { length nodes.new ≡ length nodes.old }
+    ensures filled { HasNodes nodes.new (cidrs routes.now) place }
+    ensures kept { (k : ℕ) (d : RouteNode) →
         k ≤ 1 + 128 * place → slice_index_or nodes.new k d ≡ slice_index_or nodes.old k d }
 {
-    let network = network_of(&cidrs[place]);
+    let network = network_of(&routes[place].cidr);
     for i in 0..network.len {
         let beginning = start_of(&network, i + 1);
-        nodes[2 + 128 * place + usize::from(i)] = node_of(cidrs, &beginning);
+        nodes[2 + 128 * place + usize::from(i)] = node_of(routes, &beginning);
     }
 }
 

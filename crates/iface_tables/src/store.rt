@@ -1,5 +1,6 @@
 //! A table's entries: in the table itself, or in storage that was handed over.
-ghost use Rattle.std.specs.Prelude.{◌≡◌, ◌<◌, [], ◌∷◌, ◌++◌, length, vec_capacity};
+ghost use Rattle.std.specs.Prelude.{◌≡◌, ◌<◌, ◌≤◌, [], ◌∷◌, ◌++◌, length, slice_get, vec_capacity, Some};
+ghost use Rattle.std.specs.List.{remove};
 
 use arrayvec::ArrayVec;
 use std::marker::Model;
@@ -67,6 +68,19 @@ impl<T: Default + Drop, const N: usize> Store<T, N> {
             Place::Lent(lent) => lent.clear(),
         }
     }
+
+    /// Takes the entry at an index out. The others keep their order.
+    pub fn remove(&mut self, index: usize) -> T
+        requires { index < length self.old.items }
+        ensures value { Some result ≡ slice_get self.old.items index }
+        ensures items { self.new.items ≡ remove self.old.items index }
+        ensures room { self.new.room ≡ self.old.room }
+    {
+        match &mut self.place {
+            Place::Own(own) => own.remove(index),
+            Place::Lent(lent) => lent.remove(index),
+        }
+    }
 }
 
 impl<T: Drop, const N: usize> Store<T, N> {
@@ -92,7 +106,8 @@ impl<T: Drop, const N: usize> Store<T, N> {
     /// How many entries there are.
     #[inline(always)]
     pub fn len(&self) -> usize
-        ensures { result ≡ length self.now.items }
+        ensures value { result ≡ length self.now.items }
+        ensures fits { result ≤ self.now.room }
     {
         match &self.place {
             Place::Own(own) => own.len(),

@@ -22,7 +22,7 @@ const SIXTH: Ipv6Address = Ipv6Address {
 fn joined(count: u8) -> Groups {
     let mut groups = Groups::new();
     for host in 0..count {
-        let _ = groups.join(address(host));
+        let _ = groups.join(address(host), 8);
         groups.join_reported(&address(host));
     }
     groups
@@ -51,19 +51,31 @@ fn are_walked(groups: &Groups, hosts: [u8; 8]) -> bool {
 fn a_ninth_group_waits_for_room(rt: HostRuntime) {
     let mut groups = joined(8);
     groups.leave(&address(3));
-    let is_refused = groups.join(address(8)) == Err(GroupTableFull)
+    let is_refused = groups.join(address(8), 8) == Err(GroupTableFull)
         && groups.ipv4_count() == 8
         && groups.first_in(GroupState::Leaving) == Some(address(3));
     groups.leave_reported(&address(3));
-    let is_taken = groups.join(address(8)) == Ok(());
+    let is_taken = groups.join(address(8), 8) == Ok(());
     assert!(rt; is_refused && is_taken && are_walked(&groups, [0, 1, 2, 7, 4, 5, 6, 8]));
+}
+
+#[test]
+fn there_are_as_many_groups_as_there_is_room_for(rt: HostRuntime) {
+    let mut groups = Groups::new();
+    let is_none_there = groups.join(address(0), 0) == Err(GroupTableFull) && groups.is_empty();
+    for host in 0..16 {
+        let _ = groups.join(address(host), 16);
+    }
+    let is_refused = groups.join(address(16), 16) == Err(GroupTableFull) && groups.len() == 16;
+    let is_there_already = groups.join(address(15), 1) == Ok(());
+    assert!(rt; is_none_there && is_refused && is_there_already);
 }
 
 #[test]
 fn a_group_of_ipv6_has_its_own_place(rt: HostRuntime) {
     let sixth = IpAddress::Ipv6(SIXTH);
     let mut groups = joined(1);
-    let _ = groups.join(sixth);
+    let _ = groups.join(sixth, 8);
     let is_there = groups.len() == 2
         && groups.ipv4_count() == 1
         && groups.ipv6_count() == 1

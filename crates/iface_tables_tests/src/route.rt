@@ -5,6 +5,7 @@ use arrayvec::ArrayVec;
 use iface_tables::route::{Route, RouteTableFull, Routes};
 use ip_wire::{IpAddress, IpCidr, Ipv4Address, Ipv4Cidr, Ipv6Address, Ipv6Cidr};
 use net_base::time::Instant;
+use std::alloc::{AllocError, Global};
 use std::test::Fail;
 
 // 10.0.0.1.
@@ -261,6 +262,143 @@ fn a_default_route_leaves_the_others_in_order(rt: HostRuntime) {
         && routes.as_slice() == [middle].as_slice();
     let are_added = is_added && is_second_added;
     assert!(rt; are_added && are_in_order && is_first_removed && is_last_removed);
+}
+
+// A table over storage for so many routes and so many nodes.
+fn over(alloc: Global, routes: usize, nodes: usize) -> Result<Routes, AllocError> {
+    let mut table = Routes::new();
+    let storage = Vec::with_capacity(alloc, routes)?;
+    table.set_storage(storage, Vec::with_capacity(alloc, nodes)?);
+    Ok(table)
+}
+
+// 10.1.2.0, 10.1.9.9, and fe80:0:0:2::d.
+const SMALL_PART: Ipv4Address = Ipv4Address { bits: 0x0a01_0200 };
+
+const BESIDE: IpAddress = IpAddress::Ipv4(Ipv4Address { bits: 0x0a01_0909 });
+
+const BESIDE_IPV6: IpAddress = IpAddress::Ipv6(Ipv6Address {
+    bits: 0xfe80_0000_0000_0002_0000_0000_0000_000d,
+});
+
+const HOST: Ipv4Address = Ipv4Address { bits: 0x0a01_0203 };
+
+// Eight routes, of which two each are to one network, and one lasts ten seconds.
+fn eight_routes() -> [Route; 8] {
+    [
+        route(NETWORK, 8, router(1), None),
+        route(PART, 16, router(2), None),
+        route(SMALL_PART, 24, router(3), None),
+        route(HOST, 32, router(4), Some(Instant::from_secs(10))),
+        route(PART, 16, router(5), None),
+        route(NETWORK, 8, router(6), None),
+        route6(address6(2, 0), address6(2, 1), None),
+        Route::new_ipv4_gateway(router(8)),
+    ]
+}
+
+// Whether lookups among the eight find the longest prefix, and of equal ones the last.
+fn finds_the_best_of_eight(routes: &Routes) -> bool {
+    let via = |host| Some(IpAddress::Ipv4(router(host)));
+    let (end, later) = (Instant::from_secs(10), Instant::from_secs(11));
+    let outside = IpAddress::Ipv4(Ipv4Address { bits: 0x0b00_0001 });
+    finds(routes, &DISTANT, end, via(4), 33)
+        && finds(routes, &DISTANT, later, via(3), 33)
+        && finds(routes, &BESIDE, end, via(5), 21)
+        && finds(routes, &NEAR, end, via(6), 16)
+        && finds(routes, &outside, end, via(8), 8)
+        && routes.lookup(&BESIDE_IPV6, end) == Some(IpAddress::Ipv6(address6(2, 1)))
+}
+
+#[test]
+fn storage_has_room_for_eight(rt: HostRuntime) {
+    let mut routes = over(rt.alloc(), 8, 1026).expect(&rt, "room");
+    let mut are_pushed = routes.room() == 8;
+    for route in eight_routes() {
+        are_pushed &= routes.push(route) == Ok(());
+    }
+    let are_found = finds_the_best_of_eight(&routes);
+    let is_ninth_refused = routes.push(route(PART, 32, router(9), None)) == Err(RouteTableFull)
+        && routes.add_default_ipv6_route(address6(0, 9)) == Err(RouteTableFull);
+    let eight = eight_routes();
+    let are_unchanged = routes.as_slice() == eight.as_slice() && finds_the_best_of_eight(&routes);
+    let is_default_replaced = routes.add_default_ipv4_route(router(9)) == Ok(Some(eight[7]))
+        && routes.as_slice().len() == 8;
+    assert!(rt;
+        are_pushed && are_found && is_ninth_refused && are_unchanged && is_default_replaced
+    );
+}
+
+#[test]
+fn the_lesser_capacity_counts(rt: HostRuntime) {
+    let mut is_right = true;
+    // Capacity for routes and for nodes, and the room.
+    let wanted = [
+        (8, 1025, 7),
+        (5, 4098, 5),
+        (40, 10_000, 32),
+        (1, 130, 1),
+        (8, 129, 4),
+        (0, 4098, 4),
+        (8, 0, 4),
+    ];
+    for (routes, nodes, room) in wanted {
+        let table = over(rt.alloc(), routes, nodes).expect(&rt, "room");
+        is_right &= table.room() == room && table.as_slice().len() == 0;
+    }
+    assert!(rt; is_right);
+}
+
+#[test]
+fn storage_for_none_is_that_of_the_table(rt: HostRuntime) {
+    let mut routes = over(rt.alloc(), 8, 1026).expect(&rt, "room");
+    let eight = eight_routes();
+    let is_set = routes.set(eight.as_slice()) == Ok(());
+    routes.set_storage(Vec::new(rt.alloc()), Vec::new(rt.alloc()));
+    let is_empty = routes.as_slice().len() == 0
+        && routes.room() == 4
+        && finds(&routes, &DISTANT, Instant::ZERO, None, 1);
+    let is_refused = routes.set(eight.as_slice()) == Err(RouteTableFull)
+        && routes.as_slice().len() == 0
+        && routes.set(&eight[..4]) == Ok(())
+        && routes.push(eight[4]) == Err(RouteTableFull)
+        && routes.as_slice() == &eight[..4];
+    let via = Some(IpAddress::Ipv4(router(2)));
+    let is_found = finds(&routes, &BESIDE, Instant::ZERO, via, 21);
+    assert!(rt; is_set && is_empty && is_refused && is_found);
+}
+
+#[test]
+fn a_removed_route_leaves_the_others_in_order(rt: HostRuntime) {
+    let mut routes = over(rt.alloc(), 8, 1026).expect(&rt, "room");
+    let eight = eight_routes();
+    let is_set = routes.set(eight.as_slice()) == Ok(());
+    let left = [
+        eight[0], eight[1], eight[2], eight[3], eight[5], eight[6], eight[7],
+    ];
+    let is_removed = routes.remove(4) == Some(eight[4]) && routes.as_slice() == left.as_slice();
+    let is_none_removed = routes.remove(7) == None && routes.as_slice() == left.as_slice();
+    let via = Some(IpAddress::Ipv4(router(2)));
+    let is_found = finds(&routes, &BESIDE, Instant::ZERO, via, 21);
+    assert!(rt; is_set && is_removed && is_none_removed && is_found);
+}
+
+#[test]
+fn an_update_sees_the_first_four(rt: HostRuntime) {
+    let mut routes = over(rt.alloc(), 8, 1026).expect(&rt, "room");
+    let eight = eight_routes();
+    let is_set = routes.set(eight.as_slice()) == Ok(());
+    routes.update(|mut list| {
+        list.truncate(3);
+        list
+    });
+    let are_three = routes.as_slice() == &eight[..3] && routes.room() == 8;
+    // Also where there is room for one alone.
+    let mut routes = over(rt.alloc(), 1, 130).expect(&rt, "room");
+    let is_one = routes.push(eight[0]) == Ok(()) && routes.push(eight[1]) == Err(RouteTableFull);
+    append(&mut routes, eight[1]);
+    let are_two = routes.as_slice() == &eight[..2] && routes.push(eight[2]) == Err(RouteTableFull);
+    assert!(rt; is_set && are_three && is_one && are_two);
 }
 
 #[test]

@@ -5,7 +5,7 @@ use Rattle.iface_tables.proofs.route.Routes.best_route.Goals as goal
 pub returns-clause-best : goal.returns-clause-best
 returns-clause-best c =
     let rs = c.self.inside.storage.items in
-    let place = c.walk-place.result.0 in
-    let best = c.walk-place.ensures.best (cidrs rs) c.self.invariant.0 in
-    rw (← c.self.view_is, c.route_of.ensures, c.as_slice-routes.ensures.value) (best_at rs c.args.address.now c.args.timestamp c.live_mask-live.result place
-    (rw c.as_slice-routes.ensures.value at c.live_mask-live.ensures) best)
+    let place = c.best_place-place.result.0 in
+    let best = c.best_place-place.ensures.best (cidrs rs) (rw c.as_slice.ensures c.self.invariant.trie) in
+    rw (← c.self.view_is, c.route_of.ensures, c.as_slice-routes.ensures) (best_at rs c.args.address.now c.args.timestamp c.live_mask-live.result place
+    (rw c.as_slice-routes.ensures at c.live_mask-live.ensures) best)

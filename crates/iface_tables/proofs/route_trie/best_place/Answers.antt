@@ -1,5 +1,5 @@
 use Rattle.iface_tables.proofs.RouteWalkLemmas.{ends_best}
-use Rattle.iface_tables.proofs.route_trie.RouteTrie.walk.Goals as goal
+use Rattle.iface_tables.proofs.route_trie.best_place.Goals as goal
 
 pub returns-clause-best : goal.returns-clause-best
 returns-clause-best c = λ cidrs trie.

@@ -1,7 +1,7 @@
 use Rattle.std.proofs.Common.{◌≡◌, ◌+◌, ◌*◌, ◌^◌, ◌%◌, ◌∙◌, arith, ap, sym}
 use Rattle.iface_tables.specs.RouteTrie.{host_of, number, start_of}
 use Rattle.iface_tables.proofs.RouteWalkLemmas.{child_at, child_within, ends_longest, moved_up, none_longer, one_further}
-use Rattle.iface_tables.proofs.route_trie.RouteTrie.walk_on.Goals as goal
+use Rattle.iface_tables.proofs.route_trie.walk_on.Goals as goal
 
 pub visit-node-requires-clause-within : goal.visit-node-requires-clause-within
 visit-node-requires-clause-within c =
