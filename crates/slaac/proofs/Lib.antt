@@ -1,1 +1,2 @@
 pub mod SlaacLemmas
+pub mod SyncLemmas

@@ -1,5 +1,5 @@
 -- What is learnt from router advertisements, and when routers are solicited (RFC 4861 6.3, RFC 4862 5.5).
-use Rattle.std.specs.Prelude.{ℕ, ◌-◌, ◌*◌, ◌<◌, ◌^◌, ◌≤◌, ◌==◌, nat_le, nat_lt, ℤ, pos, ◌+ℤ◌}
+use Rattle.std.specs.Prelude.{ℕ, ◌-◌, ◌*◌, ◌<◌, ◌^◌, ◌≤◌, ◌==◌, min, nat_le, nat_lt, ℤ, pos, ◌+ℤ◌}
 use Rattle.std.specs.Prelude.{Bool, true, false, not, ◌&&◌, ◌||◌, if◌then◌else◌, T, List, [], ◌∷◌}
 use Rattle.std.specs.Prelude.{◌++◌, length, map, filter, Option, Some, None, slice_set}
 use Rattle.std.specs.List.{list_any, position_or_len}
@@ -17,19 +17,35 @@ use Rattle.slaac.specs.declared.slaac.PrefixInfo.{PrefixInfo}
 use Rattle.slaac.specs.declared.slaac.Prefix.{Prefix}
 use Rattle.slaac.specs.declared.slaac.Route.{Route}
 
--- the known prefixes and routers, the phase of router discovery, when the next solicitation may be sent and how many
--- are left, and whether what is known changed
+-- the known prefixes and routers and for how many there is room, the phase of router discovery, when the next
+-- solicitation may be sent and how many are left, and whether what is known changed
 pub record SlaacState : Type 0 where
   pub prefixes : List Prefix
+  pub prefix_room : ℕ
   pub routers : List Route
+  pub router_room : ℕ
   pub phase : Phase
   pub retry_at : ℤ
   pub left : ℕ
   pub changed : Bool
 
--- at first nothing is known, and three solicitations may be sent, the first one immediately (RFC 4861 6.3.7, 10)
+-- at first there is room for two prefixes and four routers, nothing is known, and three solicitations may be sent, the
+-- first one immediately (RFC 4861 6.3.7, 10)
 abbrev pub initial_state : SlaacState
-initial_state = record { prefixes = []; routers = []; phase = phase.Start; retry_at = pos 0; left = 3; changed = false }
+initial_state = record {
+  prefixes = [];
+  prefix_room = 2;
+  routers = [];
+  router_room = 4;
+  phase = phase.Start;
+  retry_at = pos 0;
+  left = 3;
+  changed = false;
+}
+
+-- the state with room for so many prefixes and routers, at most eight of each; what is known stays
+abbrev pub with_room : SlaacState → ℕ → ℕ → SlaacState
+with_room s prefixes routers = record s { prefix_room = min prefixes 8; router_room = min routers 8 }
 
 -- whether a lifetime with this end includes t; it doesn't include its end (RFC 4862 5.5.4)
 abbrev pub is_before : ℤ → ℤ → Bool
@@ -51,9 +67,9 @@ prefix_index ps c = position_or_len (is_of c) ps
 abbrev pub knows_prefix : List Prefix → Ipv6Cidr → Bool
 knows_prefix ps c = nat_lt (prefix_index ps c) (length ps)
 
--- whether there is no room for another prefix: the list holds two
-abbrev pub is_prefix_full : List Prefix → Bool
-is_prefix_full ps = nat_le 2 (length ps)
+-- whether there is no room for another prefix, where there is room for so many
+abbrev pub is_prefix_full : ℕ → List Prefix → Bool
+is_prefix_full room ps = nat_le room (length ps)
 
 -- whether a prefix is valid at t
 abbrev pub is_prefix_valid : ℤ → Prefix → Bool
@@ -100,10 +116,10 @@ abbrev pub with_info : List Prefix → Ipv6Cidr → PrefixInfo → List Prefix
 with_info ps c info = slice_set ps (prefix_index ps c) (record { cidr = c; info = info })
 
 -- the prefixes with a valid one: a new one is appended, or ignored if there is no room
-abbrev pub with_prefix : List Prefix → Ipv6Cidr → PrefixInfo → List Prefix
-with_prefix ps c info =
+abbrev pub with_prefix : ℕ → List Prefix → Ipv6Cidr → PrefixInfo → List Prefix
+with_prefix room ps c info =
     if knows_prefix ps c then with_info ps c info else
-    if is_prefix_full ps then ps else ps ++ record { cidr = c; info = info } ∷ []
+    if is_prefix_full room ps then ps else ps ++ record { cidr = c; info = info } ∷ []
 
 -- the prefixes after one, if known, is withdrawn
 abbrev pub prefixes_after_withdrawal : List Prefix → Ipv6Cidr → List Prefix
@@ -111,24 +127,24 @@ prefixes_after_withdrawal ps c = if knows_prefix ps c then with_info ps c info_w
 
 -- the prefixes after an advertisement: a valid lifetime of zero withdraws the prefix, any other sets its
 -- lifetimes (RFC 4862 5.5.3)
-abbrev pub prefixes_by : Option Ipv6Cidr → List Prefix → NdiscPrefixInformation → ℤ → List Prefix
-prefixes_by None ps p t = ps
-prefixes_by (Some c) ps p t =
-    if p.valid_lifetime == 0 then prefixes_after_withdrawal ps c else with_prefix ps c (info_from p t)
+abbrev pub prefixes_by : Option Ipv6Cidr → ℕ → List Prefix → NdiscPrefixInformation → ℤ → List Prefix
+prefixes_by None room ps p t = ps
+prefixes_by (Some c) room ps p t =
+    if p.valid_lifetime == 0 then prefixes_after_withdrawal ps c else with_prefix room ps c (info_from p t)
 
-abbrev pub prefixes_after : Option NdiscPrefixInformation → List Prefix → ℤ → List Prefix
-prefixes_after None ps t = ps
-prefixes_after (Some p) ps t = prefixes_by (advertised_prefix p) ps p t
+abbrev pub prefixes_after : Option NdiscPrefixInformation → ℕ → List Prefix → ℤ → List Prefix
+prefixes_after None room ps t = ps
+prefixes_after (Some p) room ps t = prefixes_by (advertised_prefix p) room ps p t
 
 -- whether an advertised prefix is news: a known one is withdrawn, or a new one has room. A renewal is not
-abbrev pub is_prefix_news_by : Option Ipv6Cidr → List Prefix → NdiscPrefixInformation → Bool
-is_prefix_news_by None ps p = false
-is_prefix_news_by (Some c) ps p =
-    if p.valid_lifetime == 0 then knows_prefix ps c else not (knows_prefix ps c || is_prefix_full ps)
+abbrev pub is_prefix_news_by : Option Ipv6Cidr → ℕ → List Prefix → NdiscPrefixInformation → Bool
+is_prefix_news_by None room ps p = false
+is_prefix_news_by (Some c) room ps p =
+    if p.valid_lifetime == 0 then knows_prefix ps c else not (knows_prefix ps c || is_prefix_full room ps)
 
-abbrev pub is_prefix_news : Option NdiscPrefixInformation → List Prefix → Bool
-is_prefix_news None ps = false
-is_prefix_news (Some p) ps = is_prefix_news_by (advertised_prefix p) ps p
+abbrev pub is_prefix_news : Option NdiscPrefixInformation → ℕ → List Prefix → Bool
+is_prefix_news None room ps = false
+is_prefix_news (Some p) room ps = is_prefix_news_by (advertised_prefix p) room ps p
 
 -- ::/0, the network of all addresses
 abbrev pub whole : Ipv6Cidr
@@ -150,9 +166,9 @@ router_index rs router = position_or_len (is_same_route whole router) rs
 abbrev pub knows_router : List Route → Ipv6Address → Bool
 knows_router rs router = nat_lt (router_index rs router) (length rs)
 
--- whether there is no room for another router
-abbrev pub is_router_full : List Route → Bool
-is_router_full rs = nat_le 4 (length rs)
+-- whether there is no room for another router, where there is room for so many
+abbrev pub is_router_full : ℕ → List Route → Bool
+is_router_full room rs = nat_le room (length rs)
 
 -- whether a router is valid at t
 abbrev pub is_route_valid : ℤ → Route → Bool
@@ -163,10 +179,10 @@ abbrev pub with_end : List Route → Ipv6Address → ℤ → List Route
 with_end rs router end = slice_set rs (router_index rs router) (default_route router end)
 
 -- the routers with a valid one: a new one is appended, if there is room
-abbrev pub with_router : List Route → Ipv6Address → ℤ → List Route
-with_router rs router end =
+abbrev pub with_router : ℕ → List Route → Ipv6Address → ℤ → List Route
+with_router room rs router end =
     if knows_router rs router then with_end rs router end else
-    if is_router_full rs then rs else rs ++ default_route router end ∷ []
+    if is_router_full room rs then rs else rs ++ default_route router end ∷ []
 
 -- the routers after one, if known, is withdrawn
 abbrev pub without_router : List Route → Ipv6Address → List Route
@@ -174,9 +190,9 @@ without_router rs router = if knows_router rs router then with_end rs router (po
 
 -- the routers after an advertisement: its router is valid for this lifetime; a lifetime of zero
 -- withdraws it (RFC 4861 6.3.4)
-abbrev pub routers_after : List Route → Ipv6Address → ℕ → ℤ → List Route
-routers_after rs router lifetime t =
-    if lifetime == 0 then without_router rs router else with_router rs router (t +ℤ pos lifetime)
+abbrev pub routers_after : ℕ → List Route → Ipv6Address → ℕ → ℤ → List Route
+routers_after room rs router lifetime t =
+    if lifetime == 0 then without_router rs router else with_router room rs router (t +ℤ pos lifetime)
 
 -- whether the router of an advertisement is news: a known one is withdrawn, or a new one is there, whether there
 -- is room for it or not
@@ -193,12 +209,14 @@ phase_after_answer phase.None = phase.None
 -- the state after an advertisement from a router, with the lifetime of its route and perhaps a prefix, at t
 abbrev pub slaac_after_message : SlaacState → Ipv6Address → ℕ → Option NdiscPrefixInformation → ℤ → SlaacState
 slaac_after_message s router lifetime prefix t = record {
-  prefixes = prefixes_after prefix s.prefixes t;
-  routers = routers_after s.routers router lifetime t;
+  prefixes = prefixes_after prefix s.prefix_room s.prefixes t;
+  prefix_room = s.prefix_room;
+  routers = routers_after s.router_room s.routers router lifetime t;
+  router_room = s.router_room;
   phase = phase_after_answer s.phase;
   retry_at = s.retry_at;
   left = s.left;
-  changed = s.changed || is_prefix_news prefix s.prefixes || is_router_news s.routers router lifetime;
+  changed = s.changed || is_prefix_news prefix s.prefix_room s.prefixes || is_router_news s.routers router lifetime;
 }
 
 -- whether something that is known has expired by t

@@ -20,11 +20,17 @@ use net_base::instants::earlier_of;
 use net_base::time::{Duration, Instant};
 use std::marker::Model;
 
-/// The maximum number of prefixes kept.
+/// How many prefixes are kept at most, unless it is told otherwise.
 pub const IFACE_MAX_PREFIX_COUNT: usize = 2;
 
-/// The maximum number of routers kept.
+/// How many routers are kept at most, unless it is told otherwise.
 pub const IFACE_MAX_ROUTE_COUNT: usize = 4;
+
+/// The maximum number of prefixes that there can be room for.
+pub const MAX_PREFIX_COUNT: usize = 8;
+
+/// The maximum number of routers that there can be room for.
+pub const MAX_ROUTER_COUNT: usize = 8;
 
 /// The maximum number of router solicitations sent (RFC 4861 10).
 pub const MAX_RTR_SOLICITATIONS: u8 = 3;
@@ -156,18 +162,22 @@ impl Default for Route {
     }
 }
 
-/// What was learnt from router advertisements: at most two prefixes and four routers with their lifetimes, and the
-/// phase of router discovery.
+/// What was learnt from router advertisements: prefixes and routers with their lifetimes, as many as there is room for,
+/// and the phase of router discovery.
 ///
 /// In contracts it is the record of these.
 #[derive(Drop)]
 pub struct Slaac {
-    prefix: ArrayVec<Prefix, IFACE_MAX_PREFIX_COUNT>,
-    routes: ArrayVec<Route, IFACE_MAX_ROUTE_COUNT>,
+    prefix: ArrayVec<Prefix, MAX_PREFIX_COUNT>,
+    prefix_room: usize,
+    routes: ArrayVec<Route, MAX_ROUTER_COUNT>,
+    router_room: usize,
     phase: Phase,
     sync_required: bool,
     retry_rs_at: Instant,
     num_solicitations: u8,
+    pub ghost few_prefixes: { prefix_room ≤ 8 },
+    pub ghost few_routers: { router_room ≤ 8 },
 }
 
 impl Model for Slaac {
@@ -177,7 +187,9 @@ impl Model for Slaac {
 
     ghost view = { λ s. record {
       prefixes = s.prefix.items;
+      prefix_room = s.prefix_room;
       routers = s.routes.items;
+      router_room = s.router_room;
       phase = s.phase;
       retry_at = s.retry_rs_at;
       left = s.num_solicitations;
@@ -186,18 +198,30 @@ impl Model for Slaac {
 }
 
 impl Slaac {
-    /// The initial state: nothing is known, and three solicitations may be sent, the first from moment 0 on.
+    /// The initial state: there is room for two prefixes and four routers, nothing is known, and three solicitations may
+    /// be sent, the first from moment 0 on.
     pub fn new() -> Slaac
         ensures { result ≡ initial_state }
     {
         Slaac {
             prefix: ArrayVec::new(),
+            prefix_room: IFACE_MAX_PREFIX_COUNT,
             routes: ArrayVec::new(),
+            router_room: IFACE_MAX_ROUTE_COUNT,
             phase: Phase::Start,
             sync_required: false,
             retry_rs_at: Instant::ZERO,
             num_solicitations: MAX_RTR_SOLICITATIONS,
         }
+    }
+
+    /// Sets for how many prefixes and routers there is room, at most eight of each. What is known stays: as long as more
+    /// than so many are known, none is added.
+    pub fn set_room(&mut self, prefixes: usize, routers: usize)
+        ensures { self.new ≡ spec.with_room self.old prefixes routers }
+    {
+        self.prefix_room = prefixes.min(MAX_PREFIX_COUNT);
+        self.router_room = routers.min(MAX_ROUTER_COUNT);
     }
 
     /// Whether what is known changed since the last [`Slaac::update_slaac_state`]: a prefix was added, a new router was
@@ -211,7 +235,7 @@ impl Slaac {
     /// The known prefixes, including expired ones.
     pub fn prefix(&self) -> &[Prefix]
         ensures value { result.now ≡ self.now.prefixes }
-        ensures fits { length result.now ≤ IFACE_MAX_PREFIX_COUNT }
+        ensures fits { length result.now ≤ MAX_PREFIX_COUNT }
     {
         self.prefix.as_slice()
     }
@@ -219,7 +243,7 @@ impl Slaac {
     /// The known routes, including expired ones, in the order in which they were learnt.
     pub fn routes(&self) -> &[Route]
         ensures value { result.now ≡ self.now.routers }
-        ensures fits { length result.now ≤ IFACE_MAX_ROUTE_COUNT }
+        ensures fits { length result.now ≤ MAX_ROUTER_COUNT }
     {
         self.routes.as_slice()
     }
@@ -251,8 +275,14 @@ impl Slaac {
         requires moment { IsMoment now }
         ensures { self.new ≡ slaac_after_message self.old source.now router_lifetime prefix now }
     {
-        let is_prefix_news = process_prefix(&mut self.prefix, prefix, now);
-        let is_router_news = process_router(&mut self.routes, source, router_lifetime, now);
+        let is_prefix_news = process_prefix(&mut self.prefix, self.prefix_room, prefix, now);
+        let is_router_news = process_router(
+            &mut self.routes,
+            self.router_room,
+            source,
+            router_lifetime,
+            now,
+        );
         self.sync_required = self.sync_required || is_prefix_news || is_router_news;
         self.phase = phase_after_answer(self.phase);
     }
@@ -419,19 +449,21 @@ fn router_index(routes: &[Route], router: &Ipv6Address) -> usize
 
 // Sets the lifetimes of a valid prefix. Returns whether it is new and had room.
 fn add_prefix(
-    prefixes: &mut ArrayVec<Prefix, IFACE_MAX_PREFIX_COUNT>,
+    prefixes: &mut ArrayVec<Prefix, MAX_PREFIX_COUNT>,
+    room: usize,
     cidr: Ipv6Cidr,
     info: PrefixInfo,
 ) -> bool
-    ensures prefixes { prefixes.new.items ≡ with_prefix prefixes.old.items cidr info }
-    ensures news { result ≡ not (knows_prefix prefixes.old.items cidr || spec.is_prefix_full prefixes.old.items) }
+    requires { room ≤ MAX_PREFIX_COUNT }
+    ensures prefixes { prefixes.new.items ≡ with_prefix room prefixes.old.items cidr info }
+    ensures news { result ≡ not (knows_prefix prefixes.old.items cidr || spec.is_prefix_full room prefixes.old.items) }
 {
     let index = prefix_index(prefixes.as_slice(), &cidr);
     if let Some(known) = prefixes.get_mut(index) {
         *known = Prefix { cidr, info };
         return false;
     }
-    if prefixes.is_full() {
+    if prefixes.len() >= room {
         return false;
     }
     prefixes.push(Prefix { cidr, info });
@@ -439,7 +471,7 @@ fn add_prefix(
 }
 
 // Withdraws a prefix. Returns whether it was known.
-fn expire_prefix(prefixes: &mut ArrayVec<Prefix, IFACE_MAX_PREFIX_COUNT>, cidr: Ipv6Cidr) -> bool
+fn expire_prefix(prefixes: &mut ArrayVec<Prefix, MAX_PREFIX_COUNT>, cidr: Ipv6Cidr) -> bool
     ensures prefixes { prefixes.new.items ≡ prefixes_after_withdrawal prefixes.old.items cidr }
     ensures news { result ≡ knows_prefix prefixes.old.items cidr }
 {
@@ -456,13 +488,15 @@ fn expire_prefix(prefixes: &mut ArrayVec<Prefix, IFACE_MAX_PREFIX_COUNT>, cidr: 
 
 // Processes the prefix of an advertisement, if any. Returns whether that is news.
 fn process_prefix(
-    prefixes: &mut ArrayVec<Prefix, IFACE_MAX_PREFIX_COUNT>,
+    prefixes: &mut ArrayVec<Prefix, MAX_PREFIX_COUNT>,
+    room: usize,
     prefix: Option<NdiscPrefixInformation>,
     now: Instant,
 ) -> bool
+    requires room { room ≤ MAX_PREFIX_COUNT }
     requires moment { IsMoment now }
-    ensures prefixes { prefixes.new.items ≡ prefixes_after prefix prefixes.old.items now }
-    ensures news { result ≡ is_prefix_news prefix prefixes.old.items }
+    ensures prefixes { prefixes.new.items ≡ prefixes_after prefix room prefixes.old.items now }
+    ensures news { result ≡ is_prefix_news prefix room prefixes.old.items }
 {
     let Some(prefix) = prefix else {
         return false;
@@ -471,18 +505,20 @@ fn process_prefix(
         return false;
     };
     if prefix.valid_lifetime > 0 {
-        return add_prefix(prefixes, cidr, PrefixInfo::from_prefix(&prefix, now));
+        return add_prefix(prefixes, room, cidr, PrefixInfo::from_prefix(&prefix, now));
     }
     expire_prefix(prefixes, cidr)
 }
 
 // Sets the lifetime of a valid router. Returns whether it is new, whether there is room for it or not.
 fn add_route(
-    routes: &mut ArrayVec<Route, IFACE_MAX_ROUTE_COUNT>,
+    routes: &mut ArrayVec<Route, MAX_ROUTER_COUNT>,
+    room: usize,
     router: &Ipv6Address,
     valid_until: Instant,
 ) -> bool
-    ensures routes { routes.new.items ≡ with_router routes.old.items router.now valid_until }
+    requires { room ≤ MAX_ROUTER_COUNT }
+    ensures routes { routes.new.items ≡ with_router room routes.old.items router.now valid_until }
     ensures news { result ≡ not (knows_router routes.old.items router.now) }
 {
     let index = router_index(routes.as_slice(), router);
@@ -490,14 +526,14 @@ fn add_route(
         *known = Route::by_default(*router, valid_until);
         return false;
     }
-    if !routes.is_full() {
+    if routes.len() < room {
         routes.push(Route::by_default(*router, valid_until));
     }
     true
 }
 
 // Withdraws a router. Returns whether it was known.
-fn expire_route(routes: &mut ArrayVec<Route, IFACE_MAX_ROUTE_COUNT>, router: &Ipv6Address) -> bool
+fn expire_route(routes: &mut ArrayVec<Route, MAX_ROUTER_COUNT>, router: &Ipv6Address) -> bool
     ensures routes { routes.new.items ≡ spec.without_router routes.old.items router.now }
     ensures news { result ≡ knows_router routes.old.items router.now }
 {
@@ -511,18 +547,20 @@ fn expire_route(routes: &mut ArrayVec<Route, IFACE_MAX_ROUTE_COUNT>, router: &Ip
 
 // Processes the router of an advertisement. Returns whether that is news.
 fn process_router(
-    routes: &mut ArrayVec<Route, IFACE_MAX_ROUTE_COUNT>,
+    routes: &mut ArrayVec<Route, MAX_ROUTER_COUNT>,
+    room: usize,
     router: &Ipv6Address,
     lifetime: Duration,
     now: Instant,
 ) -> bool
+    requires room { room ≤ MAX_ROUTER_COUNT }
     requires lifetime { IsLifetime lifetime }
     requires moment { IsMoment now }
-    ensures routes { routes.new.items ≡ routers_after routes.old.items router.now lifetime now }
+    ensures routes { routes.new.items ≡ routers_after room routes.old.items router.now lifetime now }
     ensures news { result ≡ is_router_news routes.old.items router.now lifetime }
 {
     if lifetime > Duration::ZERO {
-        return add_route(routes, router, now + lifetime);
+        return add_route(routes, room, router, now + lifetime);
     }
     expire_route(routes, router)
 }
@@ -552,8 +590,8 @@ fn has_ended_route(routes: &[Route], now: Instant) -> bool
 }
 
 // The prefixes that are valid. If the first of two is removed, the second moves up.
-fn valid_prefixes(prefixes: &[Prefix], now: Instant) -> ArrayVec<Prefix, IFACE_MAX_PREFIX_COUNT>
-    requires { length prefixes.now ≤ IFACE_MAX_PREFIX_COUNT }
+fn valid_prefixes(prefixes: &[Prefix], now: Instant) -> ArrayVec<Prefix, MAX_PREFIX_COUNT>
+    requires { length prefixes.now ≤ MAX_PREFIX_COUNT }
     ensures { result.items ≡ filter (is_prefix_valid now) prefixes.now }
 {
     let mut valid = ArrayVec::new();
@@ -566,8 +604,8 @@ fn valid_prefixes(prefixes: &[Prefix], now: Instant) -> ArrayVec<Prefix, IFACE_M
 }
 
 // The routes that are valid, in their order.
-fn valid_routes(routes: &[Route], now: Instant) -> ArrayVec<Route, IFACE_MAX_ROUTE_COUNT>
-    requires { length routes.now ≤ IFACE_MAX_ROUTE_COUNT }
+fn valid_routes(routes: &[Route], now: Instant) -> ArrayVec<Route, MAX_ROUTER_COUNT>
+    requires { length routes.now ≤ MAX_ROUTER_COUNT }
     ensures { result.items ≡ filter (is_route_valid now) routes.now }
 {
     let mut valid = ArrayVec::new();

@@ -1,5 +1,5 @@
 //! How addresses and routes of an interface follow the prefixes and routers learnt (RFC 4862 5.5.3, RFC 4861 6.3.4).
-ghost use Rattle.std.specs.Prelude.{◌≡◌, ◌≤◌, ◌&&◌, length, not, filter};
+ghost use Rattle.std.specs.Prelude.{◌≡◌, ◌≤◌, ◌&&◌, length, not, filter, slice_get};
 ghost use Rattle.std.specs.List.{list_any};
 ghost use Rattle.iface_tables.specs.declared.route.Route.{Route as StoredRoute};
 ghost use Rattle.ip_address.specs.LinkPrefix as made;
@@ -13,68 +13,56 @@ use ip_address::{HardwareAddress, IpAddress, IpCidr, Ipv6Cidr};
 use net_base::time::Instant;
 
 /// The maximum number of addresses of an interface.
-const IFACE_MAX_ADDR_COUNT: usize = 4;
+pub const MAX_ADDR_COUNT: usize = 16;
 
-/// The addresses of an interface after a sync with the known prefixes. The address formed from each valid prefix is
-/// appended in order, if it is unicast, isn't there yet and there is room. Those of expired prefixes are removed.
-/// Addresses with different prefix lengths are different.
-pub fn synced_addrs(
-    own: &[IpCidr],
-    hardware_addr: &HardwareAddress,
-    prefixes: &[Prefix],
-    now: Instant,
-) -> ArrayVec<IpCidr, IFACE_MAX_ADDR_COUNT>
-    requires { length own.now ≤ 4 }
-    ensures { result.items ≡ spec.synced_addrs hardware_addr.now now prefixes.now own.now }
-{
-    let all = with_addrs(own, hardware_addr, prefixes, now);
-    without_ended(all.as_slice(), hardware_addr, prefixes, now)
-}
-
-/// The routes of an interface after a sync with the known routers. Those of expired routers are removed. That via each
-/// valid router is appended in order, if it isn't there yet and there is room. Such a route has no expiry of its own.
-pub fn synced_routes(
-    stored: &[table::Route],
-    routes: &[Route],
-    now: Instant,
-) -> ArrayVec<table::Route, 4>
-    requires { length stored.now ≤ 4 }
-    ensures { result.items ≡ spec.synced_routes now routes.now stored.now }
-{
-    let mut all = unended_routes(stored, routes, now);
-    add_routes(&mut all, routes, now);
-    all
-}
-
-// The addresses, and the one formed from each valid prefix.
-fn with_addrs(
-    own: &[IpCidr],
-    hardware_addr: &HardwareAddress,
-    prefixes: &[Prefix],
-    now: Instant,
-) -> ArrayVec<IpCidr, IFACE_MAX_ADDR_COUNT>
-    requires { length own.now ≤ 4 }
-    ensures { result.items ≡ spec.with_addrs hardware_addr.now now prefixes.now own.now }
-{
-    let mut all = ArrayVec::new();
-    let _ = all.try_extend_from_slice(own);
-    add_addrs(&mut all, hardware_addr, prefixes, now);
-    all
-}
-
-// Adds the address formed from each valid prefix.
-fn add_addrs(
-    own: &mut ArrayVec<IpCidr, IFACE_MAX_ADDR_COUNT>,
+/// Brings the addresses of an interface in line with the known prefixes, where there is room for so many, at most sixteen.
+/// The address formed from each valid prefix is appended in order, if it is unicast, isn't there yet and there is room.
+/// Those of expired prefixes are removed. Addresses with different prefix lengths are different.
+pub fn sync_addrs(
+    own: &mut ArrayVec<IpCidr, MAX_ADDR_COUNT>,
+    room: usize,
     hardware_addr: &HardwareAddress,
     prefixes: &[Prefix],
     now: Instant,
 )
-    ensures { own.new.items ≡ spec.with_addrs hardware_addr.now now prefixes.now own.old.items }
+    requires room { room ≤ MAX_ADDR_COUNT }
+    requires few { length own.old.items ≤ room }
+    ensures list { own.new.items ≡ spec.synced_addrs room hardware_addr.now now prefixes.now own.old.items }
+    ensures fits { length own.new.items ≤ room }
+{
+    add_addrs(own, room, hardware_addr, prefixes, now);
+    remove_ended_addrs(own, hardware_addr, prefixes, now);
+}
+
+/// Brings the routes of an interface in line with the known routers. Those of expired routers are removed. That via each
+/// valid router is appended in order, if it isn't there yet and there is room. Such a route has no expiry of its own.
+pub fn sync_routes(stored: &mut table::Routes, routes: &[Route], now: Instant)
+    ensures { stored.new ≡ record stored.old {
+      items = spec.synced_routes stored.old.room now routes.now stored.old.items;
+    } }
+{
+    remove_ended(stored, routes, now);
+    add_routes(stored, routes, now);
+}
+
+// Adds the address formed from each valid prefix.
+fn add_addrs(
+    own: &mut ArrayVec<IpCidr, MAX_ADDR_COUNT>,
+    room: usize,
+    hardware_addr: &HardwareAddress,
+    prefixes: &[Prefix],
+    now: Instant,
+)
+    requires room { room ≤ MAX_ADDR_COUNT }
+    requires few { length own.old.items ≤ room }
+    ensures list { own.new.items ≡ spec.with_addrs room hardware_addr.now now prefixes.now own.old.items }
+    ensures fits { length own.new.items ≤ room }
 {
     for prefix in prefixes {
         if prefix.info.is_valid(now) {
             add_addr(
                 own,
+                room,
                 Ipv6Cidr::from_link_prefix(&prefix.cidr, *hardware_addr),
             );
         }
@@ -82,11 +70,14 @@ fn add_addrs(
 }
 
 // Adds an address, if it is unicast, isn't there and there is room.
-fn add_addr(own: &mut ArrayVec<IpCidr, IFACE_MAX_ADDR_COUNT>, address: Option<Ipv6Cidr>)
-    ensures { own.new.items ≡ spec.with_addr address own.old.items }
+fn add_addr(own: &mut ArrayVec<IpCidr, MAX_ADDR_COUNT>, room: usize, address: Option<Ipv6Cidr>)
+    requires room { room ≤ MAX_ADDR_COUNT }
+    requires few { length own.old.items ≤ room }
+    ensures list { own.new.items ≡ spec.with_addr room address own.old.items }
+    ensures fits { length own.new.items ≤ room }
 {
     if let Some(cidr) = address {
-        if cidr.address.is_unicast() && !has_cidr(own.as_slice(), &cidr) && !own.is_full() {
+        if cidr.address.is_unicast() && !has_cidr(own.as_slice(), &cidr) && own.len() < room {
             own.push(IpCidr::Ipv6(cidr));
         }
     }
@@ -109,23 +100,17 @@ fn is_cidr(other: &IpCidr, cidr: &Ipv6Cidr) -> bool
     }
 }
 
-// The addresses without those formed from prefixes that have expired.
-fn without_ended(
-    own: &[IpCidr],
+// Removes the addresses formed from prefixes that have expired.
+fn remove_ended_addrs(
+    own: &mut ArrayVec<IpCidr, MAX_ADDR_COUNT>,
     hardware_addr: &HardwareAddress,
     prefixes: &[Prefix],
     now: Instant,
-) -> ArrayVec<IpCidr, IFACE_MAX_ADDR_COUNT>
-    requires { length own.now ≤ 4 }
-    ensures { result.items ≡ filter (λ c. not (spec.has_ended hardware_addr.now now prefixes.now c)) own.now }
+)
+    ensures list { own.new.items ≡ filter (λ c. not (spec.has_ended hardware_addr.now now prefixes.now c)) own.old.items }
+    ensures fits { length own.new.items ≤ length own.old.items }
 {
-    let mut left = ArrayVec::new();
-    for cidr in own {
-        if !has_ended(cidr, hardware_addr, prefixes, now) {
-            left.push(*cidr);
-        }
-    }
-    left
+    own.retain(|cidr| !has_ended(cidr, hardware_addr, prefixes, now));
 }
 
 // Whether an address is one formed from a prefix that has expired.
@@ -176,22 +161,37 @@ fn is_made(made: Option<Ipv6Cidr>, cidr: &Ipv6Cidr) -> bool
     }
 }
 
-// The stored routes that haven't expired.
-fn unended_routes(
-    stored: &[table::Route],
-    routes: &[Route],
-    now: Instant,
-) -> ArrayVec<table::Route, 4>
-    requires { length stored.now ≤ 4 }
-    ensures { result.items ≡ filter (λ (s : StoredRoute). not (spec.is_ended_route now routes.now s)) stored.now }
+// Removes the stored routes of expired routers, the last one first.
+fn remove_ended(stored: &mut table::Routes, routes: &[Route], now: Instant)
+    ensures { stored.new ≡ record stored.old {
+      items = filter (λ (s : StoredRoute). not (spec.is_ended_route now routes.now s)) stored.old.items;
+    } }
 {
-    let mut left = ArrayVec::new();
-    for route in stored {
-        if !is_ended_route(route, routes, now) {
-            left.push(*route);
-        }
+    let len = stored.as_slice().len();
+    for passed in 0..len {
+        remove_if_ended(stored, len - 1 - passed, routes, now);
     }
-    left
+}
+
+// Removes the stored route at an index, if it is that of an expired router.
+fn remove_if_ended(stored: &mut table::Routes, index: usize, routes: &[Route], now: Instant)
+    ensures { stored.new ≡ record stored.old {
+      items = spec.without_ended_at now routes.now stored.old.items index;
+    } }
+{
+    if is_ended_at(stored.as_slice(), index, routes, now) {
+        let _ = stored.remove(index);
+    }
+}
+
+// Whether there is a stored route at an index, and it is that of an expired router.
+fn is_ended_at(stored: &[table::Route], index: usize, routes: &[Route], now: Instant) -> bool
+    ensures { result ≡ spec.is_ended_at now routes.now (slice_get stored.now index) }
+{
+    match stored.get(index) {
+        Some(route) => is_ended_route(route, routes, now),
+        None => false,
+    }
 }
 
 // Whether a stored route is one that has expired.
@@ -217,8 +217,10 @@ fn is_route(route: &Route, stored: &table::Route) -> bool
 }
 
 // Adds the route via each valid router.
-fn add_routes(stored: &mut ArrayVec<table::Route, 4>, routes: &[Route], now: Instant)
-    ensures { stored.new.items ≡ spec.with_routes now routes.now stored.old.items }
+fn add_routes(stored: &mut table::Routes, routes: &[Route], now: Instant)
+    ensures { stored.new ≡ record stored.old {
+      items = spec.with_routes stored.old.room now routes.now stored.old.items;
+    } }
 {
     for route in routes {
         if route.is_valid(now) {
@@ -228,13 +230,13 @@ fn add_routes(stored: &mut ArrayVec<table::Route, 4>, routes: &[Route], now: Ins
 }
 
 // Adds a route, if it isn't there and there is room.
-fn add_route(stored: &mut ArrayVec<table::Route, 4>, route: &Route)
-    ensures { stored.new.items ≡ spec.with_route route.now stored.old.items }
+fn add_route(stored: &mut table::Routes, route: &Route)
+    ensures { stored.new ≡ record stored.old { items = spec.with_route stored.old.room route.now stored.old.items } }
 {
-    if has_route(stored.as_slice(), route) || stored.is_full() {
+    if has_route(stored.as_slice(), route) {
         return;
     }
-    stored.push(table::Route {
+    let _ = stored.push(table::Route {
         cidr: IpCidr::Ipv6(route.cidr),
         via_router: IpAddress::Ipv6(route.via_router),
         preferred_until: None,

@@ -157,6 +157,48 @@ fn a_router_gives_up(rt: HostRuntime) {
     assert!(rt; !was_news && is_news && slaac.routes().len() == 0);
 }
 
+// A router of its own for each number below 256.
+fn router(n: u8) -> Ipv6Address {
+    Ipv6Address {
+        bits: OTHER.bits + u128::from(n),
+    }
+}
+
+// What is known after advertisements of as many prefixes and routers, where there is room for so many.
+fn known_of(count: u8, prefixes: usize, routers: usize) -> (usize, usize) {
+    let mut slaac = Slaac::new();
+    slaac.set_room(prefixes, routers);
+    for n in 0..count {
+        slaac.process_advertisement(&router(n), TEN_MINUTES, prefix(n, 600, 600), Instant::ZERO);
+    }
+    (slaac.prefix().len(), slaac.routes().len())
+}
+
+#[test]
+fn as_many_are_kept_as_there_is_room_for(rt: HostRuntime) {
+    for (prefixes, routers, known) in [
+        (2, 4, (2, 4)),
+        (0, 1, (0, 1)),
+        (8, 8, (8, 8)),
+        (9, 100, (8, 8)),
+    ] {
+        assert_eq!(rt; known_of(10, prefixes, routers), known);
+    }
+}
+
+#[test]
+fn what_is_known_stays_with_less_room(rt: HostRuntime) {
+    let mut slaac = Slaac::new();
+    slaac.process_advertisement(&router(0), TEN_MINUTES, prefix(0, 600, 600), Instant::ZERO);
+    slaac.set_room(0, 0);
+    slaac.process_advertisement(&router(1), TEN_MINUTES, prefix(1, 600, 600), Instant::ZERO);
+    let is_kept = slaac.prefix().len() == 1 && slaac.routes().len() == 1;
+    // It is renewed, and withdrawn, as ever.
+    slaac.process_advertisement(&router(0), Duration::ZERO, prefix(0, 0, 0), Instant::ZERO);
+    slaac.update_slaac_state(Instant::ZERO);
+    assert!(rt; is_kept && slaac.prefix().is_empty() && slaac.routes().is_empty());
+}
+
 #[test]
 fn not_each_prefix_counts(rt: HostRuntime) {
     let mut slaac = Slaac::new();

@@ -1,11 +1,12 @@
+use arrayvec::ArrayVec;
 use icmpv6_wire::{NdiscPrefixInfoFlags, NdiscPrefixInformation};
-use iface_tables::route::Route as Stored;
+use iface_tables::route::{Route as Stored, Routes};
 use ip_address::{
     EthernetAddress, HardwareAddress, IpCidr, Ipv4Address, Ipv4Cidr, Ipv6Address, Ipv6Cidr,
 };
 use net_base::time::{Duration, Instant};
 use slaac::Slaac;
-use slaac::sync::{synced_addrs, synced_routes};
+use slaac::sync::{MAX_ADDR_COUNT, sync_addrs, sync_routes};
 
 const HARDWARE: HardwareAddress = HardwareAddress::Ethernet(EthernetAddress([2, 0, 0, 0, 0, 1]));
 
@@ -86,16 +87,31 @@ fn an_address_is_made_of_64_bits(rt: HostRuntime) {
     }
 }
 
+// These addresses in line with the prefixes, where there is room for so many.
+fn synced_addrs(
+    room: usize,
+    own: &[IpCidr],
+    slaac: &Slaac,
+    now: Instant,
+) -> ArrayVec<IpCidr, MAX_ADDR_COUNT> {
+    let mut list = ArrayVec::new();
+    if own.len() <= room && room <= MAX_ADDR_COUNT {
+        let _ = list.try_extend_from_slice(own);
+        sync_addrs(&mut list, room, &HARDWARE, slaac.prefix(), now);
+    }
+    list
+}
+
 #[test]
 fn an_address_is_added_once(rt: HostRuntime) {
     let slaac = advised();
-    let one = synced_addrs(&[v4(1)], &HARDWARE, slaac.prefix(), Instant::ZERO);
-    let again = synced_addrs(one.as_slice(), &HARDWARE, slaac.prefix(), Instant::ZERO);
+    let one = synced_addrs(4, &[v4(1)], &slaac, Instant::ZERO);
+    let again = synced_addrs(4, one.as_slice(), &slaac, Instant::ZERO);
     // Another length is another address.
     let own = [IpCidr::Ipv6(v6(made().address.bits, 128))];
-    let both = synced_addrs(&own, &HARDWARE, slaac.prefix(), Instant::ZERO);
+    let both = synced_addrs(4, &own, &slaac, Instant::ZERO);
     // When it ends the one with its length goes.
-    let left = synced_addrs(both.as_slice(), &HARDWARE, slaac.prefix(), END);
+    let left = synced_addrs(4, both.as_slice(), &slaac, END);
     let is_right = one.as_slice() == [v4(1), IpCidr::Ipv6(made())].as_slice()
         && again.as_slice() == one.as_slice()
         && both.as_slice() == [own[0], IpCidr::Ipv6(made())].as_slice()
@@ -107,20 +123,25 @@ fn an_address_is_added_once(rt: HostRuntime) {
 fn a_full_list_keeps_it_out(rt: HostRuntime) {
     let slaac = advised();
     let own = [v4(1), v4(2), v4(3), v4(4)];
-    let list = synced_addrs(&own, &HARDWARE, slaac.prefix(), Instant::ZERO);
-    assert!(rt; list.as_slice() == own.as_slice());
+    let list = synced_addrs(4, &own, &slaac, Instant::ZERO);
+    let with_room = synced_addrs(5, &own, &slaac, Instant::ZERO);
+    let is_last = with_room.len() == 5
+        && with_room.as_slice().get(4) == Some(&IpCidr::Ipv6(made()));
+    assert!(rt; list.as_slice() == own.as_slice() && is_last);
 }
 
 #[test]
 fn routes_have_no_end_of_their_own(rt: HostRuntime) {
     let slaac = advised();
-    let routes = synced_routes(&[gateway()], slaac.routes(), Instant::ZERO);
-    let again = synced_routes(routes.as_slice(), slaac.routes(), Instant::ZERO);
-    let left = synced_routes(routes.as_slice(), slaac.routes(), END);
-    let is_right = routes.as_slice() == [gateway(), Stored::new_ipv6_gateway(ROUTER)].as_slice()
-        && again.as_slice() == routes.as_slice()
-        && left.as_slice() == [gateway()].as_slice();
-    assert!(rt; is_right);
+    let both = [gateway(), Stored::new_ipv6_gateway(ROUTER)];
+    let mut routes = Routes::new();
+    let _ = routes.push(gateway());
+    sync_routes(&mut routes, slaac.routes(), Instant::ZERO);
+    let is_added = routes.as_slice() == both.as_slice();
+    sync_routes(&mut routes, slaac.routes(), Instant::ZERO);
+    let is_added_once = routes.as_slice() == both.as_slice();
+    sync_routes(&mut routes, slaac.routes(), END);
+    assert!(rt; is_added && is_added_once && routes.as_slice() == [gateway()].as_slice());
 }
 
 #[test]
@@ -128,6 +149,21 @@ fn a_full_table_keeps_a_route_out(rt: HostRuntime) {
     let slaac = advised();
     let gateway = |n| Stored::new_ipv4_gateway(Ipv4Address::new(10, 0, 0, n));
     let stored = [gateway(1), gateway(2), gateway(3), gateway(4)];
-    let routes = synced_routes(&stored, slaac.routes(), Instant::ZERO);
-    assert!(rt; routes.as_slice() == stored.as_slice());
+    let mut routes = Routes::new();
+    let is_set = routes.set(&stored).is_ok();
+    sync_routes(&mut routes, slaac.routes(), Instant::ZERO);
+    assert!(rt; is_set && routes.as_slice() == stored.as_slice());
+}
+
+#[test]
+fn routes_that_end_go_wherever_they_stand(rt: HostRuntime) {
+    let slaac = advised();
+    let by_router = Stored::new_ipv6_gateway(ROUTER);
+    let other = Stored::new_ipv4_gateway(Ipv4Address::new(10, 0, 0, 1));
+    let mut routes = Routes::new();
+    let is_set = routes
+        .set(&[by_router, gateway(), by_router, other])
+        .is_ok();
+    sync_routes(&mut routes, slaac.routes(), END);
+    assert!(rt; is_set && routes.as_slice() == [gateway(), other].as_slice());
 }
