@@ -2,7 +2,6 @@
 use Rattle.std.proofs.Common.{◌≡◌, ◌⊎◌, inl, inr, ℕ, ◌==◌, Bool, true, false, List, [], refl, sym, ◌∙◌, ap}
 use Rattle.std.proofs.Common.{subst, Option, Some, None, slice_get, slice_set, if◌then◌else◌, option_and_then}
 use Rattle.std.specs.Prelude.{pos, ◌+ℤ◌}
-use Rattle.std.specs.FinMap as map
 use Rattle.net_base.specs.Checksum.{is_rx}
 use Rattle.ip_address.specs.declared.ethernet_address.EthernetAddress.{EthernetAddress}
 use Rattle.ip_address.specs.declared.hardware.HardwareAddress.{HardwareAddress}
@@ -37,6 +36,7 @@ use Rattle.sockets.specs.declared.socket.SocketOf.TheVariants.{Raw, Icmp, Udp, T
 use Rattle.sockets.specs.Kinds.{down_udp}
 use Rattle.transport_sockets.specs.Udp as udp_socket
 use Rattle.transport_sockets.specs.Udp.{UdpSocket}
+use Rattle.fragmentation.specs.Slots.{free_slots}
 use Rattle.host_machine.specs.Context.Note.{Note}
 use Rattle.host_machine.specs.Context.Host.{Host, Storage, no_sockets, with_places, with_neighbors}
 use Rattle.host_machine.specs.Context.Addresses.{is_broadcast, is_for_host, is_unicast}
@@ -69,7 +69,7 @@ seen H = record H {
   neighbors = first_neighbors 0;
   ipv4_id = 0;
   reassembly_timeout = 0;
-  slots = map.empty;
+  slots = free_slots 0;
   left = [];
   igmp_report = igmp_state.Inactive;
   mld_report = mld_state.Inactive;

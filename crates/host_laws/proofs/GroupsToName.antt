@@ -106,11 +106,11 @@ module _ (groups : List Group) (a : IpAddress) where
     by (Some Leaving) e = omega arith
 
   -- the join of an IPv6 group
-  join_least : of_v4 a ≡ 0 → number_v4 (groups_after_join groups a) ≤ number_v4 groups
-  join_least six = by (state_of groups a) refl where
-    room : (b : Bool) → number_v4 (if b then groups else with_new groups a) ≤ number_v4 groups
-    room true = omega arith
-    room false = omega (
+  join_least : (room : ℕ) → of_v4 a ≡ 0 → number_v4 (groups_after_join room groups a) ≤ number_v4 groups
+  join_least room six = by (state_of groups a) refl where
+    unless_full : (b : Bool) → number_v4 (if b then groups else with_new groups a) ≤ number_v4 groups
+    unless_full true = omega arith
+    unless_full false = omega (
       arith,
       number_is (with_new groups a),
       number_is groups,
@@ -119,8 +119,8 @@ module _ (groups : List Group) (a : IpAddress) where
       six,
     )
 
-    by : (o : Option GroupState) → state_of groups a ≡ o → number_v4 (joined_from o groups a) ≤ number_v4 groups
-    by None e = room (is_full groups)
+    by : (o : Option GroupState) → state_of groups a ≡ o → number_v4 (joined_from o room groups a) ≤ number_v4 groups
+    by None e = unless_full (is_full room groups)
     by (Some Joining) e = omega arith
     by (Some Joined) e = omega arith
     by (Some Leaving) e = omega (arith, state_set groups a Joined (is_here Leaving e))
@@ -129,22 +129,23 @@ leaves_least : (groups : List Group) (addresses : List IpAddress) → number_v4 
 leaves_least groups [] = omega arith
 leaves_least groups (a ∷ addresses) = omega (arith, leaves_least (groups_after_leave groups a) addresses, leave_least groups a)
 
-joins_least : (groups : List Group) (own : List IpCidr) → number_v4 (groups_after_joins groups own) ≤ number_v4 groups
-joins_least groups [] = omega arith
-joins_least groups (cidr.Ipv4 n ∷ own) = joins_least groups own
-joins_least groups (cidr.Ipv6 n ∷ own) =
+joins_least : (room : ℕ) (groups : List Group) (own : List IpCidr) → number_v4 (groups_after_joins room groups own) ≤ number_v4 groups
+joins_least room groups [] = omega arith
+joins_least room groups (cidr.Ipv4 n ∷ own) = joins_least room groups own
+joins_least room groups (cidr.Ipv6 n ∷ own) =
     omega (
       arith,
-      joins_least (groups_after_join groups (Ipv6 (solicited_node n.address))) own,
-      join_least groups (Ipv6 (solicited_node n.address)) refl,
+      joins_least room (groups_after_join room groups (Ipv6 (solicited_node n.address))) own,
+      join_least groups (Ipv6 (solicited_node n.address)) room refl,
     )
 
 -- a change of addresses changes no IPv4 group
-pub groups_for_least : (h : HardwareAddress) (own : List IpCidr) (groups : List Group) → number_v4 (groups_for h own groups) ≤ number_v4 groups
-groups_for_least hardware.Ip own groups = omega arith
-groups_for_least (hardware.Ethernet e) own groups =
+pub groups_for_least : (h : HardwareAddress) (own : List IpCidr) (room : ℕ) (groups : List Group) →
+    number_v4 (groups_for h own room groups) ≤ number_v4 groups
+groups_for_least hardware.Ip own room groups = omega arith
+groups_for_least (hardware.Ethernet e) own room groups =
     let idle : List IpAddress = filter (is_unneeded_group own) (map (λ (g : Group). g.addr) groups) in
-    omega (arith, joins_least (groups_after_leaves groups idle) own, leaves_least groups idle)
+    omega (arith, joins_least room (groups_after_leaves groups idle) own, leaves_least groups idle)
 
 module _ (state : GroupState) (packet_for : List IpCidr → IpAddress → Option Packet) (after_report : List Group → IpAddress → List Group)
     (least : (groups : List Group) (a : IpAddress) → number_v4 (after_report groups a) ≤ number_v4 groups) where

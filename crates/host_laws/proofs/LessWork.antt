@@ -301,7 +301,7 @@ module _ {t : ℤ} {new : Host} (x : ℤ) (synced : sync_poll_at (at new t) ≡ 
 maintained : (H : Host) (t : ℤ) → IsSound H → KeepsWork H (after_maintenance (at H t))
 maintained H t s = by (sync_required H.slaac t) where
   groups : number_v4 (with_slaac_applied (without_expired H t)).groups ≤ number_v4 H.groups
-  groups = groups_for_least H.hardware_addr (with_slaac_applied (without_expired H t)).ip_addrs H.groups
+  groups = groups_for_least H.hardware_addr (with_slaac_applied (without_expired H t)).ip_addrs H.group_room H.groups
 
   by : (b : Bool) → KeepsWork H (if b then with_slaac_applied (without_expired H t) else without_expired H t)
   by true = kept H (with_slaac_applied (without_expired H t)) s

@@ -1,5 +1,5 @@
 -- The polls of a host with queued datagrams to a neighbour that it knows.
-use Rattle.std.proofs.Common.{◌≡◌, ◌∙◌, ℕ, ◌+◌, ◌%◌, ◌^◌, true, false, List, [], ◌∷◌, refl, None, Ok, lit≤, arith}
+use Rattle.std.proofs.Common.{◌≡◌, ◌∙◌, ℕ, ◌+◌, ◌%◌, ◌^◌, true, false, List, [], ◌∷◌, refl, ap, None, Ok, lit≤, arith}
 use Rattle.std.specs.Prelude.{ℤ, pos}
 use Rattle.std.specs.FinMap as map
 use Rattle.std.specs.FinMap.{get-insert, get-empty, same_map}
@@ -12,7 +12,7 @@ use Rattle.iface_tables.specs.declared.neighbor.Answer.TheVariants.{Found}
 use Rattle.iface_tables.specs.declared.neighbor.Neighbor.{Neighbor}
 use Rattle.iface_tables.specs.Neighbor.{answer_of}
 use Rattle.iface_tables.proofs.NeighborLemmas.{address_total}
-use Rattle.fragmentation.specs.Slots.{live_at}
+use Rattle.fragmentation.specs.Slots.{free_slots, held_at, live_at}
 use Rattle.socket_base.specs.declared.endpoint.IpEndpoint.{IpEndpoint}
 use Rattle.sockets.specs.declared.socket.SocketOf.TheVariants as kind
 use Rattle.host_machine.specs.declared.results.PollIngressSingleResult.TheVariants as ingress
@@ -37,8 +37,11 @@ is_known =
     let entry : Neighbor = record { hardware_addr = example.sender_hardware; expires_at = pos 60000000 } in
     rw (get-insert address_total map.empty example.sender entry example.sender) refl
 
-pub no_slots : (t : ℤ) → live_at t map.empty ≡ map.empty
-no_slots t = same_map key_total key_exact (live_at t map.empty) map.empty (λ q. get-live_at t map.empty q ∙ rw get-empty refl)
+none_held : (t : ℤ) → held_at t map.empty ≡ map.empty
+none_held t = same_map key_total key_exact (held_at t map.empty) map.empty (λ q. get-live_at t (free_slots 2) q ∙ rw get-empty refl)
+
+pub no_slots : (t : ℤ) → live_at t (free_slots 2) ≡ free_slots 2
+no_slots t = ap (λ held. record (free_slots 2) { held = held }) (none_held t)
 
 nothing_taken : (id : ℕ) (packets : List (IpEndpoint × List ℕ)) →
     Ingress (pos 0) ingress.None (with_queued id packets) (Received (pos 0) Nothing ∷ []) [] (with_queued id packets)

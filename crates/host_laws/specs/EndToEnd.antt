@@ -2,7 +2,7 @@
 -- a UDP socket of the other.
 use Rattle.std.specs.Prelude.{◌≡◌, ℕ, List, [], Some, None}
 use Rattle.std.specs.List.{AllByRecursion, Contains}
-use Rattle.std.specs.FinMap as map
+use Rattle.fragmentation.specs.Slots.{slot_of}
 use Rattle.fragmentation.specs.Reassembly.{SlotNote}
 use Rattle.net_base.specs.Device.{sent_frames}
 use Rattle.host_machine.specs.Context.Host.{Host}
@@ -47,7 +47,7 @@ WasSent ps d = (p : Transition) × Contains ps p × WasSentAt p d
 pub record MayRebuild (a b : Host) (ps : List Transition) : Type 0 where
   pub left : a.left ≡ []
   pub own : HaveOwnKeys (cuts_in ps)
-  pub free : AllByRecursion (λ d. map.get b.slots (key_of_cut d) ≡ None) (cuts_in ps)
+  pub free : AllByRecursion (λ d. slot_of b.slots (key_of_cut d) ≡ None) (cuts_in ps)
 
 -- a datagram that arrived in one packet was sent; one that arrived in fragments was, if what is reassembled is what was
 -- fragmented

@@ -1,5 +1,7 @@
 pub mod Walk
 pub mod NeighborRoom
+pub mod SlotRoom
+pub mod TableRoom
 pub mod DiscoverySpacing
 pub mod ReassemblyOrigin
 pub mod IdentificationOrder

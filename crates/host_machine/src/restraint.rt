@@ -15,7 +15,7 @@ ghost use Rattle.host_machine.specs.Laws.Restraint.Replies.{EchoesHaveCause, Ech
 ghost use Rattle.host_machine.specs.Laws.Restraint.Replies.{ErrorsV6HaveCause, RepliesAreOfKinds, ResetsHaveCause};
 ghost use Rattle.host_machine.specs.Laws.Restraint.ReplyLengths.{RepliesAreShort};
 ghost use Rattle.host_machine.specs.Laws.Restraint.Settings.{FramesKeepSettings, NeighborRoomStays, OtherStepsKeepSettings};
-ghost use Rattle.host_machine.specs.Laws.Restraint.Settings.{SendingKeepsSettings};
+ghost use Rattle.host_machine.specs.Laws.Restraint.Settings.{SendingKeepsSettings, SlotRoomStays, TableRoomStays};
 ghost use Rattle.host_machine.specs.Laws.Restraint.Sources.{SourcesAreOwn};
 ghost use Rattle.host_machine.specs.Laws.Restraint.Words.{WordsAreLists};
 ghost use Rattle.host_machine.specs.Laws.Solicitations.{SolicitationsAreFew};
@@ -209,6 +209,16 @@ pub fn other_steps_keep_settings()
 /// No run changes how many neighbours there is room for. Its maker chooses that number.
 pub fn neighbor_room_stays()
     ensures { NeighborRoomStays }
+{}
+
+/// No run changes how many slots there are for datagrams in fragments. The host's maker chooses that number too.
+pub fn slot_room_stays()
+    ensures { SlotRoomStays }
+{}
+
+/// No run changes for how many addresses, routes and groups there is room. The host's maker chooses these numbers.
+pub fn table_room_stays()
+    ensures { TableRoomStays }
 {}
 
 /// No answer to a query is sent before the moment at which it is due (RFC 2236 3, RFC 3810 6.2).

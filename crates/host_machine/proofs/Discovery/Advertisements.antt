@@ -100,7 +100,7 @@ or_last true y z e = refl
 or_last false true z e = refl
 or_last false false z e = e
 
-learns_prefix : (s : SlaacState) (router : Ipv6Address) (lifetime : ℕ) (p : NdiscPrefixInformation) (t : ℤ) → FormsAddresses p → length s.prefixes < 2 →
+learns_prefix : (s : SlaacState) (router : Ipv6Address) (lifetime : ℕ) (p : NdiscPrefixInformation) (t : ℤ) → FormsAddresses p → length s.prefixes < s.prefix_room →
     IsKnown (slaac_after_message s router lifetime (Some p) t).prefixes p (t +ℤ pos (p.valid_lifetime * 1_000_000))
     × (((slaac_after_message s router lifetime (Some p) t).changed ≡ true) ⊎ ((end : ℤ) × IsKnown s.prefixes p end))
 learns_prefix s router lifetime p t f room = by (knows_prefix s.prefixes c.0) refl where
@@ -110,7 +110,7 @@ learns_prefix s router lifetime p t f room = by (knows_prefix s.prefixes c.0) re
   some : (p.valid_lifetime == 0) ≡ false
   some = other.same_bits p.valid_lifetime 0 f.some_time
 
-  full : is_prefix_full s.prefixes ≡ false
+  full : is_prefix_full s.prefix_room s.prefixes ≡ false
   full = grind (arith, nat_tests)
 
   now : Prefix
@@ -126,20 +126,20 @@ learns_prefix s router lifetime p t f room = by (knows_prefix s.prefixes c.0) re
         inr (k.0.info.valid_until, (prefix_index s.prefixes c.0, k.0, k.1, same.0 ∙ c.2, same.1 ∙ c.3, refl)),
       )
   by false e =
-      let news : is_prefix_news (Some p) s.prefixes ≡ true = rw (c.1, some, e, full) refl in (
+      let news : is_prefix_news (Some p) s.prefix_room s.prefixes ≡ true = rw (c.1, some, e, full) refl in (
         rw (c.1, some, e, full) (length s.prefixes, now, at_last s.prefixes now, c.2, c.3, refl),
-        inl (or_one s.changed (is_prefix_news (Some p) s.prefixes) (is_router_news s.routers router lifetime) news),
+        inl (or_one s.changed (is_prefix_news (Some p) s.prefix_room s.prefixes) (is_router_news s.routers router lifetime) news),
       )
 
 learns_router : (s : SlaacState) (router : Ipv6Address) (lifetime : ℕ) (prefix : Option NdiscPrefixInformation) (t : ℤ) → lifetime ≢ 0 →
-    length s.routers < 4 →
+    length s.routers < s.router_room →
     IsKnownRouter (slaac_after_message s router lifetime prefix t).routers router (t +ℤ pos lifetime)
     × (((slaac_after_message s router lifetime prefix t).changed ≡ true) ⊎ ((end : ℤ) × IsKnownRouter s.routers router end))
 learns_router s router lifetime prefix t lives room = by (knows_router s.routers router) refl where
   some : (lifetime == 0) ≡ false
   some = other.same_bits lifetime 0 lives
 
-  full : is_router_full s.routers ≡ false
+  full : is_router_full s.router_room s.routers ≡ false
   full = grind (arith, nat_tests)
 
   now : Route
@@ -169,7 +169,7 @@ learns_router s router lifetime prefix t lives room = by (knows_router s.routers
   by false e =
       let news : is_router_news s.routers router lifetime ≡ true = rw (some, e) refl in (
         rw (some, e, full) (length s.routers, now, at_last s.routers now, refl, refl, refl, refl),
-        inl (or_last s.changed (is_prefix_news prefix s.prefixes) (is_router_news s.routers router lifetime) news),
+        inl (or_last s.changed (is_prefix_news prefix s.prefix_room s.prefixes) (is_router_news s.routers router lifetime) news),
       )
 
 -- In the call that takes it

@@ -1,5 +1,5 @@
 -- Who is known in the worked examples.
-use Rattle.std.proofs.Common.{◌≡◌, ◌∙◌, refl, Some}
+use Rattle.std.proofs.Common.{◌≡◌, ◌∙◌, ap, refl, Some}
 use Rattle.std.specs.Prelude.{ℤ, pos}
 use Rattle.std.specs.FinMap as map
 use Rattle.std.specs.FinMap.{get-insert, get-empty, same_map}
@@ -8,7 +8,7 @@ use Rattle.iface_tables.specs.declared.neighbor.Neighbor.{Neighbor}
 use Rattle.iface_tables.specs.declared.neighbor.Answer.TheVariants.{Found, NotFound, RateLimited}
 use Rattle.iface_tables.specs.Neighbor.{answer_of, after_renewal}
 use Rattle.iface_tables.proofs.NeighborLemmas.{address_total}
-use Rattle.fragmentation.specs.Slots.{live_at}
+use Rattle.fragmentation.specs.Slots.{free_slots, held_at, live_at}
 use Rattle.host_machine.proofs.Receive.Keys.{get-live_at, key_exact, key_total}
 use Rattle.host_machine.specs.Examples.ArpAndEcho.{sender, sender_hardware, neighbors_with_sender, neighbors_after_renewal, no_neighbors}
 use Rattle.host_machine.specs.Examples.Ipv6 as ipv6
@@ -45,5 +45,8 @@ pub no_neighbor_renewed : after_renewal (no_neighbors (pos 0)) sender hardware.I
 no_neighbor_renewed = rw get-empty refl
 
 -- where no slot is taken, none is dropped
-pub no_slots : (t : ℤ) → live_at t map.empty ≡ map.empty
-no_slots t = same_map key_total key_exact (live_at t map.empty) map.empty (λ q. get-live_at t map.empty q ∙ rw get-empty refl)
+pub none_held : (t : ℤ) → held_at t map.empty ≡ map.empty
+none_held t = same_map key_total key_exact (held_at t map.empty) map.empty (λ q. get-live_at t (free_slots 0) q ∙ rw get-empty refl)
+
+pub no_slots : (t : ℤ) → live_at t (free_slots 2) ≡ free_slots 2
+no_slots t = ap (λ held. record (free_slots 2) { held = held }) (none_held t)

@@ -11,7 +11,7 @@ use Rattle.ipv6_wire.specs.Ipv6Packet.{address_at}
 use Rattle.icmpv6_wire.specs.Icmpv6.{Neighbor as Message}
 use Rattle.icmpv6_wire.specs.NdiscOption.{IsOption, last_of, options_from}
 use Rattle.control_wire.specs.Icmpv4.{Reply as EchoReplied}
-use Rattle.fragmentation.specs.Slots.{live_at}
+use Rattle.fragmentation.specs.Slots.{held_at}
 use Rattle.host_machine.specs.Context.Host.{Host, with_slots, without_expired}
 use Rattle.host_machine.specs.Receive.Reply.{IsDropped}
 use Rattle.host_machine.specs.Interface.Ingress.{Takes, answer_to}
@@ -28,7 +28,7 @@ use Rattle.host_machine.specs.Sockets.Udp as udp
 use Rattle.host_machine.specs.Examples.Fragments.{waiting_host}
 use Rattle.host_machine.specs.Examples.Ignored as turned
 use Rattle.host_machine.specs.Examples.Ignored.{IsIgnored, TurnedFramesAreIgnored}
-use Rattle.host_machine.proofs.Examples.Exchange.{none_renewed, none_renewed_v6, no_slots}
+use Rattle.host_machine.proofs.Examples.Exchange.{none_renewed, none_renewed_v6, none_held}
 use Rattle.host_machine.proofs.Examples.Pair.{waits_on}
 
 -- a frame that is dropped
@@ -51,11 +51,11 @@ ignored_by H frame same t whole = record {
 }
 
 -- where a host has no slot, or one that waits for 60 seconds, none is dropped
-nothing_expired : (H : Host) → H.moment ≡ pos 0 → H.slots ≡ map.empty → without_expired H (pos 0) ≡ H
-nothing_expired H now none = ap (λ s. record H { moment = pos 0; slots = live_at (pos 0) s }) none
-    ∙ ap (λ s. record H { moment = pos 0; slots = s }) (no_slots (pos 0) ∙ sym none) ∙ ap (λ m. record H { moment = m }) (sym now)
+nothing_expired : (H : Host) → H.moment ≡ pos 0 → H.slots.held ≡ map.empty → without_expired H (pos 0) ≡ H
+nothing_expired H now none = ap (λ held. record H { moment = pos 0; slots = record H.slots { held = held_at (pos 0) held } }) none
+    ∙ ap (λ held. record H { moment = pos 0; slots = record H.slots { held = held } }) (none_held (pos 0) ∙ sym none) ∙ ap (λ m. record H { moment = m }) (sym now)
 
-ignored : (H : Host) (frame : List ℕ) → H.moment ≡ pos 0 → H.slots ≡ map.empty → Takes H (Frame frame) None [] H →
+ignored : (H : Host) (frame : List ℕ) → H.moment ≡ pos 0 → H.slots.held ≡ map.empty → Takes H (Frame frame) None [] H →
     answer_to (Frame frame) ≡ result.SocketStateChanged → IsIgnored H frame
 ignored H frame now none t whole = ignored_by H frame (nothing_expired H now none) t whole
 

@@ -1,12 +1,12 @@
 -- The two fragments of the worked examples.
-use Rattle.std.proofs.Common.{◌≡◌, ◌∙◌, ℕ, zero, suc, ◌<◌, List, [], ◌∷◌, length, refl, inl, inr, Some, None, lit≤, arith}
+use Rattle.std.proofs.Common.{◌≡◌, ◌∙◌, ℕ, zero, suc, ◌<◌, List, [], ◌∷◌, length, refl, ap, inl, inr, Some, None, lit≤, arith}
 use Rattle.std.specs.Prelude.{pos, Bool, true, false, cond, not, if◌then◌else◌}
 use Rattle.std.specs.FinMap as map
 use Rattle.std.specs.FinMap.{get-insert, get-empty, len-empty, same_map}
 use Rattle.fragmentation.specs.Fragments.{no_fragments, with_one, IsRebuilt}
 use Rattle.fragmentation.specs.declared.key.FragKey.{FragKey}
 use Rattle.fragmentation.specs.Keys.{key_cmp, same_key}
-use Rattle.fragmentation.specs.Slots.{Slot, Slots, has_ended, live_at}
+use Rattle.fragmentation.specs.Slots.{Slot, Slots, HasFree, free_slots, with_slot, has_ended, live_at}
 use Rattle.fragmentation.specs.Cuts.{piece_at}
 use Rattle.host_machine.specs.Examples.ArpAndEcho.{host, no_neighbors}
 use Rattle.host_machine.specs.Examples.Fragments.{key, ten, one, two, waiting_slot}
@@ -20,8 +20,12 @@ first_got = rw (few_kept [] one (lit≤ tt)) refl
 pub first_waits : (octets : List ℕ) → IsRebuilt (with_one no_fragments one) octets → ⊥
 first_waits octets r = let none : None ≡ Some (length octets) = r.whole.total in absurd cc
 
-pub still_there : map.get (live_at (pos 0) (map.insert map.empty key waiting_slot)) key ≡ Some waiting_slot
-still_there = get-live_at (pos 0) (map.insert map.empty key waiting_slot) key ∙ rw (get-insert key_total map.empty key waiting_slot key) refl
+-- the slot that waits
+abbrev waiting : Slots
+waiting = with_slot (free_slots 2) key waiting_slot
+
+pub still_there : map.get (live_at (pos 0) waiting).held key ≡ Some waiting_slot
+still_there = get-live_at (pos 0) waiting key ∙ rw (get-insert key_total map.empty key waiting_slot key) refl
 
 all_two : with_one waiting_slot.got two ≡ all_got (one ∷ two ∷ [])
 all_two = rw (few_kept (one ∷ []) two (lit≤ tt)) refl
@@ -39,21 +43,18 @@ ten_rebuilt =
       (record { number = 1; below = lit≤ tt; is = refl }, tt),
     )) pieces_two)
 
-pub none_yet : map.get (host 0x1405 (no_neighbors (pos 0))).slots key ≡ None
+pub none_yet : map.get (host 0x1405 (no_neighbors (pos 0))).slots.held key ≡ None
 none_yet = get-empty key_cmp key
 
-pub has_room : map.len (host 0x1405 (no_neighbors (pos 0))).slots < 2
-has_room = let e : map.len (host 0x1405 (no_neighbors (pos 0))).slots ≡ 0 = len-empty key_cmp Slot in omega arith
+pub has_room : HasFree (host 0x1405 (no_neighbors (pos 0))).slots
+has_room = let e : map.len (host 0x1405 (no_neighbors (pos 0))).slots.held ≡ 0 = len-empty key_cmp Slot in omega arith
 
--- the slot waits on
-abbrev waiting : Slots
-waiting = map.insert map.empty key waiting_slot
-
-waits_at : (q : FragKey) (b : Bool) → map.get waiting q ≡ cond b (Some waiting_slot) None →
-    (if not (has_ended (pos 0) (map.get waiting q)) then map.get waiting q else None) ≡ map.get waiting q
+-- and nothing happens to it while it waits
+waits_at : (q : FragKey) (b : Bool) → map.get waiting.held q ≡ cond b (Some waiting_slot) None →
+    (if not (has_ended (pos 0) (map.get waiting.held q)) then map.get waiting.held q else None) ≡ map.get waiting.held q
 waits_at q true e = rw e refl
 waits_at q false e = rw e refl
 
-pub waits_on : live_at (pos 0) (map.insert map.empty key waiting_slot) ≡ map.insert map.empty key waiting_slot
-waits_on = same_map key_total key_exact (live_at (pos 0) waiting) waiting (λ q. get-live_at (pos 0) waiting q
-    ∙ waits_at q (same_key q key) (get-insert key_total map.empty key waiting_slot q ∙ rw get-empty refl))
+pub waits_on : live_at (pos 0) waiting ≡ waiting
+waits_on = ap (λ held. record waiting { held = held }) (same_map key_total key_exact (live_at (pos 0) waiting).held waiting.held (λ q. get-live_at (pos 0) waiting q
+    ∙ waits_at q (same_key q key) (get-insert key_total map.empty key waiting_slot q ∙ rw get-empty refl)))

@@ -83,12 +83,13 @@ is_same_as n c e =
     ((Decides-eqb n.address.bits c.address.bits).0 parts.0, (Decides-eqb n.prefix_len c.prefix_len).0 parts.1)
 
 -- the one of a prefix is there, where there is room
-one_more : (own : List IpCidr) (c : Ipv6Cidr) → is_unicast c.address ≡ true → length own < 4 → HasAddress (with_addr (Some c) own) c
-one_more own c unicast room = by (list_any (is_cidr c) own) refl where
-  full : nat_le 4 (length own) ≡ false
+one_more : (room : ℕ) (own : List IpCidr) (c : Ipv6Cidr) → is_unicast c.address ≡ true → length own < room →
+    HasAddress (with_addr room (Some c) own) c
+one_more room own c unicast below = by (list_any (is_cidr c) own) refl where
+  full : nat_le room (length own) ≡ false
   full = grind (arith, nat_tests)
 
-  by : (b : Bool) → list_any (is_cidr c) own ≡ b → HasAddress (with_addr (Some c) own) c
+  by : (b : Bool) → list_any (is_cidr c) own ≡ b → HasAddress (with_addr room (Some c) own) c
   by true e =
       let x = found (is_cidr c) own e in rw (unicast, e) (there x.0 x.1 x.2 x.3) where
         there : (k : ℕ) (n : IpCidr) → slice_get own k ≡ Some n → is_cidr c n ≡ true → HasAddress own c
@@ -96,54 +97,55 @@ one_more own c unicast room = by (list_any (is_cidr c) own) refl where
         there k (cidr.Ipv6 n) here is = let same = is_same_as n c is in (k, n, here, same.0, same.1)
   by false e = rw (unicast, e, full) (length own, c, at_last own (cidr.Ipv6 c), refl, refl)
 
-keeps_one : (o : Option Ipv6Cidr) (own : List IpCidr) (k : ℕ) (x : IpCidr) → slice_get own k ≡ Some x → slice_get (with_addr o own) k ≡ Some x
-keeps_one None own k x here = here
-keeps_one (Some c) own k x here = by (is_unicast c.address && not (list_any (is_cidr c) own) && not (nat_le 4 (length own))) where
+keeps_one : (room : ℕ) (o : Option Ipv6Cidr) (own : List IpCidr) (k : ℕ) (x : IpCidr) → slice_get own k ≡ Some x →
+    slice_get (with_addr room o own) k ≡ Some x
+keeps_one room None own k x here = here
+keeps_one room (Some c) own k x here = by (is_unicast c.address && not (list_any (is_cidr c) own) && not (nat_le room (length own))) where
   by : (b : Bool) → slice_get (if b then own ++ cidr.Ipv6 c ∷ [] else own) k ≡ Some x
   by true = in_front own (cidr.Ipv6 c ∷ []) k x here
   by false = here
 
-one_longer : (o : Option Ipv6Cidr) (own : List IpCidr) → length (with_addr o own) ≤ length own + 1
-one_longer None own = omega arith
-one_longer (Some c) own = by (is_unicast c.address && not (list_any (is_cidr c) own) && not (nat_le 4 (length own))) where
+one_longer : (room : ℕ) (o : Option Ipv6Cidr) (own : List IpCidr) → length (with_addr room o own) ≤ length own + 1
+one_longer room None own = omega arith
+one_longer room (Some c) own = by (is_unicast c.address && not (list_any (is_cidr c) own) && not (nat_le room (length own))) where
   by : (b : Bool) → length (if b then own ++ cidr.Ipv6 c ∷ [] else own) ≤ length own + 1
   by true = let l = length-append own (cidr.Ipv6 c ∷ []) in omega (arith, l)
   by false = omega arith
 
 -- the list after one prefix
-abbrev step : HardwareAddress → ℤ → Prefix → List IpCidr → List IpCidr
-step h t p own = if is_prefix_valid t p then with_addr (from_link_prefix p.cidr h) own else own
+abbrev step : ℕ → HardwareAddress → ℤ → Prefix → List IpCidr → List IpCidr
+step room h t p own = if is_prefix_valid t p then with_addr room (from_link_prefix p.cidr h) own else own
 
-step_keeps : (h : HardwareAddress) (t : ℤ) (p : Prefix) (own : List IpCidr) (k : ℕ) (x : IpCidr) → slice_get own k ≡ Some x →
-    slice_get (step h t p own) k ≡ Some x
-step_keeps h t p own k x here = by (is_prefix_valid t p) where
-  by : (b : Bool) → slice_get (if b then with_addr (from_link_prefix p.cidr h) own else own) k ≡ Some x
-  by true = keeps_one (from_link_prefix p.cidr h) own k x here
+step_keeps : (room : ℕ) (h : HardwareAddress) (t : ℤ) (p : Prefix) (own : List IpCidr) (k : ℕ) (x : IpCidr) → slice_get own k ≡ Some x →
+    slice_get (step room h t p own) k ≡ Some x
+step_keeps room h t p own k x here = by (is_prefix_valid t p) where
+  by : (b : Bool) → slice_get (if b then with_addr room (from_link_prefix p.cidr h) own else own) k ≡ Some x
+  by true = keeps_one room (from_link_prefix p.cidr h) own k x here
   by false = here
 
-step_longer : (h : HardwareAddress) (t : ℤ) (p : Prefix) (own : List IpCidr) → length (step h t p own) ≤ length own + 1
-step_longer h t p own = by (is_prefix_valid t p) where
-  by : (b : Bool) → length (if b then with_addr (from_link_prefix p.cidr h) own else own) ≤ length own + 1
-  by true = one_longer (from_link_prefix p.cidr h) own
+step_longer : (room : ℕ) (h : HardwareAddress) (t : ℤ) (p : Prefix) (own : List IpCidr) → length (step room h t p own) ≤ length own + 1
+step_longer room h t p own = by (is_prefix_valid t p) where
+  by : (b : Bool) → length (if b then with_addr room (from_link_prefix p.cidr h) own else own) ≤ length own + 1
+  by true = one_longer room (from_link_prefix p.cidr h) own
   by false = omega arith
 
-keeps : (h : HardwareAddress) (t : ℤ) (ps : List Prefix) (own : List IpCidr) (k : ℕ) (x : IpCidr) → slice_get own k ≡ Some x →
-    slice_get (with_addrs h t ps own) k ≡ Some x
-keeps h t [] own k x here = here
-keeps h t (p ∷ ps) own k x here = keeps h t ps (step h t p own) k x (step_keeps h t p own k x here)
+keeps : (room : ℕ) (h : HardwareAddress) (t : ℤ) (ps : List Prefix) (own : List IpCidr) (k : ℕ) (x : IpCidr) → slice_get own k ≡ Some x →
+    slice_get (with_addrs room h t ps own) k ≡ Some x
+keeps room h t [] own k x here = here
+keeps room h t (p ∷ ps) own k x here = keeps room h t ps (step room h t p own) k x (step_keeps room h t p own k x here)
 
-has : (h : HardwareAddress) (t : ℤ) (ps : List Prefix) (own : List IpCidr) (i : ℕ) (p : Prefix) (c : Ipv6Cidr) → slice_get ps i ≡ Some p →
-    t <ℤ p.info.valid_until → from_link_prefix p.cidr h ≡ Some c → is_unicast c.address ≡ true → length own + length ps ≤ 4 →
-    HasAddress (with_addrs h t ps own) c
-has h t [] own i p c here valid makes unicast room = absurd cc
-has h t (q ∷ ps) own zero p c here valid makes unicast room =
+has : (room : ℕ) (h : HardwareAddress) (t : ℤ) (ps : List Prefix) (own : List IpCidr) (i : ℕ) (p : Prefix) (c : Ipv6Cidr) →
+    slice_get ps i ≡ Some p → t <ℤ p.info.valid_until → from_link_prefix p.cidr h ≡ Some c → is_unicast c.address ≡ true →
+    length own + length ps ≤ room → HasAddress (with_addrs room h t ps own) c
+has room h t [] own i p c here valid makes unicast few = absurd cc
+has room h t (q ∷ ps) own zero p c here valid makes unicast few =
     let one : q ≡ p = cc in
-    let now : HasAddress (step h t q own) c = subst (λ x. HasAddress (step h t x own) c) (sym one)
-    (rw (before t p.info.valid_until valid, makes) (one_more own c unicast (omega (arith, room)))) in
-    (now.0, now.1, keeps h t ps (step h t q own) now.0 (cidr.Ipv6 now.1) now.2, now.3, now.4)
-has h t (q ∷ ps) own (suc i) p c here valid makes unicast room =
-    let l = step_longer h t q own in
-    has h t ps (step h t q own) i p c here valid makes unicast (omega (arith, room, l))
+    let now : HasAddress (step room h t q own) c = subst (λ x. HasAddress (step room h t x own) c) (sym one)
+    (rw (before t p.info.valid_until valid, makes) (one_more room own c unicast (omega (arith, few)))) in
+    (now.0, now.1, keeps room h t ps (step room h t q own) now.0 (cidr.Ipv6 now.1) now.2, now.3, now.4)
+has room h t (q ∷ ps) own (suc i) p c here valid makes unicast few =
+    let l = step_longer room h t q own in
+    has room h t ps (step room h t q own) i p c here valid makes unicast (omega (arith, few, l))
 
 -- it isn't among those that end
 not_ended : (h : HardwareAddress) (t : ℤ) (ps : List Prefix) (n : Ipv6Cidr) → IsUnended h t ps n → has_ended h t ps (cidr.Ipv6 n) ≡ false
@@ -186,52 +188,53 @@ stored_leads r = record { network = r.cidr; cidr_is = refl; address = refl; pref
 abbrev HasRoute : List StoredRoute → Route → Type 0
 HasRoute routes r = (k : ℕ) × (s : StoredRoute) × (slice_get routes k ≡ Some s) × LeadsAs r s
 
-one_route : (r : Route) (routes : List StoredRoute) → length routes < 4 → HasRoute (with_route r routes) r
-one_route r routes room = by (list_any (is_route r) routes) refl where
-  full : nat_le 4 (length routes) ≡ false
+one_route : (room : ℕ) (r : Route) (routes : List StoredRoute) → length routes < room → HasRoute (with_route room r routes) r
+one_route room r routes below = by (list_any (is_route r) routes) refl where
+  full : nat_le room (length routes) ≡ false
   full = grind (arith, nat_tests)
 
-  by : (b : Bool) → list_any (is_route r) routes ≡ b → HasRoute (with_route r routes) r
+  by : (b : Bool) → list_any (is_route r) routes ≡ b → HasRoute (with_route room r routes) r
   by true e = let x = found (is_route r) routes e in rw e (x.0, x.1, x.2, leads r x.1 x.3)
   by false e = rw (e, full) (length routes, stored_route r, at_last routes (stored_route r), stored_leads r)
 
-route_keeps : (r : Route) (routes : List StoredRoute) (k : ℕ) (s : StoredRoute) → slice_get routes k ≡ Some s → slice_get (with_route r routes) k ≡ Some s
-route_keeps r routes k s here = by (list_any (is_route r) routes) (nat_le 4 (length routes)) where
+route_keeps : (room : ℕ) (r : Route) (routes : List StoredRoute) (k : ℕ) (s : StoredRoute) → slice_get routes k ≡ Some s →
+    slice_get (with_route room r routes) k ≡ Some s
+route_keeps room r routes k s here = by (list_any (is_route r) routes) (nat_le room (length routes)) where
   by : (a b : Bool) → slice_get (if a then routes else if b then routes else routes ++ stored_route r ∷ []) k ≡ Some s
   by true b = here
   by false true = here
   by false false = in_front routes (stored_route r ∷ []) k s here
 
-route_longer : (r : Route) (routes : List StoredRoute) → length (with_route r routes) ≤ length routes + 1
-route_longer r routes = by (list_any (is_route r) routes) (nat_le 4 (length routes)) where
+route_longer : (room : ℕ) (r : Route) (routes : List StoredRoute) → length (with_route room r routes) ≤ length routes + 1
+route_longer room r routes = by (list_any (is_route r) routes) (nat_le room (length routes)) where
   by : (a b : Bool) → length (if a then routes else if b then routes else routes ++ stored_route r ∷ []) ≤ length routes + 1
   by true b = omega arith
   by false true = omega arith
   by false false = let l = length-append routes (stored_route r ∷ []) in omega (arith, l)
 
-abbrev route_step : ℤ → Route → List StoredRoute → List StoredRoute
-route_step t r routes = if is_route_valid t r then with_route r routes else routes
+abbrev route_step : ℕ → ℤ → Route → List StoredRoute → List StoredRoute
+route_step room t r routes = if is_route_valid t r then with_route room r routes else routes
 
-routes_keep : (t : ℤ) (rs : List Route) (routes : List StoredRoute) (k : ℕ) (s : StoredRoute) → slice_get routes k ≡ Some s →
-    slice_get (with_routes t rs routes) k ≡ Some s
-routes_keep t [] routes k s here = here
-routes_keep t (r ∷ rs) routes k s here = routes_keep t rs (route_step t r routes) k s (by (is_route_valid t r)) where
-  by : (b : Bool) → slice_get (if b then with_route r routes else routes) k ≡ Some s
-  by true = route_keeps r routes k s here
+routes_keep : (room : ℕ) (t : ℤ) (rs : List Route) (routes : List StoredRoute) (k : ℕ) (s : StoredRoute) → slice_get routes k ≡ Some s →
+    slice_get (with_routes room t rs routes) k ≡ Some s
+routes_keep room t [] routes k s here = here
+routes_keep room t (r ∷ rs) routes k s here = routes_keep room t rs (route_step room t r routes) k s (by (is_route_valid t r)) where
+  by : (b : Bool) → slice_get (if b then with_route room r routes else routes) k ≡ Some s
+  by true = route_keeps room r routes k s here
   by false = here
 
-has_route : (t : ℤ) (rs : List Route) (routes : List StoredRoute) (i : ℕ) (r : Route) → slice_get rs i ≡ Some r → t <ℤ r.valid_until →
-    length routes + length rs ≤ 4 → HasRoute (with_routes t rs routes) r
-has_route t [] routes i r here valid room = absurd cc
-has_route t (q ∷ rs) routes zero r here valid room =
+has_route : (room : ℕ) (t : ℤ) (rs : List Route) (routes : List StoredRoute) (i : ℕ) (r : Route) → slice_get rs i ≡ Some r →
+    t <ℤ r.valid_until → length routes + length rs ≤ room → HasRoute (with_routes room t rs routes) r
+has_route room t [] routes i r here valid few = absurd cc
+has_route room t (q ∷ rs) routes zero r here valid few =
     let one : q ≡ r = cc in
-    let now : HasRoute (route_step t q routes) r = subst (λ x. HasRoute (route_step t x routes) r) (sym one)
-    (rw (before t r.valid_until valid) (one_route r routes (omega (arith, room)))) in
-    (now.0, now.1, routes_keep t rs (route_step t q routes) now.0 now.1 now.2, now.3)
-has_route t (q ∷ rs) routes (suc i) r here valid room = has_route t rs (route_step t q routes) i r here valid (by (is_route_valid t q)) where
-  by : (b : Bool) → length (if b then with_route q routes else routes) + length rs ≤ 4
-  by true = let l = route_longer q routes in omega (arith, room, l)
-  by false = omega (arith, room)
+    let now : HasRoute (route_step room t q routes) r = subst (λ x. HasRoute (route_step room t x routes) r) (sym one)
+    (rw (before t r.valid_until valid) (one_route room r routes (omega (arith, few)))) in
+    (now.0, now.1, routes_keep room t rs (route_step room t q routes) now.0 now.1 now.2, now.3)
+has_route room t (q ∷ rs) routes (suc i) r here valid few = has_route room t rs (route_step room t q routes) i r here valid (by (is_route_valid t q)) where
+  by : (b : Bool) → length (if b then with_route room q routes else routes) + length rs ≤ room
+  by true = let l = route_longer room q routes in omega (arith, few, l)
+  by false = omega (arith, few)
 
 -- it isn't among those that end
 route_not_ended : (t : ℤ) (rs : List Route) (s : StoredRoute) → IsUnendedRoute t rs s → is_ended_route t rs s ≡ false
@@ -249,10 +252,10 @@ route_not_ended t (r ∷ rs) s all = by (is_route_valid t r) (is_route r s) refl
 
 formed : (H : Host) (t : ℤ) → AddressesAreFormed H t
 formed H t i p c changed here valid makes unicast room unended =
-    let x = has H.hardware_addr t H.slaac.prefixes H.ip_addrs i p c here valid makes unicast room in
+    let x = has H.addr_room H.hardware_addr t H.slaac.prefixes H.ip_addrs i p c here valid makes unicast room in
     let same : IsUnended H.hardware_addr t H.slaac.prefixes x.1 =
     unended_as H.slaac.prefixes x.1 x.3 x.4 unended in
-    let kept = passed (λ n. not (has_ended H.hardware_addr t H.slaac.prefixes n)) (with_addrs H.hardware_addr t H.slaac.prefixes H.ip_addrs)
+    let kept = passed (λ n. not (has_ended H.hardware_addr t H.slaac.prefixes n)) (with_addrs H.addr_room H.hardware_addr t H.slaac.prefixes H.ip_addrs)
     x.0 (cidr.Ipv6 x.1) x.2 (rw (not_ended H.hardware_addr t H.slaac.prefixes x.1 same) refl) in
     rw changed (kept.0, x.1, kept.1, x.3, x.4) where
       unended_as : (ps : List Prefix) (n : Ipv6Cidr) → n.address.bits ≡ c.address.bits → n.prefix_len ≡ c.prefix_len →
@@ -268,13 +271,13 @@ stay H t k c here unended = by (sync_required H.slaac t) where
 
   by : (b : Bool) → (j : ℕ) × (slice_get (if b then with_slaac_applied (without_expired (at H t) t) else without_expired (at H t) t).ip_addrs j ≡ Some c)
   by false = (k, here)
-  by true = passed (λ n. not (has_ended H.hardware_addr t H.slaac.prefixes n)) (with_addrs H.hardware_addr t H.slaac.prefixes H.ip_addrs)
-      k c (keeps H.hardware_addr t H.slaac.prefixes H.ip_addrs k c here) (passes c refl)
+  by true = passed (λ n. not (has_ended H.hardware_addr t H.slaac.prefixes n)) (with_addrs H.addr_room H.hardware_addr t H.slaac.prefixes H.ip_addrs)
+      k c (keeps H.addr_room H.hardware_addr t H.slaac.prefixes H.ip_addrs k c here) (passes c refl)
 
 routed : (H : Host) (t : ℤ) → RoutesAreFormed H t
 routed H t i r changed here valid room =
     let few = fewer (λ s. not (is_ended_route t H.slaac.routers s)) H.routes in
-    let x = has_route t H.slaac.routers (filter (λ s. not (is_ended_route t H.slaac.routers s)) H.routes) i r here valid (omega (arith, room, few)) in
+    let x = has_route H.route_room t H.slaac.routers (filter (λ s. not (is_ended_route t H.slaac.routers s)) H.routes) i r here valid (omega (arith, room, few)) in
     rw changed x
 
 routes_stay : (H : Host) (t : ℤ) → RoutesStay H t
@@ -285,7 +288,7 @@ routes_stay H t k s here unended = by (sync_required H.slaac t) where
   by true =
       let left = passed (λ r. not (is_ended_route t H.slaac.routers r)) H.routes k s here
       (rw (route_not_ended t H.slaac.routers s unended) refl) in
-      (left.0, routes_keep t H.slaac.routers (filter (λ r. not (is_ended_route t H.slaac.routers r)) H.routes) left.0 s left.1)
+      (left.0, routes_keep H.route_room t H.slaac.routers (filter (λ r. not (is_ended_route t H.slaac.routers r)) H.routes) left.0 s left.1)
 
 pub advertised_stands : AdvertisedAddressesStand
 advertised_stands H t = record { formed = formed H t; stay = stay H t; routes = routed H t; routes_stay = routes_stay H t }

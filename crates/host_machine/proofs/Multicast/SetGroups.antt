@@ -1,5 +1,5 @@
 -- Which groups a host has after a join and after a leave.
-use Rattle.std.proofs.Common.{◌≡◌, ◌≢◌, ◌⊎◌, inl, inr, Bool, true, false, List, [], ◌∷◌, ◌++◌, length, refl, sym, ap, subst, ◌∙◌}
+use Rattle.std.proofs.Common.{ℕ, ◌≡◌, ◌≢◌, ◌⊎◌, inl, inr, Bool, true, false, List, [], ◌∷◌, ◌++◌, length, refl, sym, ap, subst, ◌∙◌}
 use Rattle.std.proofs.Common.{Option, Some, None, cond, is_none, ◌&&◌}
 use Rattle.std.proofs.lemmas.Option.{slice_get_within, get_or_from_slice_get}
 use Rattle.std.specs.Prelude.{slice_get, Ok}
@@ -57,20 +57,20 @@ is_new : (gs : List Group) (a : IpAddress) (o : Option GroupState) → state_of 
 is_new gs a None is none = refl
 is_new gs a (Some state) is none = absurd (none state (there gs a state is))
 
-pending_from : (gs : List Group) (a : IpAddress) (o : Option GroupState) → o ≡ None → is_none o && is_full gs ≡ false →
-    HasGroup (joined_from o gs a) a Joining
-pending_from gs a (Some state) none room = cc
-pending_from gs a None none room = by (is_full gs) room where
+pending_from : (room : ℕ) (gs : List Group) (a : IpAddress) (o : Option GroupState) → o ≡ None → is_none o && is_full room gs ≡ false →
+    HasGroup (joined_from o room gs a) a Joining
+pending_from room gs a (Some state) none taken = cc
+pending_from room gs a None none taken = by (is_full room gs) taken where
   by : (b : Bool) → true && b ≡ false → HasGroup (cond b gs (gs ++ new_group a ∷ [])) a Joining
   by true e = cc
   by false e = (length gs, appended gs (new_group a))
 
-joined : (gs : List Group) (a : IpAddress) → AreDistinct gs → is_refused gs a ≡ false → IsIn a gs (groups_after_join gs a)
-joined gs a distinct taken = record {
-  member = member_as (groups_after_join gs a) a (state_of (groups_after_join gs a) a) refl (joins_member gs a distinct taken);
-  pending = λ none. pending_from gs a (state_of gs a) (is_new gs a (state_of gs a) refl none) taken;
-  others = as_states gs (groups_after_join gs a) a distinct (stay_distinct gs a distinct).after_join
-      (λ b other. (others_stay gs a b distinct (λ e. other (sym e))).join);
+joined : (room : ℕ) (gs : List Group) (a : IpAddress) → AreDistinct gs → is_refused room gs a ≡ false → IsIn a gs (groups_after_join room gs a)
+joined room gs a distinct taken = record {
+  member = member_as (groups_after_join room gs a) a (state_of (groups_after_join room gs a) a) refl (joins_member room gs a distinct taken);
+  pending = λ none. pending_from room gs a (state_of gs a) (is_new gs a (state_of gs a) refl none) taken;
+  others = as_states gs (groups_after_join room gs a) a distinct ((stay_distinct gs a distinct).after_join room)
+      (λ b other. (others_stay gs a b distinct (λ e. other (sym e))).join room);
 }
 
 -- A leave
@@ -92,7 +92,7 @@ left gs a distinct =
 by_join : {a : IpAddress} {old new : Host} → JoinsGroup a (Ok tt) old new → AreDistinct old.groups → IsIn a old.groups new.groups
 by_join (NoGroup m answer e) distinct = cc
 by_join (NoPlace m r answer e) distinct = cc
-by_join {a} {old} (JoinTaken m r answer e) distinct = rw e (joined old.groups a distinct r)
+by_join {a} {old} (JoinTaken m r answer e) distinct = rw e (joined old.group_room old.groups a distinct r)
 
 by_leave : {a : IpAddress} {old new : Host} → LeavesGroup a (Ok tt) old new → AreDistinct old.groups → IsOut a old.groups new.groups
 by_leave (NoGroupEither m answer e) distinct = cc

@@ -42,6 +42,6 @@ pub same_is : (a b : FragKey) → same_key a b ≡ true → a ≡ b
 same_is a b e = key_exact a b (is_equal (key_cmp a b) e)
 
 pub get-live_at : (t : ℤ) (slots : Slots) (k : FragKey) →
-    map.get (live_at t slots) k ≡ (if not (has_ended t (map.get slots k)) then map.get slots k else None)
+    map.get (live_at t slots).held k ≡ (if not (has_ended t (map.get slots.held k)) then map.get slots.held k else None)
 get-live_at t slots k =
-    get-retain_keys slots (λ x. not (has_ended t (map.get slots x))) k (λ x e. ap (λ y. not (has_ended t (map.get slots y))) (sym (key_exact k x e)))
+    get-retain_keys slots.held (λ x. not (has_ended t (map.get slots.held x))) k (λ x e. ap (λ y. not (has_ended t (map.get slots.held y))) (sym (key_exact k x e)))

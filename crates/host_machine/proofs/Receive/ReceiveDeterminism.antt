@@ -176,7 +176,7 @@ enters_once (Taken none few is n) (Taken none' few' is' n') = record { slot_is =
 
 -- a slot that is entered is there, or may be taken
 no_slot_enters : {ends : ℤ} {key : FragKey} {slots : Slots} {slot : Slot} {first : List SlotNote} →
-    finite.get slots key ≡ None → 2 ≤ finite.len slots → Enters ends key slots slot first → ⊥
+    finite.get slots.held key ≡ None → slots.room ≤ finite.len slots.held → Enters ends key slots slot first → ⊥
 no_slot_enters none full (Stood s n) = absurd cc
 no_slot_enters none full (Taken free few is n) = absurd (omega (arith, full, few))
 

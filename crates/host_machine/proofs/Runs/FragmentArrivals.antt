@@ -15,7 +15,7 @@ use Rattle.host_machine.specs.declared.results.PollResult.{PollResult}
 use Rattle.fragmentation.specs.Fragments.{Fragment, Got, end_of, is_fit, allows, keeps_few, with_one, IsRebuilt}
 use Rattle.fragmentation.specs.declared.key.FragKey.{FragKey}
 use Rattle.fragmentation.specs.Keys.{same_key}
-use Rattle.fragmentation.specs.Slots.{Slot, Slots, live_at}
+use Rattle.fragmentation.specs.Slots.{Slot, Slots, HasFree, live_at}
 use Rattle.fragmentation.specs.Reassembly.{SlotNote, Take, Arrival, Rebuild, Enters, Stood, Taken, Reassembles, NoSlot, Unfit, Waits, Rebuilt}
 use Rattle.fragmentation.specs.Cuts.{piece_at, count, cut}
 use Rattle.host_machine.specs.Context.Note.{Note, slot_notes}
@@ -97,40 +97,40 @@ arrivals_of {k = k} {f = f} key (Rebuilt slot first octets enters u w r n e) = a
 -- a fragment under another key changes nothing
 pub record Aside (key : FragKey) (slots : Slots) (notes : List SlotNote) (new : Slots) : Type 0 where
   pub none : rebuilt key notes ≡ []
-  pub same : map.get new key ≡ map.get slots key
+  pub same : map.get new.held key ≡ map.get slots.held key
 
-pub inserted : (slots : Slots) (k key : FragKey) (s : Slot) → same_key key k ≡ false → map.get (map.insert slots k s) key ≡ map.get slots key
-inserted slots k key s other = get-insert key_total slots k s key ∙ rw other refl
+pub inserted : (slots : Slots) (k key : FragKey) (s : Slot) → same_key key k ≡ false → map.get (map.insert slots.held k s) key ≡ map.get slots.held key
+inserted slots k key s other = get-insert key_total slots.held k s key ∙ rw other refl
 
-pub removed : (slots : Slots) (k key : FragKey) → same_key key k ≡ false → map.get (map.remove slots k) key ≡ map.get slots key
-removed slots k key other = get-remove key_total slots k key ∙ rw other refl
+pub removed : (slots : Slots) (k key : FragKey) → same_key key k ≡ false → map.get (map.remove slots.held k) key ≡ map.get slots.held key
+removed slots k key other = get-remove key_total slots.held k key ∙ rw other refl
 
 pub aside : {ends : ℤ} {slots new : Slots} {k : FragKey} {f : Fragment} {result : Option (List ℕ)} {notes : List SlotNote} (key : FragKey) →
     same_key key k ≡ false → Reassembles ends k f result slots notes new → Aside key slots notes new
-aside key other (NoSlot none full r n e) = record { none = ap (rebuilt key) n; same = ap (λ x. map.get x key) e }
+aside key other (NoSlot none full r n e) = record { none = ap (rebuilt key) n; same = ap (λ x. map.get x.held key) e }
 aside {slots = slots} {k = k} {f = f} key other (Unfit slot first enters u r n e) =
     record {
       none = ap (rebuilt key) n ∙ rebuilt_after key (Arrival k f ∷ []) enters;
-      same = ap (λ x. map.get x key) e ∙ inserted slots k key _ other;
+      same = ap (λ x. map.get x.held key) e ∙ inserted slots k key _ other;
     }
 aside {slots = slots} {k = k} {f = f} key other (Waits slot first enters u w r n e) =
     record {
       none = ap (rebuilt key) n ∙ rebuilt_after key (Arrival k f ∷ []) enters;
-      same = ap (λ x. map.get x key) e ∙ inserted slots k key _ other;
+      same = ap (λ x. map.get x.held key) e ∙ inserted slots k key _ other;
     }
 aside {slots = slots} {k = k} {f = f} key other (Rebuilt slot first octets enters u w r n e) =
     record {
       none = ap (rebuilt key) n ∙ rebuilt_after key (Arrival k f ∷ Rebuild k octets ∷ []) enters ∙ rw other refl;
-      same = ap (λ x. map.get x key) e ∙ removed slots k key other;
+      same = ap (λ x. map.get x.held key) e ∙ removed slots k key other;
     }
 
 -- the slot of the key has what came so far
 pub data Holding (key : FragKey) (slots : Slots) (so_far : List Fragment) : Type 0 where
-  Empty : so_far ≡ [] → map.get slots key ≡ None → Holding key slots so_far
-  Full : (s : Slot) → map.get slots key ≡ Some s → s.got ≡ all_got so_far → Holding key slots so_far
+  Empty : so_far ≡ [] → map.get slots.held key ≡ None → Holding key slots so_far
+  Full : (s : Slot) → map.get slots.held key ≡ Some s → s.got ≡ all_got so_far → Holding key slots so_far
 
 pub holding_same : {key : FragKey} {slots others : Slots} {so_far : List Fragment} →
-    map.get others key ≡ map.get slots key → Holding key slots so_far → Holding key others so_far
+    map.get others.held key ≡ map.get slots.held key → Holding key slots so_far → Holding key others so_far
 holding_same e (Empty n g) = Empty n (e ∙ g)
 holding_same e (Full s g h) = Full s (e ∙ g) h
 
@@ -180,7 +180,7 @@ no_total n = λ x e. absurd cc
 
 one_piece : (payload : List ℕ) (ends : ℤ) (slots : Slots) (key : FragKey) (f : Fragment) (result : Option (List ℕ)) (notes : List SlotNote)
     (new : Slots) (so_far : List Fragment) → length payload ≤ 4096 → AreParts payload so_far → IsPartOf payload f →
-    keeps_few so_far f ≡ true → Holding key slots so_far → (map.get slots key ≡ None → map.len slots < 2) →
+    keeps_few so_far f ≡ true → Holding key slots so_far → (map.get slots.held key ≡ None → HasFree slots) →
     Reassembles ends key f result slots notes new → After key f so_far notes new
 one_piece payload ends slots key f result notes new so_far short parts part few holding room r = by r where
   fit : is_fit (total_from None so_far) f ≡ true
@@ -202,7 +202,7 @@ one_piece payload ends slots key f result notes new so_far short parts part few 
       let g = got_more slot (entered_got holding enters) in
       Kept (λ octets is. w octets (rw g is)) (ap (rebuilt key) n ∙ rebuilt_after key (Arrival key f ∷ []) enters)
       (Full (record slot { got = with_one slot.got f })
-      (ap (λ x. map.get x key) e ∙ get-insert key_total slots key _ key ∙ rw (test_same key) refl) g)
+      (ap (λ x. map.get x.held key) e ∙ get-insert key_total slots.held key _ key ∙ rw (test_same key) refl) g)
   by (Rebuilt slot first octets enters u w r n e) =
       let g = got_more slot (entered_got holding enters) in
       Done octets (rw g at w) (ap (rebuilt key) n ∙ rebuilt_after key (Arrival key f ∷ Rebuild key octets ∷ []) enters ∙ rw (test_same key) refl)
@@ -260,15 +260,15 @@ module _ (m : ℕ) (payload : List ℕ) (key : FragKey) (pos : 0 < m) (short : l
   -- where the slots are those of the step's beginning
   start : {p : Transition} {t : ℤ} {so_far : List Fragment} → p.command ≡ command.PollIngressSingle t → IsServed key p →
       Holding key p.before.slots so_far → Holding key (live_at t p.before.slots) so_far
-  start {p} {t} e served h = holding_same (sym (ap (λ s. map.get s key) (live_slots p t e)) ∙ served.kept) h
+  start {p} {t} e served h = holding_same (sym (ap (λ s. map.get s.held key) (live_slots p t e)) ∙ served.kept) h
 
   room : {p : Transition} {t : ℤ} {f : Fragment} → p.command ≡ command.PollIngressSingle t → IsServed key p →
-      arrivals_under key (slot_notes p.notes) ≡ f ∷ [] → map.get (live_at t p.before.slots) key ≡ None →
-      map.len (live_at t p.before.slots) < 2
+      arrivals_under key (slot_notes p.notes) ≡ f ∷ [] → map.get (live_at t p.before.slots).held key ≡ None →
+      HasFree (live_at t p.before.slots)
   room {p} {t} {f} e served one none =
       let some : 0 < length (arrivals_under key (slot_notes p.notes)) = rw one (omega arith) in
-      let before : map.get p.before.slots key ≡ None = sym served.kept ∙ ap (λ s. map.get s key) (live_slots p t e) ∙ none in
-      subst (λ s. map.len s < 2) (live_slots p t e) (served.room some before)
+      let before : map.get p.before.slots.held key ≡ None = sym served.kept ∙ ap (λ s. map.get s.held key) (live_slots p t e) ∙ none in
+      subst HasFree (live_slots p t e) (served.room some before)
 
   pub last_piece : (p : Transition) (so_far : List Fragment) (f : Fragment) →
       StepView p.command p.before p.told p.notes p.after → Holding key p.before.slots so_far → Coming m payload so_far [] f → IsServed key p →
@@ -313,7 +313,7 @@ module _ (m : ℕ) (payload : List ℕ) (key : FragKey) (pos : 0 < m) (short : l
       Coming m payload so_far (arrivals_under key (slot_notes p.notes) ++ coming) f → IsServed key p → Went p so_far
   one_step p so_far coming f (NoPart none n s) holding c served = record {
     none = ap (rebuilt key) n;
-    holding = rw (n, append-nil) (holding_same (ap (λ x. map.get x key) s ∙ served.kept) holding);
+    holding = rw (n, append-nil) (holding_same (ap (λ x. map.get x.held key) s ∙ served.kept) holding);
   }
   one_step p so_far coming f (APart t frame k g result e h b r) holding c served = by (same_key key k) refl where
     parts : AreParts payload so_far

@@ -7,7 +7,7 @@ use Rattle.std.specs.FinMap.{get-insert, get-remove}
 use Rattle.fragmentation.specs.Fragments.{Fragment, Got, no_fragments, is_fit, with_one}
 use Rattle.fragmentation.specs.declared.key.FragKey.{FragKey}
 use Rattle.fragmentation.specs.Keys.{same_key}
-use Rattle.fragmentation.specs.Slots.{Slot, Slots, has_ended}
+use Rattle.fragmentation.specs.Slots.{Slot, Slots, with_slot, without_slot, has_ended}
 use Rattle.fragmentation.specs.Reassembly.{SlotNote, Take, Arrival, Rebuild, Enters, Stood, Taken, Reassembles, NoSlot, Unfit, Waits, Rebuilt}
 use Rattle.host_machine.specs.Context.Note.{Note, slot_notes}
 use Rattle.host_machine.specs.Context.Host.{Host}
@@ -21,7 +21,7 @@ use Rattle.host_machine.proofs.Runs.Walk.{walk}
 
 -- each slot that is taken has what the history says
 abbrev Tracks : Slots → History → Type 0
-Tracks slots h = (k : FragKey) (s : Slot) → map.get slots k ≡ Some s → h k ≡ s.got
+Tracks slots h = (k : FragKey) (s : Slot) → map.get slots.held k ≡ Some s → h k ≡ s.got
 
 record Tells (h : History) (notes : List SlotNote) (slots : Slots) : Type 0 where
   rebuilt : AreRebuilt h notes
@@ -58,25 +58,25 @@ test_same k = (eq_by_cmp_equiv key_total).refl k
 
 -- another slot for a key, and what it has in the history
 put_at : (h : History) (slots : Slots) (key k : FragKey) (slot s : Slot) (g : Got) (b : Bool) → same_key k key ≡ b →
-    ((j : FragKey) (s' : Slot) → same_key j key ≡ false → map.get slots j ≡ Some s' → h j ≡ s'.got) → g ≡ slot.got →
-    cond b (Some slot) (map.get slots k) ≡ Some s → (if b then g else h k) ≡ s.got
+    ((j : FragKey) (s' : Slot) → same_key j key ≡ false → map.get slots.held j ≡ Some s' → h j ≡ s'.got) → g ≡ slot.got →
+    cond b (Some slot) (map.get slots.held k) ≡ Some s → (if b then g else h k) ≡ s.got
 put_at h slots key k slot s g true is others here e = let same : slot ≡ s = cc in here ∙ ap (λ (x : Slot). x.got) same
 put_at h slots key k slot s g false is others here e = others k s is e
 
 put_tracks : (h : History) (slots : Slots) (key : FragKey) (slot : Slot) (g : Got) →
-    ((j : FragKey) (s' : Slot) → same_key j key ≡ false → map.get slots j ≡ Some s' → h j ≡ s'.got) → g ≡ slot.got →
-    Tracks (map.insert slots key slot) (put h key g)
+    ((j : FragKey) (s' : Slot) → same_key j key ≡ false → map.get slots.held j ≡ Some s' → h j ≡ s'.got) → g ≡ slot.got →
+    Tracks (with_slot slots key slot) (put h key g)
 put_tracks h slots key slot g others here =
-    λ k s e. put_at h slots key k slot s g (same_key k key) refl others here (sym (get-insert key_total slots key slot k) ∙ e)
+    λ k s e. put_at h slots key k slot s g (same_key k key) refl others here (sym (get-insert key_total slots.held key slot k) ∙ e)
 
 others_of : (h : History) (slots : Slots) (key : FragKey) (g : Got) → Tracks slots h → (j : FragKey) (s' : Slot) →
-    same_key j key ≡ false → map.get slots j ≡ Some s' → put h key g j ≡ s'.got
+    same_key j key ≡ false → map.get slots.held j ≡ Some s' → put h key g j ≡ s'.got
 others_of h slots key g t j s' f e = rw f (t j s' e)
 
 -- the history once a slot is entered: nothing else changes, and the key has what the slot has
 record Entered (h : History) (first : List SlotNote) (slots : Slots) (key : FragKey) (slot : Slot) : Type 0 where
   rebuilt : AreRebuilt h first
-  others : (j : FragKey) (s' : Slot) → same_key j key ≡ false → map.get slots j ≡ Some s' → history h first j ≡ s'.got
+  others : (j : FragKey) (s' : Slot) → same_key j key ≡ false → map.get slots.held j ≡ Some s' → history h first j ≡ s'.got
   here : history h first key ≡ slot.got
 
 entered : (ends : ℤ) (slots : Slots) (key : FragKey) (slot : Slot) (first : List SlotNote) (h : History) →
@@ -90,7 +90,7 @@ with_here h key f got e = ap (λ g. with_one g f) e
 
 arrival_tells : (h : History) (slots : Slots) (key : FragKey) (slot slot' : Slot) (f : Fragment) (first : List SlotNote) →
     Entered h first slots key slot → with_one slot.got f ≡ slot'.got →
-    Tells h (first ++ Arrival key f ∷ []) (map.insert slots key slot')
+    Tells h (first ++ Arrival key f ∷ []) (with_slot slots key slot')
 arrival_tells h slots key slot slot' f first e is = record {
   rebuilt = rebuilt_on h first (Arrival key f ∷ []) e.rebuilt tt;
   tracks = rw history-append (put_tracks (history h first) slots key slot' _ e.others (with_here (history h first) key f slot.got e.here ∙ is));
@@ -100,10 +100,10 @@ unfit_same : (g : Got) (f : Fragment) → is_fit g.total f ≡ false → with_on
 unfit_same g f e = rw e refl
 
 removed : (h : History) (slots : Slots) (key : FragKey) (g : Got) →
-    ((j : FragKey) (s' : Slot) → same_key j key ≡ false → map.get slots j ≡ Some s' → h j ≡ s'.got) →
-    Tracks (map.remove slots key) (put h key g)
-removed h slots key g others = λ k s e. by k s (same_key k key) refl (sym (get-remove key_total slots key k) ∙ e) where
-  by : (k : FragKey) (s : Slot) (b : Bool) → same_key k key ≡ b → cond b None (map.get slots k) ≡ Some s → (if b then g else h k) ≡ s.got
+    ((j : FragKey) (s' : Slot) → same_key j key ≡ false → map.get slots.held j ≡ Some s' → h j ≡ s'.got) →
+    Tracks (without_slot slots key) (put h key g)
+removed h slots key g others = λ k s e. by k s (same_key k key) refl (sym (get-remove key_total slots.held key k) ∙ e) where
+  by : (k : FragKey) (s : Slot) (b : Bool) → same_key k key ≡ b → cond b None (map.get slots.held k) ≡ Some s → (if b then g else h k) ≡ s.got
   by k s true is e = absurd cc
   by k s false is e = others k s is e
 
@@ -113,9 +113,9 @@ reassembled : (ends : ℤ) (slots : Slots) (key : FragKey) (f : Fragment) (resul
     (h : History) → Tracks slots h → Tells h notes new
 reassembled ends slots key f result notes new (NoSlot none full r n e) = λ h t.
     rw (n, e) (record { rebuilt = tt; tracks = λ k s at. by h t k s at (same_key k key) refl }) where
-      by : (h : History) → Tracks slots h → (k : FragKey) (s : Slot) → map.get slots k ≡ Some s → (b : Bool) →
+      by : (h : History) → Tracks slots h → (k : FragKey) (s : Slot) → map.get slots.held k ≡ Some s → (b : Bool) →
           same_key k key ≡ b → (if b then with_one (h key) f else h k) ≡ s.got
-      by h t k s at true is = let e : map.get slots k ≡ None = rw (same_is k key is) none in absurd cc
+      by h t k s at true is = let e : map.get slots.held k ≡ None = rw (same_is k key is) none in absurd cc
       by h t k s at false is = t k s at
 reassembled ends slots key f result notes new (Unfit slot first enters u r n e) = λ h t.
     rw (n, e) (arrival_tells h slots key slot slot f first (entered ends slots key slot first h t enters) (unfit_same slot.got f u))
@@ -157,7 +157,7 @@ run_rebuilt {first} r =
     (λ H h id p first rest e form reached. λ h' t. record { rebuilt = tt; tracks = t })
     (λ H t. λ h tracks. record {
       rebuilt = tt;
-      tracks = λ k s e. tracks k s (live_then t (map.get H.slots k) s (not (has_ended t (map.get H.slots k))) (sym (get-live_at t H.slots k) ∙ e));
+      tracks = λ k s e. tracks k s (live_then t (map.get H.slots.held k) s (not (has_ended t (map.get H.slots.held k))) (sym (get-live_at t H.slots k) ∙ e));
     })
     fragments
     (λ H p rest e. λ h t. record { rebuilt = tt; tracks = t })

@@ -14,7 +14,7 @@ use Rattle.host_machine.specs.declared.command.Answer.{Answer}
 use Rattle.fragmentation.specs.Fragments.{Fragment}
 use Rattle.fragmentation.specs.declared.key.FragKey.{FragKey}
 use Rattle.fragmentation.specs.Keys.{key_cmp, same_key}
-use Rattle.fragmentation.specs.Slots.{Slot, Slots, has_ended, live_at}
+use Rattle.fragmentation.specs.Slots.{Slot, Held, Slots, HasFree, with_slot, without_slot, has_ended, live_at}
 use Rattle.fragmentation.specs.Reassembly.{SlotNote, Take, Arrival, Rebuild, Enters, Stood, Taken, Reassembles, NoSlot, Unfit, Waits, Rebuilt}
 use Rattle.fragmentation.specs.Cuts.{piece_at}
 use Rattle.host_machine.specs.Context.Note.{Note, slot_notes}
@@ -156,20 +156,20 @@ split {k = k} {g = g} {result = result} notes rest before after key f r e = by o
       ∙ sym (append_assoc x.first (Arrival k g ∷ rebuilds k result) two.more) ∙ ap (λ ns. ns ++ two.more) (sym x.are)) two.rest
 
 -- one key at most: at most one slot
-abbrev no_slot : Slots
+abbrev no_slot : Held
 no_slot = map.empty
 
-few_slots : (slots : Slots) (other : FragKey) → ((k : FragKey) (s : Slot) → map.get slots k ≡ Some s → k ≡ other) → map.len slots < 2
-few_slots slots other only = by (map.get slots other) refl where
-  nothing : map.get slots other ≡ None → (q : FragKey) (o : Option Slot) → map.get slots q ≡ o → map.get slots q ≡ None
+few_slots : (held : Held) (other : FragKey) → ((k : FragKey) (s : Slot) → map.get held k ≡ Some s → k ≡ other) → map.len held < 2
+few_slots held other only = by (map.get held other) refl where
+  nothing : map.get held other ≡ None → (q : FragKey) (o : Option Slot) → map.get held q ≡ o → map.get held q ≡ None
   nothing none q None e = e
   nothing none q (Some s) e = let same : q ≡ other = only q s e in rw same none
 
   empty : (q : FragKey) → map.get no_slot q ≡ None
   empty q = get-empty key_cmp q
 
-  one : (s : Slot) → map.get slots other ≡ Some s → (q : FragKey) (b : Bool) → same_key q other ≡ b → (o : Option Slot) →
-      map.get slots q ≡ o → map.get slots q ≡ cond b (Some s) None
+  one : (s : Slot) → map.get held other ≡ Some s → (q : FragKey) (b : Bool) → same_key q other ≡ b → (o : Option Slot) →
+      map.get held q ≡ o → map.get held q ≡ cond b (Some s) None
   one s is q true e o at = let same : q ≡ other = same_is q other e in rw same is
   one s is q false e None at = at
   one s is q false e (Some x) at =
@@ -180,63 +180,66 @@ few_slots slots other only = by (map.get slots other) refl where
   count true = omega arith
   count false = omega arith
 
-  by : (o : Option Slot) → map.get slots other ≡ o → map.len slots < 2
+  by : (o : Option Slot) → map.get held other ≡ o → map.len held < 2
   by None e =
-      let same : slots ≡ no_slot = same_map key_total key_exact slots no_slot (λ q. nothing e q (map.get slots q) refl ∙ sym (empty q)) in
-      let zero : map.len slots ≡ 0 = rw same (len-empty key_cmp Slot) in omega arith
+      let same : held ≡ no_slot = same_map key_total key_exact held no_slot (λ q. nothing e q (map.get held q) refl ∙ sym (empty q)) in
+      let zero : map.len held ≡ 0 = rw same (len-empty key_cmp Slot) in omega arith
   by (Some s) e =
-      let same : slots ≡ map.insert no_slot other s = same_map key_total key_exact slots (map.insert no_slot other s)
-      (λ q. one s e q (same_key q other) refl (map.get slots q) refl ∙ sym (get-insert key_total no_slot other s q ∙ rw get-empty refl)) in
-      let l : map.len slots ≡ cond (map.contains_key no_slot other) 0 (0 + 1) =
+      let same : held ≡ map.insert no_slot other s = same_map key_total key_exact held (map.insert no_slot other s)
+      (λ q. one s e q (same_key q other) refl (map.get held q) refl ∙ sym (get-insert key_total no_slot other s q ∙ rw get-empty refl)) in
+      let l : map.len held ≡ cond (map.contains_key no_slot other) 0 (0 + 1) =
       rw (same, len-insert key_total no_slot other s, len-empty key_cmp Slot) refl in
       rw l (count (map.contains_key no_slot other))
 
 -- a sweep takes slots away, and no slot that ends later
-in_live : (t : ℤ) (slots : Slots) (k : FragKey) (s : Slot) → map.get (live_at t slots) k ≡ Some s → map.get slots k ≡ Some s
-in_live t slots k s e = live_then t (map.get slots k) s (not (has_ended t (map.get slots k))) (sym (get-live_at t slots k) ∙ e)
+in_live : (t : ℤ) (slots : Slots) (k : FragKey) (s : Slot) → map.get (live_at t slots).held k ≡ Some s → map.get slots.held k ≡ Some s
+in_live t slots k s e = live_then t (map.get slots.held k) s (not (has_ended t (map.get slots.held k))) (sym (get-live_at t slots k) ∙ e)
 
-stays : (t : ℤ) (slots : Slots) (k : FragKey) → ((s : Slot) → map.get slots k ≡ Some s → t ≤ℤ s.ends) → map.get (live_at t slots) k ≡ map.get slots k
-stays t slots k later = get-live_at t slots k ∙ by (map.get slots k) refl where
+stays : (t : ℤ) (slots : Slots) (k : FragKey) → ((s : Slot) → map.get slots.held k ≡ Some s → t ≤ℤ s.ends) → map.get (live_at t slots).held k ≡ map.get slots.held k
+stays t slots k later = get-live_at t slots k ∙ by (map.get slots.held k) refl where
   ended : (s : Slot) → t ≤ℤ s.ends → int_lt s.ends t ≡ false
   ended s l = test (int_lt s.ends t) refl where
     test : (b : Bool) → int_lt s.ends t ≡ b → b ≡ false
     test true e = absurd (omega (arith, ints))
     test false e = refl
 
-  by : (o : Option Slot) → map.get slots k ≡ o → (if not (has_ended t o) then o else None) ≡ o
+  by : (o : Option Slot) → map.get slots.held k ≡ o → (if not (has_ended t o) then o else None) ≡ o
   by None e = refl
   by (Some s) e = rw (ended s (later s e)) refl
 
 module _ (key other : FragKey) (t0 end : ℤ) where
   -- what holds of a host's slots and of its timeout within the time
   record Fits (slots : Slots) (timeout : ℕ) : Type 0 where
-    keys : (k : FragKey) (s : Slot) → map.get slots k ≡ Some s → (k ≡ key) ⊎ (k ≡ other)
-    ends : (s : Slot) → map.get slots key ≡ Some s → end ≤ℤ s.ends
+    keys : (k : FragKey) (s : Slot) → map.get slots.held k ≡ Some s → (k ≡ key) ⊎ (k ≡ other)
+    ends : (s : Slot) → map.get slots.held key ≡ Some s → end ≤ℤ s.ends
     span : end ≤ℤ (t0 +ℤ pos timeout)
+    wide : 2 ≤ slots.room
 
   -- slots of which some were taken away, none of them that of the key
   record Moves (old new : Slots) : Type 0 where
-    fewer : (k : FragKey) (s : Slot) → map.get new k ≡ Some s → map.get old k ≡ Some s
-    same : map.get new key ≡ map.get old key
+    fewer : (k : FragKey) (s : Slot) → map.get new.held k ≡ Some s → map.get old.held k ≡ Some s
+    same : map.get new.held key ≡ map.get old.held key
+    room : new.room ≡ old.room
 
   moved : {old new : Slots} {timeout later : ℕ} → Fits old timeout → Moves old new → end ≤ℤ (t0 +ℤ pos later) → Fits new later
-  moved f m span = record { keys = λ k s e. f.keys k s (m.fewer k s e); ends = λ s e. f.ends s (m.fewer key s e); span = span }
+  moved f m span = record { keys = λ k s e. f.keys k s (m.fewer k s e); ends = λ s e. f.ends s (m.fewer key s e); span = span; wide = rw m.room f.wide }
 
   sweeps : {slots : Slots} {timeout : ℕ} (t : ℤ) → Fits slots timeout → t ≤ℤ end → Moves slots (live_at t slots)
   sweeps {slots} t f l = record {
     fewer = λ k s e. in_live t slots k s e;
     same = stays t slots key (λ s e. let later : end ≤ℤ s.ends = f.ends s e in omega (arith, ints));
+    room = refl;
   }
 
   swept_by : {slots : Slots} {timeout : ℕ} (o : Option ℤ) →
       Fits slots timeout → ((t : ℤ) → o ≡ Some t → (t0 ≤ℤ t) × (t ≤ℤ end)) → Moves slots (live_by o slots)
-  swept_by None f in_time = record { fewer = λ k s e. e; same = refl }
+  swept_by None f in_time = record { fewer = λ k s e. e; same = refl; room = refl }
   swept_by (Some t) f in_time = sweeps t f (in_time t refl).1
 
   -- one fragment under one of the two keys
-  room : {slots : Slots} {timeout : ℕ} → Fits slots timeout → map.get slots key ≡ None → map.len slots < 2
-  room {slots} f none = few_slots slots other (λ k s e. by k s e (f.keys k s e)) where
-    by : (k : FragKey) (s : Slot) → map.get slots k ≡ Some s → (k ≡ key) ⊎ (k ≡ other) → k ≡ other
+  room : {slots : Slots} {timeout : ℕ} → Fits slots timeout → map.get slots.held key ≡ None → HasFree slots
+  room {slots} f none = let few = few_slots slots.held other (λ k s e. by k s e (f.keys k s e)) in let wide = f.wide in omega arith where
+    by : (k : FragKey) (s : Slot) → map.get slots.held k ≡ Some s → (k ≡ key) ⊎ (k ≡ other) → k ≡ other
     by k s e (inl same) = let bad : None ≡ Some s = sym none ∙ rw same at e in absurd cc
     by k s e (inr same) = same
 
@@ -247,30 +250,32 @@ module _ (key other : FragKey) (t0 end : ℤ) where
 
   put : {ends : ℤ} {slots new : Slots} {timeout : ℕ} {k : FragKey} {slot : Slot} (slot' : Slot) {first : List SlotNote} →
       Fits slots timeout → (k ≡ key) ⊎ (k ≡ other) → end ≤ℤ ends → Enters ends k slots slot first →
-      slot'.ends ≡ slot.ends → new ≡ map.insert slots k slot' → Fits new timeout
+      slot'.ends ≡ slot.ends → new ≡ with_slot slots k slot' → Fits new timeout
   put {ends} {slots} {new} {timeout} {k} {slot} slot' {first} f which late enters is e = record {
-    keys = λ j s at. by_key j s (same_key j k) refl (sym (get-insert key_total slots k slot' j) ∙ sym (ap (λ x. map.get x j) e) ∙ at);
-    ends = λ s at. by_end s (same_key key k) refl (sym (get-insert key_total slots k slot' key) ∙ sym (ap (λ x. map.get x key) e) ∙ at);
+    keys = λ j s at. by_key j s (same_key j k) refl (sym (get-insert key_total slots.held k slot' j) ∙ sym (ap (λ x. map.get x.held j) e) ∙ at);
+    ends = λ s at. by_end s (same_key key k) refl (sym (get-insert key_total slots.held k slot' key) ∙ sym (ap (λ x. map.get x.held key) e) ∙ at);
     span = f.span;
+    wide = rw e f.wide;
   } where
-    by_key : (j : FragKey) (s : Slot) (b : Bool) → same_key j k ≡ b → cond b (Some slot') (map.get slots j) ≡ Some s → (j ≡ key) ⊎ (j ≡ other)
+    by_key : (j : FragKey) (s : Slot) (b : Bool) → same_key j k ≡ b → cond b (Some slot') (map.get slots.held j) ≡ Some s → (j ≡ key) ⊎ (j ≡ other)
     by_key j s true q at = rw (same_is j k q) which
     by_key j s false q at = f.keys j s at
 
     later : key ≡ k → end ≤ℤ slot'.ends
     later q = let enters' : Enters ends key slots slot first = rw q enters in rw is (entered_ends f late enters')
 
-    by_end : (s : Slot) (b : Bool) → same_key key k ≡ b → cond b (Some slot') (map.get slots key) ≡ Some s → end ≤ℤ s.ends
+    by_end : (s : Slot) (b : Bool) → same_key key k ≡ b → cond b (Some slot') (map.get slots.held key) ≡ Some s → end ≤ℤ s.ends
     by_end s true q at = let one : slot' ≡ s = cc in rw (← one) (later (same_is key k q))
     by_end s false q at = f.ends s at
 
-  gone : {slots new : Slots} {timeout : ℕ} (k : FragKey) → Fits slots timeout → new ≡ map.remove slots k → Fits new timeout
+  gone : {slots new : Slots} {timeout : ℕ} (k : FragKey) → Fits slots timeout → new ≡ without_slot slots k → Fits new timeout
   gone {slots} k f e = record {
-    keys = λ j s at. f.keys j s (left j s (same_key j k) (sym (get-remove key_total slots k j) ∙ sym (ap (λ x. map.get x j) e) ∙ at));
-    ends = λ s at. f.ends s (left key s (same_key key k) (sym (get-remove key_total slots k key) ∙ sym (ap (λ x. map.get x key) e) ∙ at));
+    keys = λ j s at. f.keys j s (left j s (same_key j k) (sym (get-remove key_total slots.held k j) ∙ sym (ap (λ x. map.get x.held j) e) ∙ at));
+    ends = λ s at. f.ends s (left key s (same_key key k) (sym (get-remove key_total slots.held k key) ∙ sym (ap (λ x. map.get x.held key) e) ∙ at));
     span = f.span;
+    wide = rw e f.wide;
   } where
-    left : (j : FragKey) (s : Slot) (b : Bool) → cond b None (map.get slots j) ≡ Some s → map.get slots j ≡ Some s
+    left : (j : FragKey) (s : Slot) (b : Bool) → cond b None (map.get slots.held j) ≡ Some s → map.get slots.held j ≡ Some s
     left j s true at = absurd cc
     left j s false at = at
 
@@ -439,7 +444,7 @@ poll_in_time key other t0 end t budget q = (
 
 pub pieces_in_time : PiecesArriveInTime
 pieces_in_time first last transitions before after key other t0 end m payload f run some short notes in_time
-    span empty only allowed pieces all none few =
+    span wide empty only allowed pieces all none few =
     let s = all_singles (IsInTime t0 end) (IsReady key other t0 end) (λ c is q. (is, q)) (poll_in_time key other t0 end) in_time run in
     let are = all_left (IsPiece m payload) (arrivals_under key before) (f ∷ []) (pieces_are m payload _ pieces) in
     let coming : Coming m payload [] (arrivals_under key before) f = record {
@@ -451,6 +456,6 @@ pieces_in_time first last transitions before after key other t0 end m payload f 
       few = few;
     } in
     let r = goes m payload key other t0 end some short s.transitions first last [] before after f s.run s.are
-    (record { keys = λ k x e. inr (only k x e); ends = λ x e. absurd (let bad : None ≡ Some x = sym empty ∙ e in cc); span = span })
+    (record { keys = λ k x e. inr (only k x e); ends = λ x e. absurd (let bad : None ≡ Some x = sym empty ∙ e in cc); span = span; wide = wide })
     (Empty refl empty) coming allowed (ap slot_notes s.all_notes ∙ notes) in
     (r.0, r.1.0, r.1.1)

@@ -325,7 +325,7 @@ only payload key h (Rebuild k octets ∷ notes) r of all = by (same_key key k) r
       (rebuilds_payload payload (h key) octets of.total of.parts is, rest)
   by false e rest = rest
 
-began_of : (payload : List ℕ) (H : Host) (key : FragKey) → finite.get H.slots key ≡ None → AreOf payload (first_history H key)
+began_of : (payload : List ℕ) (H : Host) (key : FragKey) → finite.get H.slots.held key ≡ None → AreOf payload (first_history H key)
 began_of payload H key e = rw e (nothing_of payload)
 
 each : {X : Type 0} (P : X → Type 0) (xs : List X) → ((x : X) → IsIn x xs → P x) → AllByRecursion P xs
@@ -342,7 +342,7 @@ run_rebuilds a a' b b' ps qs ra rb may were own free =
     (run_ordered ra) rb may.one_medium may.b_real (run_arrivals rb) were in
     each (λ d. AllByRecursion (λ octets. octets ≡ d.payload) (rebuilt (key_of_cut d) (slot_notes_in qs))) (cuts_in ps) (λ d i.
     only d.payload (key_of_cut d) (first_history b) (slot_notes_in qs) (run_rebuilt rb)
-    (began_of d.payload b (key_of_cut d) (all_in (λ e. finite.get b.slots (key_of_cut e) ≡ None) (cuts_in ps) d free i))
+    (began_of d.payload b (key_of_cut d) (all_in (λ e. finite.get b.slots.held (key_of_cut e) ≡ None) (cuts_in ps) d free i))
     (parts_under (cuts_in ps) d (slot_notes_in qs) own i came_all))
 
 -- a fragment in a frame that a run sent is of a packet that the run cut

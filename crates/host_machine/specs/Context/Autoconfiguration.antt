@@ -9,8 +9,8 @@ use Rattle.host_machine.specs.Context.Settings.{after_address_change}
 -- has expired is forgotten
 abbrev pub with_slaac_applied : Host → Host
 with_slaac_applied H =
-    record (after_address_change H (synced_addrs H.hardware_addr H.moment H.slaac.prefixes H.ip_addrs)) {
-      routes = synced_routes H.moment H.slaac.routers H.routes;
+    record (after_address_change H (synced_addrs H.addr_room H.hardware_addr H.moment H.slaac.prefixes H.ip_addrs)) {
+      routes = synced_routes H.route_room H.moment H.slaac.routers H.routes;
       slaac = slaac_after_update H.slaac H.moment;
       slaac_updated_at = H.moment;
     }

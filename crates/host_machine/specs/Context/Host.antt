@@ -10,7 +10,7 @@ use Rattle.ip_address.specs.declared.hardware.HardwareAddress.{HardwareAddress}
 use Rattle.ip_address.specs.Ip.{is_unicast, is_unspecified}
 use Rattle.ip_address.specs.Cidr.{address_of, contains}
 use Rattle.iface_tables.specs.Neighbor.{Neighbors}
-use Rattle.fragmentation.specs.Slots.{Slots, live_at}
+use Rattle.fragmentation.specs.Slots.{Slots, free_slots, live_at}
 use Rattle.slaac.specs.Slaac.{SlaacState}
 use Rattle.fragmentation.specs.Cuts.{Piece}
 use Rattle.iface_tables.specs.declared.route.Route.{Route}
@@ -43,14 +43,17 @@ pub record Host : Type 0 where
   pub hardware_addr : HardwareAddress
   pub moment : ℤ  -- of the last call that gave one
   pub ip_addrs : List IpCidr  -- its addresses with their prefix lengths, in the order given
+  pub addr_room : ℕ  -- for how many addresses there is room
   pub any_ip : Bool  -- whether addresses that are routed to it count as its own (AnyIP)
   pub routes : List Route  -- its routes, in the order in which they are stored
+  pub route_room : ℕ  -- for how many routes there is room
   pub neighbors : Neighbors  -- the neighbours it knows, and until when it sends no discovery
   pub ipv4_id : ℕ  -- the next identification of a packet, 16 bits
   pub reassembly_timeout : ℕ  -- of slots that are taken from now on, in microseconds
   pub slots : Slots  -- the datagrams in reassembly: some fragments were received, others are missing
   pub left : List Piece  -- the pending fragments of the packet that was fragmented last, in order
   pub groups : List Group  -- the multicast groups that it is in or is leaving, in the order in which they are walked
+  pub group_room : ℕ  -- for how many groups there is room
   pub igmp_report : IgmpReportState  -- the pending IGMP report, and when it is due
   pub mld_report : MldReportState  -- the pending MLD report, and when it is due
   pub slaac_enabled : Bool  -- whether it takes IPv6 addresses from router advertisements
@@ -67,6 +70,10 @@ at H t = record H { moment = t }
 abbrev pub with_slots : Host → Slots → Host
 with_slots H slots = record H { slots = slots }
 
+-- the host with so many slots, all free
+abbrev pub with_slot_room : Host → ℕ → Host
+with_slot_room H room = record H { slots = free_slots room }
+
 -- the host at another moment, without the slots that have expired then
 abbrev pub without_expired : Host → ℤ → Host
 without_expired H t = record H { moment = t; slots = live_at t H.slots }
@@ -82,6 +89,10 @@ with_neighbors H n = record H { neighbors = n }
 -- the host with room for so many neighbours, none of which is known yet; a silence stays
 abbrev pub with_neighbor_room : Host → ℕ → Host
 with_neighbor_room H room = record H { neighbors = record H.neighbors { room = room; known = map.empty } }
+
+-- the host without routes, and with room for so many
+abbrev pub with_route_room : Host → ℕ → Host
+with_route_room H room = record H { routes = []; route_room = room }
 
 -- the host with other groups
 abbrev pub with_groups : Host → List Group → Host

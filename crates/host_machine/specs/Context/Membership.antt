@@ -1,5 +1,5 @@
 -- The solicited-node groups of a host's addresses (RFC 4291 2.7.1, RFC 4861 7.2.1).
-use Rattle.std.specs.Prelude.{◌/◌, ◌^◌, ◌==◌, ◌&&◌, not, Bool, false, List, [], ◌∷◌, map, filter}
+use Rattle.std.specs.Prelude.{ℕ, ◌/◌, ◌^◌, ◌==◌, ◌&&◌, not, Bool, false, List, [], ◌∷◌, map, filter}
 use Rattle.ip_address.specs.declared.cidr.IpCidr.{IpCidr}
 use Rattle.ip_address.specs.declared.cidr.IpCidr.TheVariants as cidr
 use Rattle.ip_address.specs.declared.hardware.HardwareAddress.{HardwareAddress}
@@ -27,15 +27,17 @@ groups_after_leaves groups [] = groups
 groups_after_leaves groups (a ∷ addresses) = groups_after_leaves (groups_after_leave groups a) addresses
 
 -- the solicited-node group of each IPv6 address is joined, in their order, if there is room for it
-abbrev pub groups_after_joins : List Group → List IpCidr → List Group
-groups_after_joins groups [] = groups
-groups_after_joins groups (cidr.Ipv4 n ∷ own) = groups_after_joins groups own
-groups_after_joins groups (cidr.Ipv6 n ∷ own) =
-    groups_after_joins (groups_after_join groups (Ipv6 (solicited_node n.address))) own
+abbrev pub groups_after_joins : ℕ → List Group → List IpCidr → List Group
+groups_after_joins room groups [] = groups
+groups_after_joins room groups (cidr.Ipv4 n ∷ own) = groups_after_joins room groups own
+groups_after_joins room groups (cidr.Ipv6 n ∷ own) =
+    groups_after_joins room (groups_after_join room groups (Ipv6 (solicited_node n.address))) own
 
--- the groups of a host with these addresses. On a link with hardware addresses the solicited-node groups that match
--- none of them are left, in the order of the table; then those of the addresses are joined (RFC 4861 7.2.1)
-abbrev pub groups_for : HardwareAddress → List IpCidr → List Group → List Group
-groups_for (hardware.Ethernet e) own groups =
-    groups_after_joins (groups_after_leaves groups (filter (is_unneeded_group own) (map (λ (g : Group). g.addr) groups))) own
-groups_for hardware.Ip own groups = groups
+-- the groups of a host with these addresses, where there is room for so many. On a link with hardware addresses the
+-- solicited-node groups that match none of them are left, in the order of the table; then those of the addresses are
+-- joined (RFC 4861 7.2.1)
+abbrev pub groups_for : HardwareAddress → List IpCidr → ℕ → List Group → List Group
+groups_for (hardware.Ethernet e) own room groups =
+    let needed = groups_after_leaves groups (filter (is_unneeded_group own) (map (λ (g : Group). g.addr) groups)) in
+    groups_after_joins room needed own
+groups_for hardware.Ip own room groups = groups

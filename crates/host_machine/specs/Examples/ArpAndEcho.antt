@@ -13,6 +13,7 @@ use Rattle.ip_address.specs.declared.ip.IpAddress.TheVariants as ip
 use Rattle.ip_address.specs.declared.hardware.HardwareAddress.{HardwareAddress}
 use Rattle.ip_address.specs.declared.ip.IpAddress.{IpAddress}
 use Rattle.iface_tables.specs.Neighbor.{Neighbors, after_renewal}
+use Rattle.fragmentation.specs.Slots.{free_slots}
 use Rattle.host_machine.specs.declared.results.PollIngressSingleResult.TheVariants as result
 use Rattle.host_machine.specs.Context.Note.{Note, OfDiscovery, OfIdentification, Ask, Identify}
 use Rattle.group_table.specs.declared.report.IgmpReportState.TheVariants as igmp
@@ -80,14 +81,17 @@ host ipv4_id neighbors = record {
   hardware_addr = hardware.Ethernet (record { 0 = 2 ∷ 0 ∷ 0 ∷ 0 ∷ 0 ∷ 1 ∷ [] });
   moment = pos 0;
   ip_addrs = cidr.Ipv4 (record { address = record { bits = 0xc0a84501 }; prefix_len = 24; in_range = lit≤ tt }) ∷ [];
+  addr_room = 4;
   any_ip = false;
   routes = [];
+  route_room = 4;
   neighbors = neighbors;
   ipv4_id = ipv4_id;
   reassembly_timeout = 60000000;
-  slots = map.empty;
+  slots = free_slots 2;
   left = [];
   groups = [];
+  group_room = 8;
   igmp_report = igmp.Inactive;
   mld_report = mld.Inactive;
   slaac_enabled = false;

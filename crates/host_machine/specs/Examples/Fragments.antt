@@ -1,12 +1,11 @@
 -- Worked examples of fragments: the frames of a datagram in two fragments, and how the host of 192.168.69.1/24
 -- processes them; and the same datagram sent by the host.
 use Rattle.std.specs.Prelude.{◌≡◌, ℕ, pos, true, false, List, [], ◌∷◌, None, Result, Ok, Err}
-use Rattle.std.specs.FinMap as map
 use Rattle.net_base.specs.Device.{Received, Frame, Asked, Sent}
 use Rattle.ip_address.specs.declared.protocol.IpProtocol.TheVariants as protocol
 use Rattle.fragmentation.specs.declared.key.FragKey.{FragKey}
 use Rattle.fragmentation.specs.Fragments.{Fragment}
-use Rattle.fragmentation.specs.Slots.{Slot, live_at}
+use Rattle.fragmentation.specs.Slots.{Slot, free_slots, with_slot, without_slot, live_at}
 use Rattle.fragmentation.specs.Cuts.{Datagram, cut, piece_of}
 use Rattle.fragmentation.specs.Reassembly.{Take, Arrival, Rebuild}
 use Rattle.host_machine.specs.declared.results.PollIngressSingleResult.TheVariants as result
@@ -61,7 +60,7 @@ abbrev pub waiting_slot : Slot
 waiting_slot = record { got = record { total = None; fragments = one ∷ [] }; ends = pos 60000000 }
 
 abbrev pub waiting_host : Host
-waiting_host = with_slots (example.host 0x1405 (example.no_neighbors (pos 0))) (map.insert map.empty key waiting_slot)
+waiting_host = with_slots (example.host 0x1405 (example.no_neighbors (pos 0))) (with_slot (free_slots 2) key waiting_slot)
 
 -- the first one takes a slot
 abbrev pub FragmentWaits : Type 0
@@ -74,7 +73,7 @@ abbrev pub DatagramIsRebuilt : Type 0
 DatagramIsRebuilt =
     Ingress (pos 0) result.SocketStateChanged waiting_host
     (Received (pos 0) (Frame last_fragment) ∷ []) (OfSlots (Arrival key two) ∷ OfSlots (Rebuild key ten) ∷ [])
-    (with_slots waiting_host (map.remove (live_at (pos 0) waiting_host.slots) key))
+    (with_slots waiting_host (without_slot (live_at (pos 0) waiting_host.slots) key))
 
 -- a host whose device carries packets of 28 octets, so that a fragment has eight octets
 abbrev pub narrow_host : ℕ → Host

@@ -109,12 +109,12 @@ network bits = cidr.Ipv6 (record { address = record { bits = bits }; prefix_len 
 
 pub record GroupsFollowAddresses : Type 0 where
   pub moved : groups_for (host 0x1405 []).hardware_addr
-      (network 0xfe80_0000_0000_0000_0000_0000_0000_0002 ∷ []) (in_state group_v6 Joined)
+      (network 0xfe80_0000_0000_0000_0000_0000_0000_0002 ∷ []) 8 (in_state group_v6 Joined)
       ≡ record { addr = group_v6; state = Leaving }
       ∷ in_state (Ipv6 (record { bits = 0xff02_0000_0000_0000_0000_0001_ff00_0002 })) Joining
-  pub loopback : groups_for (host 0x1405 []).hardware_addr (network 1 ∷ []) (in_state group_v6 Joined)
+  pub loopback : groups_for (host 0x1405 []).hardware_addr (network 1 ∷ []) 8 (in_state group_v6 Joined)
       ≡ in_state group_v6 Joined
-  pub without_hardware : groups_for hardware.Ip (network 0xfe80_0000_0000_0000_0000_0000_0000_0002 ∷ []) [] ≡ []
+  pub without_hardware : groups_for hardware.Ip (network 0xfe80_0000_0000_0000_0000_0000_0000_0002 ∷ []) 8 [] ≡ []
 
 -- a host that has to solicit routers, to report a join and a leave, and has reports of both families due
 abbrev pub busy_host : Host

@@ -72,7 +72,9 @@ slaac_after_advertisement = record {
     cidr = network 0x2001_0db8_0000_0000_0000_0000_0000_0000;
     info = record { preferred_until = pos 301000000; valid_until = pos 701000000 };
   } ∷ [];
+  prefix_room = 2;
   routers = default_route router (pos 601000000) ∷ [];
+  router_room = 4;
   phase = Maintaining;
   retry_at = pos 4000000;
   left = 2;

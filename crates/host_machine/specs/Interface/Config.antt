@@ -1,7 +1,6 @@
 -- How a host begins, and which configurations are refused.
 use Rattle.std.specs.Prelude.{ℕ, ◌/◌, ◌^◌, ◌==◌, ◌&&◌, ℤ, pos, Bool, true, false}
 use Rattle.std.specs.Prelude.{not, [], Option, Some, None, nat_lt, if◌then◌else◌}
-use Rattle.std.specs.FinMap as map
 use Rattle.net_base.specs.declared.phy.DeviceCapabilities.{DeviceCapabilities}
 use Rattle.net_base.specs.declared.phy.Medium.{Medium}
 use Rattle.net_base.specs.declared.phy.Medium.TheVariants as medium
@@ -19,6 +18,7 @@ use Rattle.host_machine.specs.declared.results.NewError.TheVariants.{MtuTooSmall
 use Rattle.group_table.specs.declared.report.IgmpReportState.TheVariants as igmp
 use Rattle.group_table.specs.declared.report.MldReportState.TheVariants as mld
 use Rattle.iface_tables.specs.Neighbor.{first_neighbors}
+use Rattle.fragmentation.specs.Slots.{free_slots}
 use Rattle.slaac.specs.Slaac.{initial_state}
 use Rattle.host_machine.specs.Context.Host.{Host, SocketSet}
 
@@ -42,23 +42,27 @@ refusal_of c h =
 abbrev pub first_id : ℕ → ℕ
 first_id seed = if next seed / 2 ^ 48 == 0 then 1 else next seed / 2 ^ 48
 
--- a host at first, with SLAAC or without: room for four neighbours, no address, route, neighbour, silence, fragment, pending fragment or group,
--- and nothing learnt from routers; the reassembly timeout is 60 s (RFC 1122 3.3.2), and one word was drawn from its
--- source of random words
+-- a host at first, with SLAAC or without: room for four addresses, four routes, four neighbours, eight groups and two
+-- datagrams in reassembly, no address, route, neighbour, silence, fragment, pending fragment or group, and nothing
+-- learnt from routers; the reassembly timeout is 60 s (RFC 1122 3.3.2), and one word was drawn from its source of
+-- random words
 abbrev pub first_host : DeviceCapabilities → HardwareAddress → ℕ → Bool → ℤ → SocketSet → Host
 first_host c h seed slaac t sockets = record {
   capabilities = c;
   hardware_addr = h;
   moment = t;
   ip_addrs = [];
+  addr_room = 4;
   any_ip = false;
   routes = [];
+  route_room = 4;
   neighbors = first_neighbors 4;
   ipv4_id = first_id seed;
   reassembly_timeout = 60000000;
-  slots = map.empty;
+  slots = free_slots 2;
   left = [];
   groups = [];
+  group_room = 8;
   igmp_report = igmp.Inactive;
   mld_report = mld.Inactive;
   slaac_enabled = slaac;

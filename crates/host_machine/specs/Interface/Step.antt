@@ -1,6 +1,6 @@
 -- One command as one step.
 use Rattle.std.specs.Prelude.{◌≡◌, ℕ, ◌≤◌, ◌<◌, ℤ, Bool, true, false}
-use Rattle.std.specs.Prelude.{List, [], ◌∷◌, Option, Some, None, Result, Ok, Err}
+use Rattle.std.specs.Prelude.{List, [], ◌∷◌, length, Option, Some, None, Result, Ok, Err}
 use Rattle.arrayvec.specs.ArrayVec.{ArrayVec}
 use Rattle.net_base.specs.Device.{Event}
 use Rattle.net_base.specs.Time.{IsMoment}
@@ -14,6 +14,9 @@ use Rattle.iface_tables.specs.Route.{first, ipv4_gateway, ipv6_gateway, is_ipv4_
 use Rattle.iface_tables.specs.Route.{is_ipv6_gateway, old_or_full, with_default, without_first}
 use Rattle.host_machine.specs.declared.results.AddrError.{AddrError}
 use Rattle.host_machine.specs.declared.results.AddrError.TheVariants.{NotUnicast}
+use Rattle.host_machine.specs.declared.results.AddrListError.{AddrListError}
+use Rattle.host_machine.specs.declared.results.AddrListError.TheVariants.{TooMany}
+use Rattle.host_machine.specs.declared.results.AddrListError.TheVariants as list_error
 use Rattle.host_machine.specs.declared.results.HardwareError.{HardwareError}
 use Rattle.host_machine.specs.declared.results.PollIngressSingleResult.{PollIngressSingleResult}
 use Rattle.host_machine.specs.declared.results.PollResult.{PollResult}
@@ -62,6 +65,14 @@ pub data UpdatesIpAddrs (list : List IpCidr) (answer : Result (Unit {0}) AddrErr
       UpdatesIpAddrs list answer old new
   Refused : are_assignable list ≡ false → answer ≡ Err NotUnicast → new ≡ old → UpdatesIpAddrs list answer old new
 
+-- the same of a list of any length: it is refused too if there is no room for so many
+pub data SetsIpAddrs (list : List IpCidr) (answer : Result (Unit {0}) AddrListError) (old new : Host) : Type 0 where
+  Set : length list ≤ old.addr_room → are_assignable list ≡ true → answer ≡ Ok tt → new ≡ after_address_change old list →
+      SetsIpAddrs list answer old new
+  NoRoom : old.addr_room < length list → answer ≡ Err TooMany → new ≡ old → SetsIpAddrs list answer old new
+  NoOwn : length list ≤ old.addr_room → are_assignable list ≡ false → answer ≡ Err list_error.NotUnicast → new ≡ old →
+      SetsIpAddrs list answer old new
+
 -- the hardware address is set, an address of the device's medium; or it is refused
 pub data SetsHardwareAddr (h : HardwareAddress) (answer : Result (Unit {0}) HardwareError)
     (old new : Host) : Type 0 where
@@ -101,15 +112,15 @@ pub data Step : Command → Answer → Host → List Event → List Act → List
       Step (UpdateRoutes list) answer.UpdateRoutes old [] [] [] (record old { routes = list.items })
   AddedDefaultIpv4Route : {gateway : Ipv4Address} {old : Host} →
       Step (AddDefaultIpv4Route gateway)
-      (answer.AddDefaultIpv4Route (old_or_full is_ipv4_gateway old.routes)) old [] [] []
-      (record old { routes = with_default is_ipv4_gateway old.routes (ipv4_gateway gateway) })
+      (answer.AddDefaultIpv4Route (old_or_full old.route_room is_ipv4_gateway old.routes)) old [] [] []
+      (record old { routes = with_default old.route_room is_ipv4_gateway old.routes (ipv4_gateway gateway) })
   RemovedDefaultIpv4Route : {old : Host} →
       Step RemoveDefaultIpv4Route (answer.RemoveDefaultIpv4Route (first is_ipv4_gateway old.routes)) old [] [] []
       (record old { routes = without_first is_ipv4_gateway old.routes })
   AddedDefaultIpv6Route : {gateway : Ipv6Address} {old : Host} →
       Step (AddDefaultIpv6Route gateway)
-      (answer.AddDefaultIpv6Route (old_or_full is_ipv6_gateway old.routes)) old [] [] []
-      (record old { routes = with_default is_ipv6_gateway old.routes (ipv6_gateway gateway) })
+      (answer.AddDefaultIpv6Route (old_or_full old.route_room is_ipv6_gateway old.routes)) old [] [] []
+      (record old { routes = with_default old.route_room is_ipv6_gateway old.routes (ipv6_gateway gateway) })
   RemovedDefaultIpv6Route : {old : Host} →
       Step RemoveDefaultIpv6Route (answer.RemoveDefaultIpv6Route (first is_ipv6_gateway old.routes)) old [] [] []
       (record old { routes = without_first is_ipv6_gateway old.routes })

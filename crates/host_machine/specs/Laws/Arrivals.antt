@@ -2,11 +2,10 @@
 use Rattle.std.specs.Prelude.{◌≡◌, ◌⊎◌, ℕ, ◌<◌, ◌≤◌, ℤ, pos, ◌+ℤ◌, ◌≤ℤ◌, true}
 use Rattle.std.specs.Prelude.{List, [], ◌∷◌, ◌++◌, length, Option, Some, None, if◌then◌else◌}
 use Rattle.std.specs.List.{AllByRecursion, Contains}
-use Rattle.std.specs.FinMap as map
 use Rattle.fragmentation.specs.declared.key.FragKey.{FragKey}
 use Rattle.fragmentation.specs.Keys.{same_key}
 use Rattle.fragmentation.specs.Fragments.{Fragment, keeps_few}
-use Rattle.fragmentation.specs.Slots.{Slot, Slots, live_at}
+use Rattle.fragmentation.specs.Slots.{Slot, Slots, slot_of, HasFree, live_at}
 use Rattle.fragmentation.specs.Reassembly.{SlotNote, Take, Arrival, Rebuild}
 use Rattle.fragmentation.specs.Cuts.{cut}
 use Rattle.host_machine.specs.declared.command.Command.{Command}
@@ -55,9 +54,9 @@ slots_then c slots = live_by (expiry_time_of c) slots
 -- a single call that doesn't drop the slot of a key; if a fragment arrives under the key without a slot, a slot is free
 pub record IsServed (key : FragKey) (p : Transition) : Type 0 where
   pub single : IsSingle p.command
-  pub kept : map.get (slots_then p.command p.before.slots) key ≡ map.get p.before.slots key
-  pub room : 0 < length (arrivals_under key (slot_notes p.notes)) → map.get p.before.slots key ≡ None →
-      map.len (slots_then p.command p.before.slots) < 2
+  pub kept : slot_of (slots_then p.command p.before.slots) key ≡ slot_of p.before.slots key
+  pub room : 0 < length (arrivals_under key (slot_notes p.notes)) → slot_of p.before.slots key ≡ None →
+      HasFree (slots_then p.command p.before.slots)
 
 -- each fragment after these leaves at most four separate ranges
 abbrev pub KeepFew : List Fragment → List Fragment → Type 0
@@ -73,7 +72,7 @@ PiecesAreRebuilt =
     (first last : Host) (transitions : List Transition) (p : Transition) (key : FragKey)
     (m : ℕ) (payload : List ℕ) (f : Fragment) →
     Run first (transitions ++ p ∷ []) last → 0 < m → length payload ≤ 4096 →
-    map.get first.slots key ≡ None → arrivals_under key (slot_notes p.notes) ≡ f ∷ [] →
+    slot_of first.slots key ≡ None → arrivals_under key (slot_notes p.notes) ≡ f ∷ [] →
     AllByRecursion (Contains (cut m payload)) (arrivals_under key (slot_notes_in transitions) ++ f ∷ []) →
     ((g : Fragment) → Contains (cut m payload) g →
     Contains (arrivals_under key (slot_notes_in transitions) ++ f ∷ []) g) →
@@ -87,17 +86,17 @@ pub record IsInTime (t0 end : ℤ) (c : Command) : Type 0 where
   pub polls : (t : ℤ) → expiry_time_of c ≡ Some t → (t0 ≤ℤ t) × (t ≤ℤ end)
   pub timeouts : (timeout : ℕ) → c ≡ SetReassemblyTimeout timeout → end ≤ℤ (t0 +ℤ pos timeout)
 
--- All fragments of a payload arrive within a time that is no longer than any timeout, beside fragments of at most one
--- other datagram. Then the payload is reassembled when the last missing fragment arrives, which is the next note about
--- slots. Not before. This law goes by moments, and holds for polls too.
+-- All fragments of a payload arrive within a time that is no longer than any timeout, at a host with two slots or more,
+-- beside fragments of at most one other datagram. Then the payload is reassembled when the last missing fragment
+-- arrives, which is the next note about slots. Not before. This law goes by moments, and holds for polls too.
 abbrev pub PiecesArriveInTime : Type 0
 PiecesArriveInTime =
     (first last : Host) (transitions : List Transition) (before after : List SlotNote) (key other : FragKey)
     (t0 end : ℤ) (m : ℕ) (payload : List ℕ) (f : Fragment) →
     Run first transitions last → 0 < m → length payload ≤ 4096 →
     slot_notes_in transitions ≡ before ++ Arrival key f ∷ after →
-    AllByRecursion (λ p. IsInTime t0 end p.command) transitions → end ≤ℤ (t0 +ℤ pos first.reassembly_timeout) →
-    map.get first.slots key ≡ None → ((k : FragKey) (s : Slot) → map.get first.slots k ≡ Some s → k ≡ other) →
+    AllByRecursion (λ p. IsInTime t0 end p.command) transitions → end ≤ℤ (t0 +ℤ pos first.reassembly_timeout) → 2 ≤ first.slots.room →
+    slot_of first.slots key ≡ None → ((k : FragKey) (s : Slot) → slot_of first.slots k ≡ Some s → k ≡ other) →
     AllByRecursion (λ c. (c.0 ≡ key) ⊎ (c.0 ≡ other)) (all_arrivals before) →
     AllByRecursion (Contains (cut m payload)) (arrivals_under key before ++ f ∷ []) →
     ((g : Fragment) → Contains (cut m payload) g → Contains (arrivals_under key before ++ f ∷ []) g) →

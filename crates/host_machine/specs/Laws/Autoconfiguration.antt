@@ -46,7 +46,7 @@ abbrev pub AddressesAreFormed : Host → ℤ → Type 0
 AddressesAreFormed H t = (i : ℕ) (p : Prefix) (c : Ipv6Cidr) →
     H.slaac.changed ≡ true → slice_get H.slaac.prefixes i ≡ Some p → t <ℤ p.info.valid_until →
     from_link_prefix p.cidr H.hardware_addr ≡ Some c → is_unicast c.address ≡ true →
-    length H.ip_addrs + length H.slaac.prefixes ≤ 4 → IsUnended H.hardware_addr t H.slaac.prefixes c →
+    length H.ip_addrs + length H.slaac.prefixes ≤ H.addr_room → IsUnended H.hardware_addr t H.slaac.prefixes c →
     HasAddress (after_maintenance (at H t)).ip_addrs c
 
 -- an address stays, changed or not, unless a prefix that makes it has expired
@@ -67,7 +67,7 @@ pub record LeadsAs (r : Route) (s : StoredRoute) : Type 0 where
 abbrev pub RoutesAreFormed : Host → ℤ → Type 0
 RoutesAreFormed H t = (i : ℕ) (r : Route) →
     H.slaac.changed ≡ true → slice_get H.slaac.routers i ≡ Some r → t <ℤ r.valid_until →
-    length H.routes + length H.slaac.routers ≤ 4 →
+    length H.routes + length H.slaac.routers ≤ H.route_room →
     (k : ℕ) × (s : StoredRoute) × (slice_get (after_maintenance (at H t)).routes k ≡ Some s) × LeadsAs r s
 
 -- no router by which a stored route leads has ended
@@ -120,13 +120,13 @@ abbrev pub IsKnown : List Prefix → NdiscPrefixInformation → ℤ → Type 0
 IsKnown prefixes p end = (k : ℕ) × (q : Prefix) × (slice_get prefixes k ≡ Some q) × (q.cidr.address ≡ p.prefix)
     × (q.cidr.prefix_len ≡ p.prefix_len) × (q.info.valid_until ≡ end)
 
--- after the call that receives it, such a prefix is known until its lifetime ends, if fewer than two were known; and
+-- after the call that receives it, such a prefix is known until its lifetime ends, if there was room for another; and
 -- nothing is sent. What the host learnt has changed, unless the prefix was known before
 abbrev pub LearnsPrefixes : ℤ → Host → List Event → Host → Type 0
 LearnsPrefixes t old told new =
     (own : EthernetAddress) (frame : List ℕ) (r : Ipv6Repr) (lifetime : ℕ) (p : NdiscPrefixInformation) →
     Takes (hardware.Ethernet own) t frame old told new → BringsAdvertisement own old frame r lifetime (Some p) →
-    FormsAddresses p → length old.slaac.prefixes < 2 →
+    FormsAddresses p → length old.slaac.prefixes < old.slaac.prefix_room →
     IsKnown new.slaac.prefixes p (t +ℤ pos (p.valid_lifetime * 1_000_000)) × (sent_frames told ≡ [])
     × ((new.slaac.changed ≡ true) ⊎ ((end : ℤ) × IsKnown old.slaac.prefixes p end))
 
@@ -135,12 +135,12 @@ abbrev pub IsKnownRouter : List Route → Ipv6Address → ℤ → Type 0
 IsKnownRouter routers router end = (k : ℕ) × (q : Route) × (slice_get routers k ≡ Some q)
     × (q.cidr.address.bits ≡ 0) × (q.cidr.prefix_len ≡ 0) × (q.via_router ≡ router) × (q.valid_until ≡ end)
 
--- so is its router, as one of a default route, if its lifetime isn't 0 and fewer than four were known
+-- so is its router, as one of a default route, if its lifetime isn't 0 and there was room for another
 abbrev pub LearnsRouters : ℤ → Host → List Event → Host → Type 0
 LearnsRouters t old told new =
     (own : EthernetAddress) (frame : List ℕ) (r : Ipv6Repr) (lifetime : ℕ) (prefix : Option NdiscPrefixInformation) →
     Takes (hardware.Ethernet own) t frame old told new → BringsAdvertisement own old frame r lifetime prefix →
-    lifetime ≢ 0 → length old.slaac.routers < 4 →
+    lifetime ≢ 0 → length old.slaac.routers < old.slaac.router_room →
     IsKnownRouter new.slaac.routers r.src_addr (t +ℤ pos (lifetime * 1_000_000)) × (sent_frames told ≡ [])
     × ((new.slaac.changed ≡ true) ⊎ ((end : ℤ) × IsKnownRouter old.slaac.routers r.src_addr end))
 

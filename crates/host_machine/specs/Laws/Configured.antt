@@ -76,7 +76,7 @@ pub record HasNothing (H : Host) : Type 0 where
   pub routes : H.routes ≡ []
   pub neighbors : H.neighbors.known ≡ map.empty
   pub groups : H.groups ≡ []
-  pub slots : H.slots ≡ map.empty
+  pub slots : H.slots.held ≡ map.empty
   pub pending : H.left ≡ []
 
 -- so it is with each host at first

@@ -1,10 +1,9 @@
 -- What a run reassembles: each datagram consists of what arrived under its key since its slot was taken (RFC 791 3.2).
 use Rattle.std.specs.Prelude.{List, [], ◌∷◌, Option, Some, None, if◌then◌else◌}
-use Rattle.std.specs.FinMap as map
 use Rattle.fragmentation.specs.declared.key.FragKey.{FragKey}
 use Rattle.fragmentation.specs.Keys.{same_key}
 use Rattle.fragmentation.specs.Fragments.{Got, no_fragments, with_one, IsRebuilt}
-use Rattle.fragmentation.specs.Slots.{Slot}
+use Rattle.fragmentation.specs.Slots.{Slot, slot_of}
 use Rattle.fragmentation.specs.Reassembly.{SlotNote, Take, Arrival, Rebuild}
 use Rattle.host_machine.specs.Context.Host.{Host}
 
@@ -18,7 +17,7 @@ got_in (Some s) = s.got
 
 -- where a run begins: what the slots hold
 abbrev pub first_history : Host → History
-first_history H = λ k. got_in (map.get H.slots k)
+first_history H = λ k. got_in (slot_of H.slots k)
 
 abbrev pub put : History → FragKey → Got → History
 put h k g = λ j. if same_key j k then g else h j

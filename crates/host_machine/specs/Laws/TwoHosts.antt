@@ -2,7 +2,6 @@
 -- but never changes one.
 use Rattle.std.specs.Prelude.{◌≡◌, ℕ, ◌*◌, ◌<◌, ◌≤◌, Bool, true, false, IsTrue, List, [], ◌∷◌, length, None}
 use Rattle.std.specs.List.{AllByRecursion, Contains}
-use Rattle.std.specs.FinMap as map
 use Rattle.net_base.specs.declared.phy.Medium.{Medium}
 use Rattle.net_base.specs.Checksum.{ip_mtu_of, is_rx, is_tx}
 use Rattle.net_base.specs.Device.{handed_frames, sent_frames}
@@ -11,6 +10,7 @@ use Rattle.ip_address.specs.declared.hardware.HardwareAddress.TheVariants as har
 use Rattle.fragmentation.specs.declared.key.FragKey.{FragKey}
 use Rattle.fragmentation.specs.Keys.{same_key, key_of}
 use Rattle.fragmentation.specs.Fragments.{Fragment}
+use Rattle.fragmentation.specs.Slots.{slot_of}
 use Rattle.fragmentation.specs.Cuts.{Datagram, HasForm, cut, piece_of}
 use Rattle.host_machine.specs.Context.Note.{CutNote, Cut, PieceSent, cut_notes}
 use Rattle.host_machine.specs.Context.Host.{Host}
@@ -65,7 +65,7 @@ abbrev pub RebuildsWhatWasCut : Type 0
 RebuildsWhatWasCut =
     (a a' b b' : Host) (ps qs : List Transition) → Run a ps a' → Run b qs b' → MayExchange a b →
     WereSent ps qs → HaveOwnKeys (cuts_in ps) →
-    AllByRecursion (λ d. map.get b.slots (key_of_cut d) ≡ None) (cuts_in ps) → RebuildsThese (cuts_in ps) qs
+    AllByRecursion (λ d. slot_of b.slots (key_of_cut d) ≡ None) (cuts_in ps) → RebuildsThese (cuts_in ps) qs
 
 -- whether a frame to a hardware address is for a host with another one: on a medium without hardware
 -- addresses each frame is

@@ -4,7 +4,6 @@ use Rattle.std.specs.Prelude.{List, Option, ◌≡◌, ℕ, ◌+◌, ◌*◌, �
 use Rattle.std.specs.Prelude.{[], ◌∷◌, length, slice_get, Some, None, if◌then◌else◌}
 use Rattle.std.specs.Option.{option_map, option_and_then}
 use Rattle.net_base.specs.Device.{Event, Asked}
-use Rattle.net_base.specs.Rand.{next}
 use Rattle.ip_address.specs.declared.cidr.IpCidr.{IpCidr}
 use Rattle.ip_address.specs.declared.ipv4.Ipv4Address.{Ipv4Address}
 use Rattle.group_wire.specs.declared.igmp.IgmpRepr.{IgmpRepr}

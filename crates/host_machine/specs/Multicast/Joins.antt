@@ -27,10 +27,10 @@ use Rattle.host_machine.specs.Multicast.Mld.{mld_report}
 -- a group is joined, unless the table has no room for it, or the address is not multicast
 pub data JoinsGroup (a : IpAddress) (answer : Result (Unit {0}) MulticastError) (old new : Host) : Type 0 where
   NoGroup : is_multicast a ≡ false → answer ≡ Err Unaddressable → new ≡ old → JoinsGroup a answer old new
-  NoPlace : is_multicast a ≡ true → is_refused old.groups a ≡ true → answer ≡ Err GroupTableFull →
+  NoPlace : is_multicast a ≡ true → is_refused old.group_room old.groups a ≡ true → answer ≡ Err GroupTableFull →
       new ≡ old → JoinsGroup a answer old new
-  JoinTaken : is_multicast a ≡ true → is_refused old.groups a ≡ false → answer ≡ Ok tt →
-      new ≡ with_groups old (groups_after_join old.groups a) →
+  JoinTaken : is_multicast a ≡ true → is_refused old.group_room old.groups a ≡ false → answer ≡ Ok tt →
+      new ≡ with_groups old (groups_after_join old.group_room old.groups a) →
       JoinsGroup a answer old new
 
 -- a group is left, if the host is a member, unless the address is not multicast

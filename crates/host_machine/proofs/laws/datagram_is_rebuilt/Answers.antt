@@ -1,10 +1,9 @@
 use Rattle.std.proofs.Common.{[], ◌∷◌, refl, sym, ap, None, lit≤, inl, inr}
-use Rattle.std.specs.FinMap as map
 use Rattle.std.specs.Prelude.{pos}
 use Rattle.wire_base.specs.Checksum.{word_sum}
 use Rattle.net_base.specs.Device.{Frame}
 use Rattle.iface_tables.specs.Neighbor.{Neighbors}
-use Rattle.fragmentation.specs.Slots.{live_at}
+use Rattle.fragmentation.specs.Slots.{without_slot, live_at}
 use Rattle.fragmentation.specs.Reassembly.{Arrival, Rebuild, Rebuilt, Stood}
 use Rattle.host_machine.specs.Context.Note.{OfSlots}
 use Rattle.host_machine.specs.Context.Host.{with_neighbors, with_slots}
@@ -27,7 +26,7 @@ none_of (inr (inr (inr e))) = absurd cc
 pub returns : goal.returns
 unfolding word_sum
 returns c =
-    let slots = map.remove (live_at (pos 0) example.waiting_host.slots) example.key in
+    let slots = without_slot (live_at (pos 0) example.waiting_host.slots) example.key in
     let without = with_slots example.waiting_host slots in
     let notes = OfSlots (Arrival example.key example.two) ∷ OfSlots (Rebuild example.key example.ten) ∷ [] in
     record {

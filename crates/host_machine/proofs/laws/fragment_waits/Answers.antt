@@ -1,9 +1,9 @@
 use Rattle.std.proofs.Common.{[], ◌∷◌, refl, sym, ap, None, lit≤}
-use Rattle.std.specs.FinMap as map
 use Rattle.std.specs.Prelude.{pos}
 use Rattle.wire_base.specs.Checksum.{word_sum}
 use Rattle.net_base.specs.Device.{Frame}
 use Rattle.fragmentation.specs.Fragments.{Got, no_fragments}
+use Rattle.fragmentation.specs.Slots.{free_slots, with_slot}
 use Rattle.fragmentation.specs.Reassembly.{Take, Arrival, Waits, Taken}
 use Rattle.host_machine.specs.Context.Note.{OfSlots}
 use Rattle.host_machine.specs.Receive.Ipv4 as ipv4
@@ -30,7 +30,7 @@ returns c = record {
           slot_notes = Take example.key ∷ Arrival example.key example.one ∷ [];
           reassembles = Waits (record { got = no_fragments; ends = pos 60000000 }) (Take example.key ∷ [])
               (Taken none_yet has_room refl refl) refl first_waits refl refl
-              (ap (λ (g : Got). map.insert map.empty example.key (record { got = g; ends = pos 60000000 })) (sym first_got));
+              (ap (λ (g : Got). with_slot (free_slots 2) example.key (record { got = g; ends = pos 60000000 })) (sym first_got));
           noted = refl;
           changed = refl;
         }) refl)));

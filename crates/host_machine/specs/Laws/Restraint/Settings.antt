@@ -114,3 +114,16 @@ abbrev pub NeighborRoomStays : Type 0
 NeighborRoomStays =
     (first last : Host) (transitions : List Transition) →
     Run first transitions last → last.neighbors.room ≡ first.neighbors.room
+
+-- nor how many slots there are for datagrams in fragments
+abbrev pub SlotRoomStays : Type 0
+SlotRoomStays =
+    (first last : Host) (transitions : List Transition) →
+    Run first transitions last → last.slots.room ≡ first.slots.room
+
+-- nor for how many addresses, routes and groups there is room
+abbrev pub TableRoomStays : Type 0
+TableRoomStays =
+    (first last : Host) (transitions : List Transition) →
+    Run first transitions last → (last.addr_room ≡ first.addr_room) × (last.route_room ≡ first.route_room)
+    × (last.group_room ≡ first.group_room)
