@@ -150,14 +150,14 @@ Goes did_a did_b m n steps a a' b b' =
 abbrev pub RebuildsCuts : Host → Host → List Transition → List Transition → Type 0
 RebuildsCuts H K ps qs =
     K.capabilities.medium ≡ H.capabilities.medium → H.left ≡ [] → HaveOwnKeys (cuts_in ps) →
-    AllByRecursion (λ d. map.get K.slots (key_of_cut d) ≡ None) (cuts_in ps) → RebuildsThese (cuts_in ps) qs
+    AllByRecursion (λ d. map.get K.slots.held (key_of_cut d) ≡ None) (cuts_in ps) → RebuildsThese (cuts_in ps) qs
 
 -- If the other end makes fewer than 65,536 dispatches, it fragments no two packets under one key, and the law holds
 -- without that premise.
 abbrev pub RebuildsFew : Host → Host → List Transition → List Transition → Type 0
 RebuildsFew H K ps qs =
     K.capabilities.medium ≡ H.capabilities.medium → H.left ≡ [] → length (identifications (notes_in ps)) < 2 ^ 16 →
-    AllByRecursion (λ d. map.get K.slots (key_of_cut d) ≡ None) (cuts_in ps) → RebuildsThese (cuts_in ps) qs
+    AllByRecursion (λ d. map.get K.slots.held (key_of_cut d) ≡ None) (cuts_in ps) → RebuildsThese (cuts_in ps) qs
 
 -- Each datagram that a UDP socket of an end gets was sent by a UDP socket of the other end, whole or, under the
 -- premises above, in fragments. Both are on one medium, and no raw socket of the other end sends UDP.

@@ -76,9 +76,10 @@ fn add_default_ipv4_route(
     gateway: Ipv4Address,
 ) -> Result<Option<Route>, RouteTableFull>
     ensures answer { (sockets : SocketSet) →
-        result ≡ old_or_full is_ipv4_gateway (host_with interface.old sockets).routes }
+        result ≡ old_or_full (host_with interface.old sockets).route_room is_ipv4_gateway
+        (host_with interface.old sockets).routes }
     ensures table { Becomes interface.old interface.new
-        (λ H. record H { routes = with_default is_ipv4_gateway H.routes (ipv4_gateway gateway) }) }
+        (λ H. record H { routes = with_default H.route_room is_ipv4_gateway H.routes (ipv4_gateway gateway) }) }
 {
     interface.routes_mut().add_default_ipv4_route(gateway)
 }
@@ -98,9 +99,10 @@ fn add_default_ipv6_route(
     gateway: Ipv6Address,
 ) -> Result<Option<Route>, RouteTableFull>
     ensures answer { (sockets : SocketSet) →
-        result ≡ old_or_full is_ipv6_gateway (host_with interface.old sockets).routes }
+        result ≡ old_or_full (host_with interface.old sockets).route_room is_ipv6_gateway
+        (host_with interface.old sockets).routes }
     ensures table { Becomes interface.old interface.new
-        (λ H. record H { routes = with_default is_ipv6_gateway H.routes (ipv6_gateway gateway) }) }
+        (λ H. record H { routes = with_default H.route_room is_ipv6_gateway H.routes (ipv6_gateway gateway) }) }
 {
     interface.routes_mut().add_default_ipv6_route(gateway)
 }

@@ -4,3 +4,4 @@ pub mod Cutting
 pub mod Processing
 mod Routing
 mod Syncing
+mod Extended

@@ -7,17 +7,14 @@ ghost use Rattle.fragmentation.specs.Slots.{Slots};
 ghost use Rattle.iface_context.specs.Stands.{host_in, host_of};
 ghost use Rattle.slaac.specs.Slaac as learnt;
 ghost use Rattle.slaac.specs.Slaac.{IsLifetime, slaac_after_message, slaac_after_update};
-ghost use Rattle.slaac.specs.Sync.{synced_addrs, synced_routes};
 
 use crate::context::Context;
-use crate::settings::set_ip_addrs;
-use arrayvec::ArrayVec;
+use crate::settings::follow_addrs;
 use icmpv6_wire::NdiscPrefixInformation;
-use iface_tables::route::{IFACE_MAX_ROUTE_COUNT, Route};
 use ip_wire::Ipv6Address;
 use net_base::time::{Duration, Instant};
 use slaac::Slaac;
-use slaac::sync::{synced_addrs, synced_routes};
+use slaac::sync::{sync_addrs, sync_routes};
 
 impl Context {
     ghost use Rattle.std.specs.Prelude.{◌≡◌};
@@ -92,15 +89,15 @@ fn apply_slaac(context: &mut Context)
     ensures { (sockets : SocketSet) → host_of context.new sockets ≡ with_slaac_applied (host_of context.old sockets) }
 {
     let now = context.moment;
-    let list = synced_addrs(
-        context.ip_addrs.as_slice(),
+    sync_addrs(
+        &mut context.ip_addrs,
+        context.addr_room,
         &context.hardware_addr,
         context.slaac.prefix(),
         now,
     );
-    let routes = synced_routes(context.routes.as_slice(), context.slaac.routes(), now);
-    set_ip_addrs(context, list);
-    set_routes(context, routes);
+    follow_addrs(context);
+    sync_routes(&mut context.routes, context.slaac.routes(), now);
     finish_sync(context);
 }
 
@@ -114,12 +111,4 @@ fn finish_sync(context: &mut Context)
     let now = context.moment;
     context.slaac.update_slaac_state(now);
     context.slaac_updated_at = now;
-}
-
-/// Replaces the routes.
-fn set_routes(context: &mut Context, routes: ArrayVec<Route, IFACE_MAX_ROUTE_COUNT>)
-    ensures { (sockets : SocketSet) →
-        host_of context.new sockets ≡ record (host_of context.old sockets) { routes = routes.items } }
-{
-    context.routes.update(move |_| routes);
 }

@@ -1,5 +1,5 @@
 //! What an interface knows, besides its buffers.
-ghost use Rattle.std.specs.Prelude.{◌≡◌, ◌≤◌, ◌+◌};
+ghost use Rattle.std.specs.Prelude.{◌≡◌, ◌≤◌, ◌+◌, length};
 ghost use Rattle.std.specs.List.{AllByRecursion};
 ghost use Rattle.net_base.specs.Time.{IsMoment};
 ghost use Rattle.net_base.specs.Checksum.{ip_mtu_of};
@@ -24,9 +24,10 @@ use net_base::phy::{ChecksumCapabilities, DeviceCapabilities};
 use net_base::rand::Rand;
 use net_base::time::{Duration, Instant};
 use slaac::Slaac;
+use slaac::sync::MAX_ADDR_COUNT;
 use sockets::SocketContext;
 
-/// The maximum number of addresses of an interface.
+/// The maximum number of addresses of a list that the crate `interface` hands to a function, smoltcp's.
 pub const IFACE_MAX_ADDR_COUNT: usize = 4;
 
 /// The state of an interface besides its buffers: device capabilities, addresses, routes, neighbours, groups, what
@@ -36,7 +37,8 @@ pub struct Context {
     pub(crate) capabilities: DeviceCapabilities,
     pub(crate) hardware_addr: HardwareAddress,
     pub(crate) moment: Instant,
-    pub(crate) ip_addrs: ArrayVec<IpCidr, IFACE_MAX_ADDR_COUNT>,
+    pub(crate) ip_addrs: ArrayVec<IpCidr, MAX_ADDR_COUNT>,
+    pub(crate) addr_room: usize,
     pub(crate) any_ip: bool,
     pub(crate) routes: Routes,
     pub(crate) neighbor_cache: Cache,
@@ -48,6 +50,9 @@ pub struct Context {
     pub(crate) slaac: Slaac,
     pub(crate) slaac_updated_at: Instant,
     pub(crate) rand: Rand,
+    pub ghost few_addrs: { addr_room ≤ 16 },
+    pub ghost four_addrs: { 4 ≤ addr_room },
+    pub ghost room_for_addrs: { length ip_addrs.items ≤ addr_room },
     pub ghost timely: { IsMoment moment },
     pub ghost short: { capabilities.max_transmission_unit ≤ 1514 },
     pub ghost long: { 576 ≤ ip_mtu_of capabilities },
@@ -95,9 +100,18 @@ impl Context {
     #[inline(always)]
     pub fn ip_addrs(&self) -> &[IpCidr]
         ensures value { result.now ≡ (host_of self.now no_sockets).ip_addrs }
-        ensures fits { length result.now ≤ 4 }
+        ensures fits { length result.now ≤ (host_of self.now no_sockets).addr_room }
     {
         self.ip_addrs.as_slice()
+    }
+
+    /// For how many addresses there is room.
+    #[inline(always)]
+    pub fn addr_room(&self) -> usize
+        ensures value { result ≡ (host_of self.now no_sockets).addr_room }
+        ensures fits { result ≤ 16 }
+    {
+        self.addr_room
     }
 
     /// Whether the interface accepts addresses that are routed to it as its own (AnyIP).
@@ -144,7 +158,8 @@ impl Context {
     /// The routes.
     #[inline(always)]
     pub fn routes(&self) -> &Routes
-        ensures { result.now ≡ (host_of self.now no_sockets).routes }
+        ensures items { result.now.items ≡ (host_of self.now no_sockets).routes }
+        ensures room { result.now.room ≡ (host_of self.now no_sockets).route_room }
     {
         &self.routes
     }

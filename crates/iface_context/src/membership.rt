@@ -8,29 +8,34 @@ ghost use Rattle.iface_context.specs.Multicast.{interval_of};
 
 use arrayvec::ArrayVec;
 use group_table::{
-    Group, Groups, IFACE_MAX_MULTICAST_GROUP_COUNT, IgmpReportState, MldReportState,
+    Group, Groups, IFACE_MAX_MULTICAST_GROUP_COUNT, IgmpReportState, MAX_GROUP_COUNT,
+    MldReportState,
 };
 use iface_addresses::addresses::has_solicited_node;
 use ip_wire::{HardwareAddress, IpAddress, IpCidr, Ipv6Address};
 
-/// The groups of an interface, and the reports that answer queries of routers.
+/// The groups of an interface, for how many there is room, and the reports that answer queries of routers.
 #[derive(Drop)]
 pub struct Membership {
     pub(crate) groups: Groups,
+    pub(crate) room: usize,
     pub(crate) igmp_report: IgmpReportState,
     pub(crate) mld_report: MldReportState,
+    pub ghost few: { room ≤ 16 },
     pub ghost paced: { interval_of igmp_report < 3600000000 },
 }
 
 impl Membership {
-    /// No group, and no report pending.
+    /// No group, room for eight, and no report pending.
     pub(crate) fn new() -> Membership
         ensures groups { result.groups ≡ [] }
+        ensures room { result.room ≡ 8 }
         ensures igmp { result.igmp_report ≡ igmp.Inactive }
         ensures mld { result.mld_report ≡ mld.Inactive }
     {
         Membership {
             groups: Groups::new(),
+            room: IFACE_MAX_MULTICAST_GROUP_COUNT,
             igmp_report: IgmpReportState::Inactive,
             mld_report: MldReportState::Inactive,
         }
@@ -42,26 +47,25 @@ impl Membership {
 pub(crate) fn update_solicited_node_groups(
     hardware_addr: &HardwareAddress,
     own: &[IpCidr],
+    room: usize,
     groups: &mut Groups,
 )
-    ensures { groups.new ≡ spec.groups_for hardware_addr.now own.now groups.old }
+    requires { room ≤ 16 }
+    ensures { groups.new ≡ spec.groups_for hardware_addr.now own.now room groups.old }
 {
     match hardware_addr {
         HardwareAddress::Ethernet(_) => {
             let idle = idle_groups(own, groups.as_slice());
             leave_all(groups, idle.as_slice());
-            join_solicited(groups, own);
+            join_solicited(groups, room, own);
         }
         HardwareAddress::Ip => {}
     }
 }
 
 /// The solicited-node groups in the table that match no address of the interface.
-fn idle_groups(
-    own: &[IpCidr],
-    groups: &[Group],
-) -> ArrayVec<IpAddress, IFACE_MAX_MULTICAST_GROUP_COUNT>
-    requires { length groups.now ≤ 8 }
+fn idle_groups(own: &[IpCidr], groups: &[Group]) -> ArrayVec<IpAddress, MAX_GROUP_COUNT>
+    requires { length groups.now ≤ 16 }
     ensures { result.items ≡ filter (spec.is_unneeded_group own.now) (map (λ (g : Group). g.addr) groups.now) }
 {
     let mut idle = ArrayVec::new();
@@ -100,14 +104,15 @@ fn leave_all(groups: &mut Groups, addresses: &[IpAddress])
 }
 
 /// Joins the solicited-node group of each IPv6 address, while there is room.
-fn join_solicited(groups: &mut Groups, own: &[IpCidr])
-    ensures { groups.new ≡ spec.groups_after_joins groups.old own.now }
+fn join_solicited(groups: &mut Groups, room: usize, own: &[IpCidr])
+    requires { room ≤ 16 }
+    ensures { groups.new ≡ spec.groups_after_joins room groups.old own.now }
 {
     for cidr in own {
         match cidr {
             IpCidr::Ipv4(_) => {}
             IpCidr::Ipv6(cidr) => {
-                let _ = groups.join(IpAddress::Ipv6(cidr.address.solicited_node()));
+                let _ = groups.join(IpAddress::Ipv6(cidr.address.solicited_node()), room);
             }
         }
     }

@@ -42,15 +42,17 @@ impl Context {
 }
 
 /// Joins a group, as [`Groups::join`] does. Fails with `GroupTableFull` exactly if the group isn't in the table and
-/// eight others are; then nothing changes.
+/// there is no room for another; then nothing changes.
 pub fn join_group(context: &mut Context, group: IpAddress) -> Result<(), GroupTableFull>
-    ensures answer { result ≡ done_or_full (host_of context.old no_sockets).groups group }
-    ensures groups { (sockets : SocketSet) → host_of context.new sockets
-        ≡ with_groups (host_of context.old sockets) (groups_after_join (host_of context.old no_sockets).groups group) }
+    ensures answer { result ≡ done_or_full (host_of context.old no_sockets).group_room
+        (host_of context.old no_sockets).groups group }
+    ensures groups { (sockets : SocketSet) → host_of context.new sockets ≡ with_groups (host_of context.old sockets)
+        (groups_after_join (host_of context.old no_sockets).group_room (host_of context.old no_sockets).groups group) }
     ensures unchanged { OnErr result
         ((sockets : SocketSet) → host_of context.new sockets ≡ host_of context.old sockets) }
 {
-    context.multicast.groups.join(group)
+    let room = context.multicast.room;
+    context.multicast.groups.join(group, room)
 }
 
 /// Leaves a group, as [`Groups::leave`] does.

@@ -1,31 +1,36 @@
 //! The settings that calls of an interface change in its context.
-ghost use Rattle.std.specs.Prelude.{◌≡◌, ◌≤◌, List, [], false, pos, vec_capacity};
-ghost use Rattle.std.specs.FinMap as map;
+ghost use Rattle.std.specs.Prelude.{◌≡◌, ◌≤◌, List, [], false, length, pos, vec_capacity};
 ghost use Rattle.net_base.specs.Time.{IsMoment};
 ghost use Rattle.net_base.specs.Checksum.{ip_mtu_of};
 ghost use Rattle.ip_address.specs.Hardware.{IsOf, medium_of};
-ghost use Rattle.host_machine.specs.Context.Host.{SocketSet, at, no_sockets, with_neighbor_room};
-ghost use Rattle.host_machine.specs.Context.Settings.{after_address_change};
+ghost use Rattle.host_machine.specs.Context.Host.{SocketSet, at, no_sockets, with_neighbor_room, with_route_room};
+ghost use Rattle.host_machine.specs.Context.Settings.{after_address_change, with_capacities};
 ghost use Rattle.group_table.specs.declared.report.IgmpReportState.TheVariants as igmp;
 ghost use Rattle.group_table.specs.declared.report.MldReportState.TheVariants as mld;
 ghost use Rattle.iface_tables.specs.Neighbor.{first_neighbors, room_over};
+ghost use Rattle.iface_tables.specs.Route.{route_room_over};
+ghost use Rattle.fragmentation.specs.Slots.{free_slots};
 ghost use Rattle.slaac.specs.Slaac.{initial_state};
 ghost use Rattle.iface_context.specs.Stands.{host_of, with_routes};
 ghost use Rattle.std.specs.Borrow.{sem, Lends};
 ghost use Rattle.iface_tables.specs.contracts.route.Routes.{the_row as routes_row};
 ghost use Rattle.iface_context.specs.contracts.context.Context.{the_row as context_row};
 
-use crate::context::{Context, IFACE_MAX_ADDR_COUNT};
+use crate::context::Context;
 use crate::membership::{Membership, update_solicited_node_groups};
 use arrayvec::ArrayVec;
 use fragmentation::Fragmenter;
+use group_table::MAX_GROUP_COUNT;
+use host_machine::Capacities;
 use iface_tables::neighbor::{Cache, Hints, Neighbor};
-use iface_tables::route::Routes;
+use iface_tables::route::{Route, Routes};
+use iface_tables::route_trie::RouteNode;
 use ip_wire::{HardwareAddress, IpAddress, IpCidr};
 use net_base::phy::DeviceCapabilities;
 use net_base::rand::Rand;
 use net_base::time::{Duration, Instant};
 use slaac::Slaac;
+use slaac::sync::MAX_ADDR_COUNT;
 
 /// The context of a new interface over a device with these capabilities: no address, route, neighbour or group, and
 /// nothing learnt from routers. `slaac` says whether it takes addresses from routers.
@@ -47,14 +52,17 @@ pub fn new(
       hardware_addr = hardware_addr;
       moment = now;
       ip_addrs = [];
+      addr_room = 4;
       any_ip = false;
       routes = [];
+      route_room = 4;
       neighbors = first_neighbors 4;
       ipv4_id = ipv4_id;
       reassembly_timeout = 60000000;
-      slots = map.empty;
+      slots = free_slots 2;
       left = [];
       groups = [];
+      group_room = 8;
       igmp_report = igmp.Inactive;
       mld_report = mld.Inactive;
       slaac_enabled = slaac;
@@ -69,6 +77,7 @@ pub fn new(
         hardware_addr,
         moment: now,
         ip_addrs: ArrayVec::new(),
+        addr_room: 4,
         any_ip: false,
         routes: Routes::new(),
         neighbor_cache: Cache::new(),
@@ -91,16 +100,28 @@ pub fn set_moment(context: &mut Context, now: Instant)
     context.moment = now;
 }
 
-/// Replaces the addresses, forgets all neighbours, and leaves and joins solicited-node groups to match the addresses.
-pub fn set_ip_addrs(context: &mut Context, list: ArrayVec<IpCidr, IFACE_MAX_ADDR_COUNT>)
+/// Replaces the addresses, of which there are no more than there is room for, forgets all neighbours, and leaves and
+/// joins solicited-node groups to match the addresses.
+pub fn set_ip_addrs(context: &mut Context, list: &[IpCidr])
+    requires { length list.now ≤ (host_of context.old no_sockets).addr_room }
     ensures { (sockets : SocketSet) →
-        host_of context.new sockets ≡ after_address_change (host_of context.old sockets) list.items }
+        host_of context.new sockets ≡ after_address_change (host_of context.old sockets) list.now }
 {
-    context.ip_addrs = list;
+    context.ip_addrs.clear();
+    let _ = context.ip_addrs.try_extend_from_slice(list);
+    follow_addrs(context);
+}
+
+/// Forgets all neighbours, and leaves and joins solicited-node groups to match the addresses, which have changed.
+pub(crate) fn follow_addrs(context: &mut Context)
+    ensures { (sockets : SocketSet) → host_of context.new sockets
+        ≡ after_address_change (host_of context.old sockets) (host_of context.old no_sockets).ip_addrs }
+{
     context.neighbor_cache.flush();
     update_solicited_node_groups(
         &context.hardware_addr,
         context.ip_addrs.as_slice(),
+        context.multicast.room,
         &mut context.multicast.groups,
     );
 }
@@ -116,6 +137,28 @@ pub fn set_neighbor_storage(
         ≡ with_neighbor_room (host_of context.old sockets) (room_over (vec_capacity storage)) }
 {
     context.neighbor_cache.set_storage(storage, hints);
+}
+
+/// Forgets all routes. From now on there is room for as many as both vectors have capacity for, as
+/// [`Routes::set_storage`] says.
+pub fn set_route_storage(context: &mut Context, routes: Vec<Route>, nodes: Vec<RouteNode>)
+    ensures { (sockets : SocketSet) → host_of context.new sockets ≡ with_route_room (host_of context.old sockets)
+        (route_room_over (vec_capacity routes) (vec_capacity nodes)) }
+{
+    context.routes.set_storage(routes, nodes);
+}
+
+/// Sets for how many addresses, groups, prefixes and routers there is room. What the interface has stays.
+pub fn set_capacities(context: &mut Context, capacities: Capacities)
+    ensures { (sockets : SocketSet) →
+        host_of context.new sockets ≡ with_capacities (host_of context.old sockets) capacities }
+{
+    let asked = capacities.addresses.min(MAX_ADDR_COUNT).max(4);
+    context.addr_room = asked.max(context.ip_addrs.len());
+    context.multicast.room = capacities.groups.min(MAX_GROUP_COUNT);
+    context
+        .slaac
+        .set_room(capacities.prefixes, capacities.routers);
 }
 
 /// Turns AnyIP on or off: whether addresses that are routed to the interface count as its own.
@@ -148,7 +191,8 @@ pub fn set_hardware_addr(context: &mut Context, hardware_addr: HardwareAddress)
 /// Mutable access to the routes.
 pub fn routes_mut(context: &mut Context) -> &mut Routes
     ensures* lends { sem 𝓛 (Lends context_row routes_row context.entry result (λ w. with_routes context.old w)) }
-    ensures value { result.now ≡ (host_of context.old no_sockets).routes }
+    ensures items { result.now.items ≡ (host_of context.old no_sockets).routes }
+    ensures room { result.now.room ≡ (host_of context.old no_sockets).route_room }
 {
     &mut context.routes
 }

@@ -127,7 +127,7 @@ fn igmp_report_for(
 /// The interval between two reports of a general query, by the number of groups to report.
 fn igmp_interval_for(version: IgmpVersion, time: Duration, count: usize) -> Duration
     requires within_an_hour { time < 3600000000 }
-    requires few { count ≤ 8 }
+    requires few { count ≤ 16 }
     ensures value { result ≡ igmp_rules.igmp_interval_for version time count }
     ensures within_an_hour { result < 3600000000 }
 {
@@ -193,7 +193,7 @@ pub(crate) fn igmp_report(
 /// The group to report next in answer to a query, and the IGMP version to use.
 fn next_group(context: &Context, report: &IgmpReportState) -> Option<(IgmpVersion, Ipv4Address)>
     ensures value { result ≡ igmp_rules.next_group (host_of context.now no_sockets) report.now }
-    ensures within { IsSome result → index_of report.now < 8 }
+    ensures within { IsSome result → index_of report.now < 16 }
 {
     match report {
         IgmpReportState::Inactive => None,
@@ -215,7 +215,7 @@ fn igmp_report_after(report: &IgmpReportState, now: Instant) -> IgmpReportState
     requires timely { IsMoment now }
     requires due { timeout_rules.has_passed (igmp_rules.igmp_timeout_of report.now) now ≡ true }
     requires paced { interval_of report.now < 3600000000 }
-    requires within { index_of report.now < 8 }
+    requires within { index_of report.now < 16 }
     ensures value { result ≡ igmp_rules.igmp_report_after report.now now }
     ensures paced { interval_of result < 3600000000 }
 {

@@ -27,8 +27,8 @@ use net_base::phy::Device;
 use net_base::time::{Duration, Instant};
 use sockets::SocketContext;
 
-/// The length of the records of a report of eight groups, in octets.
-const RECORDS_LEN: usize = 160;
+/// The length of the records of a report of sixteen groups, in octets.
+const RECORDS_LEN: usize = 320;
 
 /// Processes an MLD message from a packet with this header. A query that no router forwarded, from a link-local source,
 /// for all groups of the interface or for one of them, schedules a report after a random delay. It replaces the one
@@ -223,7 +223,7 @@ fn push_records(
 
 /// Appends a record of each IPv6 group. Returns their number.
 fn push_all(groups: &[Group], records: &mut ArrayVec<u8, RECORDS_LEN>) -> u16
-    requires few { length groups.now ≤ 8 }
+    requires few { length groups.now ≤ 16 }
     requires empty { records.old.items ≡ [] }
     ensures count { result ≡ length (ipv6_groups groups.now) }
     ensures items { records.new.items ≡ mld_rules.records_of ModeIsExclude (ipv6_groups groups.now) }
@@ -240,7 +240,7 @@ fn push_all(groups: &[Group], records: &mut ArrayVec<u8, RECORDS_LEN>) -> u16
 
 /// Appends the record of a group that is reported in answer to a query.
 fn push_record(records: &mut ArrayVec<u8, RECORDS_LEN>, group: Ipv6Address)
-    requires { length records.old.items + 20 ≤ 160 }
+    requires { length records.old.items + 20 ≤ 320 }
     ensures items { records.new.items
         ≡ records.old.items ++ record_text (record { record_type = ModeIsExclude; mcast_addr = group }) }
     ensures len { length records.new.items ≡ length records.old.items + 20 }

@@ -1,9 +1,9 @@
 -- Which host an interface with its sockets stands for.
-use Rattle.std.specs.Prelude.{List}
 use Rattle.std.specs.Borrow.{Bor}
 use Rattle.socket_set.specs.SocketSet.{Sockets}
 use Rattle.host_machine.specs.Context.Host.{Host, SocketSet}
 use Rattle.iface_tables.specs.declared.route.Route.{Route}
+use Rattle.iface_tables.specs.Store.{Stored}
 use Rattle.iface_context.specs.declared.context.Context.{Context}
 use Rattle.iface_context.specs.Stands.{host_of}
 use Rattle.iface_context.specs.Stands as context
@@ -19,7 +19,7 @@ abbrev pub with_context : Interface → Context → Interface
 with_context i c = record i { context = c }
 
 -- an interface with other routes
-abbrev pub with_routes : Interface → List Route → Interface
+abbrev pub with_routes : Interface → Stored Route → Interface
 with_routes i routes = record i { context = context.with_routes i.context routes }
 
 -- a host that an interface with its sockets stands for: its assemblers stand for that host's slots

@@ -1,29 +1,30 @@
 //! An interface over a device.
-ghost use Rattle.std.specs.Prelude.{◌≡◌, ◌≤◌, None, false, true, not, length};
+ghost use Rattle.std.specs.Prelude.{◌≡◌, ◌≤◌, None, false, true, not, length, take};
 ghost use Rattle.fragmentation.specs.Pending.{is_nil};
-ghost use Rattle.ip_address.specs.Hardware.{IsOf};
+ghost use Rattle.ip_address.specs.Hardware.{IsOf, is_unicast};
 ghost use Rattle.host_machine.specs.Interface.Config as config;
 ghost use Rattle.host_machine.specs.Interface.Config.{same_medium, hardware_refusal_of};
 ghost use Rattle.host_machine.specs.Context.Host.{SocketSet, are_assignable};
 ghost use Rattle.host_machine.specs.Interface.Ingress.{Takes};
 ghost use Rattle.net_base.specs.Device.{Frame};
+ghost use Rattle.net_base.specs.Checksum.{ip_mtu_of};
 ghost use Rattle.net_base.specs.Rand.{next};
 ghost use Rattle.iface_context.specs.Refines.{HostRefinesReplying};
 ghost use Rattle.iface_context.specs.Refines as processed;
 
 use crate::polling::{poll_at, poll_result};
 use arrayvec::ArrayVec;
-use fragmentation::{FragKey, PacketAssemblerSet};
+use fragmentation::{FragKey, PacketAssembler, PacketAssemblerSet};
 use host_machine::{
-    AddrError, HardwareError, MulticastError, NewError, PollIngressSingleResult, PollResult,
-    TimeoutError,
+    AddrError, AddrListError, Capacities, HardwareError, MulticastError, NewError,
+    PollIngressSingleResult, PollResult, TimeoutError,
 };
 use iface_context::autoconfiguration::sync_slaac;
 use iface_context::context::IFACE_MAX_ADDR_COUNT;
 use iface_context::multicast::{join_group, leave_group};
 use iface_context::settings::{
-    routes_mut, set_any_ip, set_hardware_addr, set_ip_addrs, set_moment, set_neighbor_storage,
-    set_reassembly_timeout,
+    routes_mut, set_any_ip, set_capacities, set_hardware_addr, set_ip_addrs, set_moment,
+    set_neighbor_storage, set_reassembly_timeout, set_route_storage,
 };
 use iface_context::{Context, settings};
 use iface_discovery::router_solicitation::ndisc_rs_egress;
@@ -36,7 +37,8 @@ use iface_send::hops::has_neighbor;
 use iface_send::transmit::send_frame;
 use iface_sockets::turns::socket_egress;
 use iface_tables::neighbor::{Cache, Hints, Neighbor};
-use iface_tables::route::Routes;
+use iface_tables::route::{Route, Routes};
+use iface_tables::route_trie::RouteNode;
 use ip_wire::emit::FrameBuffer;
 use ip_wire::{HardwareAddress, IpAddress, IpCidr, Ipv4Address, Ipv6Address};
 use net_base::phy::{Device, DeviceCapabilities, FRAME_BUFFER_SIZE, Medium};
@@ -75,13 +77,16 @@ impl Config {
 pub struct Interface {
     context: Context,
     fragments: PacketAssemblerSet<FragKey>,
-    receive_buffer: [u8; FRAME_BUFFER_SIZE],
     transmit_buffer: FrameBuffer,
+    receive_buffer: [u8; FRAME_BUFFER_SIZE],
 }
 
 impl Interface {
-    ghost use Rattle.std.specs.Prelude.{◌≡◌, ◌≤◌, List, [], Option, IfOk, IfSome, IsOk, MatchResult, length, vec_capacity};
+    ghost use Rattle.std.specs.Prelude.{◌≡◌, ◌≤◌, List, [], Option, IfOk, IfSome, IsOk, MatchResult, length, min, take, vec_capacity};
     ghost use Rattle.iface_tables.specs.Neighbor.{room_over};
+    ghost use Rattle.iface_tables.specs.Route.{route_room_over};
+    ghost use Rattle.host_machine.specs.Context.Settings.{with_capacities};
+    ghost use Rattle.fragmentation.specs.Slots.{slot_room_over};
     ghost use Rattle.std.specs.Option.{option_copied, option_map};
     ghost use Rattle.std.specs.Io.BufRead.{Rests};
     ghost use Rattle.interface.specs.Receives.{HostRefinesReceiving};
@@ -102,7 +107,7 @@ impl Interface {
     ghost use Rattle.host_machine.specs.Multicast.Joins.{JoinsGroup, LeavesGroup};
     ghost use Rattle.host_machine.specs.Interface.Polling.{Polls, Receives, Sends, after_maintenance};
     ghost use Rattle.host_machine.specs.Interface.Due.{Due, IsLeast, IsRest};
-    ghost use Rattle.host_machine.specs.Interface.Step.{UpdatesIpAddrs, SetsHardwareAddr, SetsReassemblyTimeout};
+    ghost use Rattle.host_machine.specs.Interface.Step.{UpdatesIpAddrs, SetsHardwareAddr, SetsIpAddrs, SetsReassemblyTimeout};
     ghost use Rattle.iface_context.specs.contracts.context.Context.{the_row as context_row};
     ghost use Rattle.iface_context.specs.Stands.{Addresses, host_of};
     ghost use Rattle.std.specs.Borrow.{sem, Lends};
@@ -140,9 +145,24 @@ impl Interface {
         if capabilities.max_transmission_unit > FRAME_BUFFER_SIZE {
             return Err(NewError::MtuTooLarge);
         }
+        Ok(Interface::over(config, capabilities, now))
+    }
+
+    /// Creates an interface over a device with these capabilities, for which [`Interface::new`] has no error. A caller with
+    /// a place for it, as a box, has it made there.
+    #[inline(always)]
+    pub fn over(config: Config, capabilities: DeviceCapabilities, now: Instant) -> Interface
+        requires moment { IsMoment now }
+        requires own { IsOf capabilities.medium config.hardware_addr }
+        requires unicast { is_unicast config.hardware_addr ≡ true }
+        requires long { 576 ≤ ip_mtu_of capabilities }
+        requires short { capabilities.max_transmission_unit ≤ 1514 }
+        ensures { (sockets : SocketSet) → StandsFor result sockets
+            (first_host capabilities config.hardware_addr config.random_seed config.slaac now sockets) }
+    {
         let mut rand = Rand::new(config.random_seed);
         let ipv4_id = first_id(&mut rand);
-        Ok(Interface {
+        Interface {
             context: settings::new(
                 capabilities,
                 config.hardware_addr,
@@ -152,9 +172,9 @@ impl Interface {
                 now,
             ),
             fragments: PacketAssemblerSet::new(),
-            receive_buffer: [0; FRAME_BUFFER_SIZE],
             transmit_buffer: FrameBuffer::new(),
-        })
+            receive_buffer: [0; FRAME_BUFFER_SIZE],
+        }
     }
 
     /// What the interface knows, for sockets that need it.
@@ -204,7 +224,8 @@ impl Interface {
 
     /// The addresses assigned to the interface, each with its prefix length, in the order given.
     pub fn ip_addrs(&self) -> &[IpCidr]
-        ensures { (sockets : SocketSet) → result.now ≡ (host_with self.now sockets).ip_addrs }
+        ensures value { (sockets : SocketSet) → result.now ≡ (host_with self.now sockets).ip_addrs }
+        ensures fits { (sockets : SocketSet) → length result.now ≤ (host_with self.now sockets).addr_room }
     {
         self.context.ip_addrs()
     }
@@ -353,7 +374,8 @@ impl Interface {
 
     /// The routes.
     pub fn routes(&self) -> &Routes
-        ensures { (sockets : SocketSet) → result.now ≡ (host_with self.now sockets).routes }
+        ensures items { (sockets : SocketSet) → result.now.items ≡ (host_with self.now sockets).routes }
+        ensures room { (sockets : SocketSet) → result.now.room ≡ (host_with self.now sockets).route_room }
     {
         self.context.routes()
     }
@@ -387,33 +409,94 @@ impl Interface {
         set_neighbor_storage(&mut self.context, storage, hints);
     }
 
+    /// From now on as many datagrams are reassembled at a time as both vectors have capacity for, in this storage. If one
+    /// of them has no capacity, it goes back to the two slots in the interface itself, which serve without this call.
+    /// Fragments received so far are dropped, and so is what is in the vectors.
+    pub fn set_fragment_storage(
+        &mut self,
+        keys: Vec<Option<FragKey>>,
+        slots: Vec<PacketAssembler<FragKey>>,
+    )
+        ensures { Becomes self.old self.new (λ H.
+            host.with_slot_room H (slot_room_over (min (vec_capacity keys) (vec_capacity slots)))) }
+    {
+        self.fragments.set_storage(keys, slots);
+    }
+
+    /// Forgets all routes. From now on there is room for as many as both vectors have capacity for, and for 32 at most, or
+    /// for four in the interface itself if there is none. A route takes one place of the first vector and 128 nodes of the
+    /// second, and two more nodes are for the roots. What is in the vectors is dropped.
+    pub fn set_route_storage(&mut self, routes: Vec<Route>, nodes: Vec<RouteNode>)
+        ensures { Becomes self.old self.new (λ H.
+            host.with_route_room H (route_room_over (vec_capacity routes) (vec_capacity nodes))) }
+    {
+        set_route_storage(&mut self.context, routes, nodes);
+    }
+
+    /// Sets for how many addresses, groups, prefixes and routers there is room, as far as there can be: for 4 to 16
+    /// addresses, and for at most 16 groups, 8 prefixes and 8 routers. What the interface has stays, also if that is more:
+    /// then none is added.
+    pub fn set_capacities(&mut self, capacities: Capacities)
+        ensures { Becomes self.old self.new (λ H. with_capacities H capacities) }
+    {
+        set_capacities(&mut self.context, capacities);
+    }
+
     /// Mutable access to the routes.
     pub fn routes_mut(&mut self) -> &mut Routes
         ensures* lends { sem 𝓛 (Lends the_row routes_row self.entry result (λ w. with_routes self.old w)) }
-        ensures value { (sockets : SocketSet) → result.now ≡ (host_with self.old sockets).routes }
+        ensures items { (sockets : SocketSet) → result.now.items ≡ (host_with self.old sockets).routes }
+        ensures room { (sockets : SocketSet) → result.now.room ≡ (host_with self.old sockets).route_room }
     {
         routes_mut(&mut self.context)
     }
 
-    /// Replaces the addresses by what a function makes of them, and forgets all neighbours. On Ethernet it leaves the
-    /// solicited-node groups that no longer match an address, and joins those of the new addresses while there is room
+    /// Replaces the addresses by what a function makes of the first four, and forgets all neighbours, as smoltcp does. On
+    /// Ethernet it leaves the solicited-node groups that no longer match an address, and joins those of the new addresses while there is room
     /// (RFC 4861 7.2.1). Fails with `NotUnicast` exactly if an address of the new list is neither unicast nor
     /// unspecified; then nothing changes, and no neighbour is forgotten.
     pub fn update_ip_addrs<F>(&mut self, f: F) -> Result<(), AddrError>
     where
         F: FnOnce(ArrayVec<IpCidr, IFACE_MAX_ADDR_COUNT>) -> ArrayVec<IpCidr, IFACE_MAX_ADDR_COUNT>,
         requires { (given : Addresses) →
-            ((sockets : SocketSet) → given.items ≡ (host_with self.old sockets).ip_addrs) → F.pre f given }
+            ((sockets : SocketSet) → given.items ≡ take 4 (host_with self.old sockets).ip_addrs) → F.pre f given }
         ensures { (given : Addresses) × (list : Addresses) × F.post f given list
-            × ((sockets : SocketSet) → given.items ≡ (host_with self.old sockets).ip_addrs)
+            × ((sockets : SocketSet) → given.items ≡ take 4 (host_with self.old sockets).ip_addrs)
             × HostRefines self.old self.new (UpdatesIpAddrs list.items result) }
     {
-        let list = f(copied(self.context.ip_addrs()));
+        let list = f(first_four(self.context.ip_addrs()));
         if !are_assignable(list.as_slice()) {
             return Err(AddrError::NotUnicast);
         }
+        set_ip_addrs(&mut self.context, list.as_slice());
+        Ok(())
+    }
+
+    /// Replaces the addresses by a list, as [`Interface::update_ip_addrs`] does, of as many as there is room for. Fails
+    /// with `TooMany` if there is no room for so many, and else with `NotUnicast` if an address is neither unicast nor
+    /// unspecified; then nothing changes, and no neighbour is forgotten.
+    pub fn set_ip_addrs(&mut self, list: &[IpCidr]) -> Result<(), AddrListError>
+        ensures set { HostRefines self.old self.new (SetsIpAddrs list.now result) }
+        ensures routes { (sockets : SocketSet) →
+            ((host_with self.new sockets).routes ≡ (host_with self.old sockets).routes)
+            × ((host_with self.new sockets).route_room ≡ (host_with self.old sockets).route_room) }
+    {
+        if list.len() > self.context.addr_room() {
+            return Err(AddrListError::TooMany);
+        }
+        if !are_assignable(list) {
+            return Err(AddrListError::NotUnicast);
+        }
         set_ip_addrs(&mut self.context, list);
         Ok(())
+    }
+
+    /// For how many addresses there is room; it never has more.
+    pub fn addr_room(&self) -> usize
+        ensures value { (sockets : SocketSet) → result ≡ (host_with self.now sockets).addr_room }
+        ensures most { result ≤ 16 }
+    {
+        self.context.addr_room()
     }
 
     /// Sets the moment, receives at most one frame from the device, and sends at most one frame: the reply or, if the
@@ -646,13 +729,13 @@ fn take_frame(
     }
 }
 
-/// Returns a copy of the list.
-fn copied(list: &[IpCidr]) -> ArrayVec<IpCidr, IFACE_MAX_ADDR_COUNT>
-    requires { length list.now ≤ 4 }
-    ensures { result.items ≡ list.now }
+/// Returns a copy of the first four, or of all if there are no more.
+fn first_four(list: &[IpCidr]) -> ArrayVec<IpCidr, IFACE_MAX_ADDR_COUNT>
+    ensures { result.items ≡ take 4 list.now }
 {
     let mut copy = ArrayVec::new();
-    let _ = copy.try_extend_from_slice(list);
+    let len = list.len().min(IFACE_MAX_ADDR_COUNT);
+    let _ = copy.try_extend_from_slice(&list[..len]);
     copy
 }
 

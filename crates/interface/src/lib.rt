@@ -14,8 +14,8 @@ mod polling;
 pub use fragmentation::reassembly::{AssemblerError, AssemblerFullError};
 pub use fragmentation::{FragKey, Fragmenter, PacketAssembler, PacketAssemblerSet};
 pub use host_machine::{
-    AddrError, Answer, Command, HardwareError, MulticastError, NewError, PollIngressSingleResult,
-    PollResult, TimeoutError,
+    AddrError, AddrListError, Answer, Capacities, Command, HardwareError, MulticastError, NewError,
+    PollIngressSingleResult, PollResult, TimeoutError,
 };
 pub use iface_context::Context;
 pub use iface_packet::packet::icmp_reply_payload_len;
@@ -23,6 +23,6 @@ pub use iface_packet::{IpPayload, Packet, PacketV4, PacketV6};
 pub use iface_tables::neighbor;
 pub use iface_tables::neighbor::{Hints, Neighbor};
 pub use iface_tables::route::{Route, RouteTableFull, Routes};
-pub use iface_tables::route_trie::Steps;
+pub use iface_tables::route_trie::{RouteNode, Steps};
 pub use interface::{Config, Interface};
 pub use socket_set::{AddError, Handles, Iter, Meta, SocketHandle, SocketSet, SocketStorage};

@@ -1,19 +1,17 @@
-use Rattle.std.proofs.Common.{List, refl, ap, ◌∙◌}
+use Rattle.std.proofs.Common.{ℕ, List, ap, ◌∙◌}
+use Rattle.host_machine.specs.Context.Host.{no_sockets}
 use Rattle.iface_tables.specs.declared.route.Route.{Route}
-use Rattle.iface_tables.specs.Route.{is_ipv6_gateway, first, without_first}
-use Rattle.iface_context.specs.Stands.{host_of}
-use Rattle.interface.specs.Stands.{with_routes}
-use Rattle.interface.proofs.SettingCalls.{becomes}
+use Rattle.iface_tables.specs.Route.{is_ipv6_gateway, without_first}
+use Rattle.iface_tables.specs.Store.{Stored}
+use Rattle.interface.proofs.SettingCalls.{routes_become}
 use Rattle.host.proofs.drive.remove_default_ipv6_route.Goals as goal
 
 pub returns-clause-answer : goal.returns-clause-answer
-returns-clause-answer c = λ sockets. c.remove_default_ipv6_route.ensures.answer
-    ∙ ap (λ (routes : List Route). first is_ipv6_gateway routes) (c.routes_mut.ensures.value sockets)
+returns-clause-answer c = λ sockets. rw (c.routes_mut.ensures.items sockets) at c.remove_default_ipv6_route.ensures.answer
 
 pub returns-clause-table : goal.returns-clause-table
-returns-clause-table c =
-    λ sockets H h. becomes c.args.interface.now.context (with_routes c.args.interface.now c.remove_default_ipv6_route.new.self).context
-    c.args.interface.now.fragments sockets H h (λ K. record K { routes = without_first is_ipv6_gateway K.routes })
-    (ap (λ (routes : List Route). host_of (with_routes c.args.interface.now routes).context sockets)
-    (c.remove_default_ipv6_route.ensures.table
-    ∙ ap (λ (routes : List Route). without_first is_ipv6_gateway routes) (c.routes_mut.ensures.value sockets))) (λ K slots. refl)
+returns-clause-table c = λ sockets H h.
+    routes_become c.args.interface.now c.remove_default_ipv6_route.new.self sockets H h
+    (λ (room : ℕ) (routes : List Route). without_first is_ipv6_gateway routes)
+    (rw (c.routes_mut.ensures.items no_sockets) at (ap (λ (s : Stored Route). s.items) c.remove_default_ipv6_route.ensures.table))
+    (ap (λ (s : Stored Route). s.room) c.remove_default_ipv6_route.ensures.table ∙ c.routes_mut.ensures.room no_sockets)

@@ -63,10 +63,10 @@ pub returns-in-AddDefaultIpv4Route : goal.returns-in-AddDefaultIpv4Route
 returns-in-AddDefaultIpv4Route g c = λ H h.
     rw c.in-AddDefaultIpv4Route.is (untold g.D.Device.tells g.O.Owner.did c.args.device.now c.args.owner.now
     (command.AddDefaultIpv4Route c.in-AddDefaultIpv4Route.gateway) (answer.AddDefaultIpv4Route c.add_default_ipv4_route.result) H (record H {
-      routes = with_default is_ipv4_gateway H.routes (ipv4_gateway c.in-AddDefaultIpv4Route.gateway);
+      routes = with_default H.route_room is_ipv4_gateway H.routes (ipv4_gateway c.in-AddDefaultIpv4Route.gateway);
     })
     (StandsFor c.add_default_ipv4_route.new.interface c.args.sockets.now) (g.met.D.Device.tells_nothing c.args.device.now)
-    (rw (c.add_default_ipv4_route.ensures.answer c.args.sockets.now ∙ ap (λ (K : Host). old_or_full is_ipv4_gateway K.routes) (sym h.same))
+    (rw (c.add_default_ipv4_route.ensures.answer c.args.sockets.now ∙ ap (λ (K : Host). old_or_full K.route_room is_ipv4_gateway K.routes) (sym h.same))
     AddedDefaultIpv4Route) (c.add_default_ipv4_route.ensures.table c.args.sockets.now H h))
 
 pub returns-in-RemoveDefaultIpv4Route : goal.returns-in-RemoveDefaultIpv4Route
@@ -81,10 +81,10 @@ pub returns-in-AddDefaultIpv6Route : goal.returns-in-AddDefaultIpv6Route
 returns-in-AddDefaultIpv6Route g c = λ H h.
     rw c.in-AddDefaultIpv6Route.is (untold g.D.Device.tells g.O.Owner.did c.args.device.now c.args.owner.now
     (command.AddDefaultIpv6Route c.in-AddDefaultIpv6Route.gateway) (answer.AddDefaultIpv6Route c.add_default_ipv6_route.result) H (record H {
-      routes = with_default is_ipv6_gateway H.routes (ipv6_gateway c.in-AddDefaultIpv6Route.gateway);
+      routes = with_default H.route_room is_ipv6_gateway H.routes (ipv6_gateway c.in-AddDefaultIpv6Route.gateway);
     })
     (StandsFor c.add_default_ipv6_route.new.interface c.args.sockets.now) (g.met.D.Device.tells_nothing c.args.device.now)
-    (rw (c.add_default_ipv6_route.ensures.answer c.args.sockets.now ∙ ap (λ (K : Host). old_or_full is_ipv6_gateway K.routes) (sym h.same))
+    (rw (c.add_default_ipv6_route.ensures.answer c.args.sockets.now ∙ ap (λ (K : Host). old_or_full K.route_room is_ipv6_gateway K.routes) (sym h.same))
     AddedDefaultIpv6Route) (c.add_default_ipv6_route.ensures.table c.args.sockets.now H h))
 
 pub returns-in-RemoveDefaultIpv6Route : goal.returns-in-RemoveDefaultIpv6Route

@@ -1,13 +1,12 @@
-use Rattle.std.proofs.Common.{◌≡◌, List, refl, ap, rules}
+use Rattle.std.proofs.Common.{◌≡◌, ℕ, List, ap, rules, ◌∙◌}
+use Rattle.host_machine.specs.Context.Host.{no_sockets}
 use Rattle.iface_tables.specs.declared.route.Route.{Route}
-use Rattle.iface_context.specs.Stands.{host_of}
-use Rattle.interface.specs.Stands.{with_routes}
-use Rattle.interface.proofs.SettingCalls.{becomes}
+use Rattle.iface_tables.specs.Store.{Stored}
+use Rattle.interface.proofs.SettingCalls.{routes_become}
 use Rattle.host.proofs.drive.take_routes.Goals as goal
 
 pub returns : goal.returns
-returns c = λ sockets H h. becomes c.args.interface.now.context (with_routes c.args.interface.now c.update.new.self).context
-    c.args.interface.now.fragments sockets H h (λ K. record K { routes = c.args.list.items })
-    (ap (λ (routes : List Route). host_of (with_routes c.args.interface.now routes).context sockets) put) (λ K slots. refl) where
-      put : c.update.new.self ≡ c.args.list.items
-      put = search rules
+returns c =
+    let put : c.update.new.self ≡ record c.routes_mut.result.now { items = c.args.list.items } = search rules in
+    λ sockets H h. routes_become c.args.interface.now c.update.new.self sockets H h (λ (room : ℕ) (routes : List Route). c.args.list.items)
+    (ap (λ (s : Stored Route). s.items) put) (ap (λ (s : Stored Route). s.room) put ∙ c.routes_mut.ensures.room no_sockets)

@@ -9,4 +9,4 @@ returns-in-Ethernet c =
     let idle = c.as_slice-in-Ethernet.ensures.value ∙ c.idle_groups-idle.ensures
     ∙ ap (λ (gs : List Group). filter (is_unneeded_group c.args.own.now) (map (λ (g : Group). g.addr) gs)) c.as_slice.ensures.value in
     rw c.in-Ethernet.is (c.join_solicited.ensures
-    ∙ ap (λ (gs : List Group). groups_after_joins gs c.args.own.now) (c.leave_all.ensures ∙ ap (groups_after_leaves c.args.groups.now) idle))
+    ∙ ap (λ (gs : List Group). groups_after_joins c.args.room gs c.args.own.now) (c.leave_all.ensures ∙ ap (groups_after_leaves c.args.groups.now) idle))

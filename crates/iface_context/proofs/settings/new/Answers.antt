@@ -4,6 +4,9 @@ use Rattle.iface_context.proofs.settings.new.Goals as goal
 pub invariant_of-result : goal.invariant_of-result
 invariant_of-result c =
     record {
+      few_addrs = search rules;
+      four_addrs = search rules;
+      room_for_addrs = search rules;
       timely = c.requires.timely;
       short = c.requires.short;
       long = c.requires.long;

@@ -4,6 +4,9 @@ pub invariant_of-context : goal.invariant_of-context
 invariant_of-context c =
     let k = c.args.context.now in
     record {
+      few_addrs = k.few_addrs;
+      four_addrs = k.four_addrs;
+      room_for_addrs = k.room_for_addrs;
       timely = k.timely;
       short = k.short;
       long = k.long;

@@ -1,5 +1,5 @@
 use Rattle.std.proofs.Common.{refl}
-use Rattle.std.specs.FinMap as map
+use Rattle.fragmentation.specs.Slots.{free_slots}
 use Rattle.host_machine.specs.Context.Host.{no_sockets}
 use Rattle.iface_packet.specs.PacketValues as value_of
 use Rattle.iface_send.proofs.DispatchFrame.{groups_stay}
@@ -16,4 +16,4 @@ returns-clause-told g c =
     (rw (c.now.ensures, c.if-not-transmit.false) at c.transmit.ensures.told) c.dispatch.ensures c.send_frame.ensures refl refl
 
 pub returns-clause-groups : goal.returns-clause-groups
-returns-clause-groups g c = groups_stay (c.dispatch.ensures.follows map.empty no_sockets)
+returns-clause-groups g c = groups_stay (c.dispatch.ensures.follows (free_slots 0) no_sockets)

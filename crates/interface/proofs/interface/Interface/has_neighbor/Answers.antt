@@ -1,5 +1,5 @@
-use Rattle.std.specs.FinMap as map
+use Rattle.fragmentation.specs.Slots.{free_slots}
 use Rattle.interface.proofs.interface.Interface.has_neighbor.Goals as goal
 
 pub returns : goal.returns
-returns c = λ sockets. c.has_neighbor.ensures map.empty sockets
+returns c = λ sockets. c.has_neighbor.ensures (free_slots 2) sockets
