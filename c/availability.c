@@ -57,6 +57,8 @@ static uint8_t guarded;
 
 /* How many neighbours a host knows at once; 0 is what iface_config_init writes. */
 static uint32_t room;
+/* How many packets in fragments it puts together at once; 0 is what iface_config_init writes. */
+static uint32_t slots;
 
 /* A host at 192.168.69.`last`, whose frames have at most so many octets. */
 static void make(iface *host, uint8_t last, uint32_t frame_len) {
@@ -66,6 +68,7 @@ static void make(iface *host, uint8_t last, uint32_t frame_len) {
     config.guard.on = guarded, config.guard.echo_replies = (struct iface_rate){10000, 10};
     config.seed = last, config.frame_len = frame_len, config.hardware_address[0] = 2, config.hardware_address[5] = last;
     if (room > 0) config.neighbors = room;
+    if (slots > 0) config.fragmented = slots;
     must("host", iface_new(host, &config));
     must("address", iface_add_address(host, &own, 24));
 }
@@ -728,8 +731,13 @@ static unsigned arrived_beside(unsigned strangers) {
 
 static void fragments(void) {
     unsigned one = arrived_beside(1), many = arrived_beside(8);
-    printf("eight stray fragments a second, guard %s: %u of 60 datagrams in pieces arrive beside one stranger, %u beside eight\n",
-           guarded ? "on" : "off", one, many);
+    slots = 96;
+    unsigned beside = arrived_beside(8);
+    slots = 0;
+    printf("eight stray fragments a second, guard %s: %u of 60 datagrams in pieces arrive beside one stranger, %u beside eight; with room "
+           "for 96: %u\n",
+           guarded ? "on" : "off", one, many, beside);
+    wants("all arrive with more room than ten seconds' fragments take", beside == 60);
 }
 
 /* A router advertisement of fe80::`last`, for half an hour, to ff02::1 (RFC 4861 4.2). */

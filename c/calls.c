@@ -673,8 +673,81 @@ static void keeps_what_it_has(void) {
     must("free", iface_free(&host));
 }
 
+/* How many own addresses, routes and groups a host of this configuration takes before its tables are full. */
+static void has_room(const struct iface_config *config, unsigned addresses, unsigned routes, unsigned groups) {
+    iface host = IFACE_NONE;
+    struct iface_address a = v4(10, 0, 0, 1), network = v4(172, 16, 0, 0), group = v4(239, 1, 0, 1), to, by;
+    uint8_t prefix;
+    int64_t until;
+    must("host", iface_new(&host, config));
+    for (unsigned i = 0; i < addresses; i++) a.octets[1] = (uint8_t)i, must("address", iface_add_address(&host, &a, 24));
+    a.octets[1]++, wants("one more address", iface_add_address(&host, &a, 24), IFACE_TABLE_FULL);
+    wants("the last address", iface_address_at(&host, addresses - 1, &to, &prefix), IFACE_OK);
+    wants("its octets", to.octets[1], addresses - 1);
+    for (unsigned i = 0; i < routes; i++) network.octets[1] = (uint8_t)i, must("route", iface_add_route(&host, &network, 16, &a));
+    network.octets[1]++, wants("one more route", iface_add_route(&host, &network, 16, &a), IFACE_TABLE_FULL);
+    wants("the last route", iface_route_at(&host, routes - 1, &to, &prefix, &by, &until), IFACE_OK);
+    wants("its octets", to.octets[1], routes - 1);
+    network.octets[1] = 0, must("remove", iface_remove_route(&host, &network, 16));
+    if (routes > 1) wants("the others move up", iface_route_at(&host, 0, &to, &prefix, &by, &until) == IFACE_OK && to.octets[1] == 1, 1);
+    for (unsigned i = 0; i < groups; i++) group.octets[2] = (uint8_t)i, must("group", iface_join_group(&host, &group));
+    group.octets[2]++, wants("one more group", iface_join_group(&host, &group), IFACE_TABLE_FULL);
+    must("free", iface_free(&host));
+}
+
+/* One of the two pieces of a datagram of 16 octets to port 7 from 192.168.69.`from`, without a checksum of UDP (RFC 768). */
+static void piece(uint8_t octets[42], uint8_t from, int second) {
+    static const uint8_t head[42] = {2, 0, 0, 0, 0, 1, 2, 0, 0, 0, 0, 9, 8, 0, 0x45, 0, 0, 28, 0, 1, 0, 0, 64, 17, 0, 0, 192, 168, 69, 0,
+                                     192, 168, 69, 1, 0, 9, 0, 7, 0, 16, 0, 0};
+    uint32_t sum = 0;
+    memcpy(octets, head, sizeof head);
+    octets[29] = from, octets[second ? 21 : 20] = second ? 1 : 0x20;
+    if (second) memset(octets + 34, 'a', 8);
+    for (int i = 14; i < 34; i += 2) sum += (uint32_t)(octets[i] << 8 | octets[i + 1]);
+    sum = (sum & 0xffff) + (sum >> 16), sum = ~(sum + (sum >> 16));
+    octets[24] = (uint8_t)(sum >> 8), octets[25] = (uint8_t)sum;
+}
+
+/* The first pieces of twenty datagrams, each from another host, and then the second ones: as many arrive as the host puts together at a
+ * time. */
+static void puts_together(const struct iface_config *config, unsigned at_once) {
+    iface host = IFACE_NONE;
+    struct iface_address own = v4(192, 168, 69, 1);
+    struct iface_endpoint from, local = {{0, {0}}, 7};
+    uint32_t socket;
+    unsigned arrived = 0;
+    size_t n;
+    must("host", iface_new(&host, config)), must("address", iface_add_address(&host, &own, 24));
+    must("socket", iface_udp_open(&host, &local, &(struct iface_rooms)IFACE_ROOMS(32, 1024), &socket));
+    for (int second = 0; second < 2; second++)
+        for (uint8_t peer = 10; peer < 30; peer++) {
+            piece(frame, peer, second);
+            must("receive", iface_receive(&host, 1000, frame, 42, reply, sizeof reply, &n));
+        }
+    while (iface_udp_receive(&host, socket, &from, got, sizeof got, &n) == IFACE_OK) arrived++, wants("whole", n, 8);
+    wants("put together", arrived, at_once);
+    must("free", iface_free(&host));
+}
+
+static void has_capacities(void) {
+    struct iface_config config;
+    iface_config_init(&config);
+    config.hardware_address[0] = 2, config.hardware_address[5] = 1, config.guard.on = 0;
+    has_room(&config, 8, 8, 16), puts_together(&config, 8);
+    config.addresses = 4, config.routes = 0, config.groups = 8, config.fragmented = 0;
+    has_room(&config, 4, 4, 8), puts_together(&config, 2);
+    config.addresses = 0, config.routes = 1, config.groups = 1, config.fragmented = 1;
+    has_room(&config, 4, 1, 1), puts_together(&config, 1);
+    config.addresses = 0xffffffff, config.routes = 0xffffffff, config.groups = 0xffffffff, config.fragmented = 20;
+    has_room(&config, 16, 32, 16), puts_together(&config, 20);
+    config.fragmented = 0xffffffff;
+    iface host = IFACE_NONE;
+    wants("more memory than there is", iface_new(&host, &config), IFACE_NO_MEMORY);
+}
+
 int main(void) {
     leaves_checksums_to_the_link();
+    has_capacities();
     chooses_sources();
     knows_neighbors();
     guards(1, 1), guards(1, 0), guards(0, 1);

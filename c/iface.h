@@ -41,8 +41,8 @@ enum iface_code {
     IFACE_BAD_MOMENT = 7,    /* a moment below 0 or above 2^62, that of a host's start, a route's end and a hold too */
     IFACE_BAD_ADDRESS = 8,   /* a destination that is unspecified, a group that is none, a socket's own that is no host's */
     IFACE_NOT_THERE = 9,     /* no such address, route or query, no own address; the medium has no hardware addresses */
-    IFACE_TABLE_FULL = 10,   /* four addresses, four routes or eight groups are there, all sockets are open, or as many queries
-                                are there as may be; a list of more than four addresses */
+    IFACE_TABLE_FULL = 10,   /* there is no room for another address, route or group, or for so many addresses; all sockets
+                                are open, or as many queries are there as may be */
     IFACE_NO_SOCKET = 11,    /* no socket of this kind is open by this number; no connection has this name */
     IFACE_BAD_PORT = 12,     /* a port that is 0 */
     IFACE_TOO_LONG = 13,     /* a packet longer than is ever sent */
@@ -64,7 +64,7 @@ enum iface_code {
 /* The version of this header, an octet each: 0.14.0, and the header's number, which grows with each change of a call or
  * a structure. iface_new refuses a library of another one; a program that compares it with iface_version() before its
  * first call learns of that earlier. */
-#define IFACE_VERSION 0x000e0006u
+#define IFACE_VERSION 0x000e0007u
 
 /* The room that iface_receive and iface_next need for a frame, in octets. */
 #define IFACE_FRAME_ROOM 1514
@@ -181,14 +181,24 @@ struct iface_config {
     uint64_t patience;           /* how long a packet waits for a neighbour that doesn't answer, in microseconds, before it
                                     is given up; 0 is for ever, and then one such packet stops its socket */
     uint64_t reassembly_timeout; /* how long fragments of a packet wait for the others, in microseconds: not 0, at most a
-                                    day. Two packets at a time are put together, so strangers' fragments block the
-                                    others for so long */
+                                    day. As many packets at a time are put together as `fragmented` says, so strangers'
+                                    fragments block the others for so long */
     int64_t start;               /* the moment at which the host begins: from 0 to IFACE_LAST_MOMENT */
     uint32_t frame_len;          /* the longest frame of the link in octets, with a header of Ethernet and without its
                                     checksum: 1514 on usual Ethernet */
     uint32_t sockets;            /* how many may be open at once; memory for their places is taken at once */
     uint32_t neighbors;          /* how many neighbours it knows at once, of both versions together, in memory that is taken at
                                     once; 0 is four, without such memory. A new one replaces the one that ends first */
+    uint32_t addresses;          /* for how many own addresses there is room, those from routers included: 4 to 16, and less
+                                    is 4, more is 16 */
+    uint32_t routes;             /* for how many routes there is room, at most 32, in memory that is taken at once; 0 is four,
+                                    without such memory */
+    uint32_t groups;             /* for how many groups there is room, at most 16: on Ethernet the solicited-node groups of own
+                                    IPv6 addresses are among them */
+    uint32_t prefixes;           /* how many prefixes of routers are kept, at most 8 */
+    uint32_t routers;            /* how many routers are kept, at most 8 */
+    uint32_t fragmented;         /* how many packets in fragments are put together at a time, in memory that is taken at once; 0
+                                    is two, without such memory */
     uint32_t burst;              /* how many frames the link takes one after the other: the window in a segment of TCP is at
                                     most what so many carry; 0 sets no bound */
     uint8_t hardware_address[6]; /* on Ethernet; else it isn't read */
@@ -255,8 +265,8 @@ uint32_t iface_free(iface *host);
 
 /* ---- addresses and groups ---- */
 
-/* Adds an own address with its network, as 192.168.69.1 with 24, after the others, and forgets all neighbours: at
- * most four. On Ethernet the host joins the solicited-node group of an IPv6 address (RFC 4291, 2.7.1).
+/* Adds an own address with its network, as 192.168.69.1 with 24, after the others, and forgets all neighbours. On
+ * Ethernet the host joins the solicited-node group of an IPv6 address (RFC 4291, 2.7.1), if there is room for a group.
  * BAD_ARGUMENT, TABLE_FULL, NOT_UNICAST (neither unicast nor unspecified). */
 uint32_t iface_add_address(iface *host, const struct iface_address *address, uint8_t prefix_len);
 
@@ -264,8 +274,8 @@ uint32_t iface_add_address(iface *host, const struct iface_address *address, uin
  * BAD_ARGUMENT, NOT_THERE. */
 uint32_t iface_remove_address(iface *host, const struct iface_address *address, uint8_t prefix_len);
 
-/* Makes a list of at most four its own addresses, with their networks, and forgets all neighbours.
- * TABLE_FULL (a longer list), BAD_ARGUMENT, NO_HOST, NOT_UNICAST: in this order. */
+/* Makes a list its own addresses, with their networks, and forgets all neighbours. TABLE_FULL (more than 16), BAD_ARGUMENT,
+ * NO_HOST, TABLE_FULL (more than there is room for), NOT_UNICAST: in this order. */
 uint32_t iface_set_addresses(iface *host, const struct iface_cidr *addresses, size_t count);
 
 /* Writes the own address at a place of their list, from 0 on: those that came from routers stand there too. NOT_THERE. */
@@ -275,9 +285,8 @@ uint32_t iface_address_at(iface *host, uint32_t place, struct iface_address *add
  * appendix A; RFC 2464, 5). It needs no host. NOT_UNICAST (a group's hardware address). */
 uint32_t iface_link_local(const uint8_t *hardware_address, struct iface_address *address);
 
-/* Joins a group, of at most eight: from now on packets to it are taken, and iface_next tells routers of it (RFC 2236,
- * RFC 3810). On Ethernet the solicited-node groups of own addresses are among the eight, if there was room for them.
- * BAD_ARGUMENT, BAD_ADDRESS (no group's), TABLE_FULL. */
+/* Joins a group: from now on packets to it are taken, and iface_next tells routers of it (RFC 2236, RFC 3810). On Ethernet
+ * the solicited-node groups of own addresses take room as well, if there was room for them. BAD_ARGUMENT, BAD_ADDRESS (no group's), TABLE_FULL. */
 uint32_t iface_join_group(iface *host, const struct iface_address *group);
 
 /* Leaves a group, if the host is in it. BAD_ARGUMENT, BAD_ADDRESS. */
@@ -320,8 +329,8 @@ uint32_t iface_slaac_updated_at(iface *host, int64_t *at);
 
 /* ---- routes ---- */
 
-/* Sets the default route of the gateway's family, in place of the first one that is there, and puts it last: at most four
- * routes. BAD_ARGUMENT, TABLE_FULL. */
+/* Sets the default route of the gateway's family, in place of the first one that is there, and puts it last.
+ * BAD_ARGUMENT, TABLE_FULL. */
 uint32_t iface_set_default_route(iface *host, const struct iface_address *gateway);
 
 /* Adds a route to a network by a router, last in the list. The longest prefix wins, of equal ones the last. The router may
@@ -872,7 +881,7 @@ const char *iface_strerror(uint32_t code);
 
 #if defined(__STDC_VERSION__) && __STDC_VERSION__ >= 201112L
 _Static_assert(sizeof(struct iface_address) == 17 && sizeof(struct iface_endpoint) == 20, "as the library lays them out");
-_Static_assert(sizeof(struct iface_config) == 128 && sizeof(iface) == 16, "as the library lays them out");
+_Static_assert(sizeof(struct iface_config) == 152 && sizeof(iface) == 16, "as the library lays them out");
 _Static_assert(sizeof(struct iface_cidr) == 18 && sizeof(struct iface_counts) == 32, "as the library lays them out");
 _Static_assert(sizeof(struct iface_queue) == 20 && sizeof(struct iface_checksums) == 5, "as the library lays them out");
 _Static_assert(sizeof(struct iface_rate) == 8 && sizeof(struct iface_guard) == 64, "as the library lays them out");

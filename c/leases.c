@@ -273,18 +273,18 @@ static void refuses(void) {
     must("free", iface_dhcp_free(&client, &other));
     wants("free again", iface_dhcp_free(&client, &other), IFACE_NO_CLIENT);
     must("free", iface_free(&host)), must("free", iface_free(&other));
-    /* with four own addresses there is no room for that of a lease, and nothing changes until there is */
+    /* with eight own addresses there is no room for that of a lease, and nothing changes until there is */
     make(&host, IFACE_ETHERNET, 2);
     must("client", iface_dhcp_new(&client, &host, 1, &none));
-    for (uint8_t i = 0; i < 4; i++) a.octets[3] = (uint8_t)(i + 1), must("address", iface_add_address(&host, &a, 8));
+    for (uint8_t i = 0; i < 8; i++) a.octets[3] = (uint8_t)(i + 1), must("address", iface_add_address(&host, &a, 8));
     must("poll", iface_dhcp_poll(&client, &host, 0, &event)), next_frame(&host, 0), answer(&host, 0, OFFER, 50, 120);
     must("poll", iface_dhcp_poll(&client, &host, 0, &event)), next_frame(&host, 0), answer(&host, 0, ACK, 50, 120);
     must("poll", iface_dhcp_poll(&client, &host, 0, &event)), wants("a lease", event, IFACE_DHCP_CONFIGURED);
     wants("no room", iface_dhcp_apply(&client, &host), IFACE_TABLE_FULL);
-    wants("four are there", iface_address_at(&host, 3, &a, &got.prefix_len), IFACE_OK), wants("the fourth", a.octets[3], 4);
+    wants("eight are there", iface_address_at(&host, 7, &a, &got.prefix_len), IFACE_OK), wants("the eighth", a.octets[3], 8);
     must("remove", iface_remove_address(&host, &a, 8));
     must("apply", iface_dhcp_apply(&client, &host));
-    must("the fourth", iface_address_at(&host, 3, &a, &got.prefix_len)), wants_v4("is the lease's", &a, 50);
+    must("the eighth", iface_address_at(&host, 7, &a, &got.prefix_len)), wants_v4("is the lease's", &a, 50);
     must("free", iface_dhcp_free(&client, &other));
     must("free", iface_free(&host));
 }

@@ -40,9 +40,13 @@ static void fill_in_good(void) {
     wants("usual frames", good.frame_len == 1514 && good.medium == IFACE_ETHERNET && good.sockets == 8 && good.slaac == 0, 1);
     wants("no bound of bursts", good.burst, 0);
     wants("usual neighbours", good.neighbors, 64);
+    wants("usual addresses, routes and groups", good.addresses == 8 && good.routes == 8 && good.groups == 16, 1);
+    wants("what is usually kept of routers", good.prefixes == 4 && good.routers == 4, 1);
+    wants("usual packets in fragments", good.fragmented, 8);
     wants("usual patience", good.patience, 3000000);
     wants("usual timeout", good.reassembly_timeout, 10000000);
     wants("usual start", (uint64_t)good.start, 0);
+    good.addresses = 4, good.routes = 0, good.groups = 8;
     good.seed = 1, good.hardware_address[0] = 2, good.hardware_address[5] = 1;
 }
 
@@ -155,10 +159,12 @@ static void refuses_addresses(iface *host) {
     a = v6(0xfe, 0x80, 1), wants("address of IPv6", iface_add_address(host, &a, 64), IFACE_OK);
     for (uint8_t i = 2; i < 4; i++) a = v4(10, 0, i, 1), wants("address", iface_add_address(host, &a, 24), IFACE_OK);
     a = v4(10, 0, 9, 1), wants("fifth address", iface_add_address(host, &a, 24), IFACE_TABLE_FULL);
-    struct iface_cidr list[5] = {{v4(10, 0, 9, 1), 24}, {v4(10, 0, 9, 2), 24}, {v4(10, 0, 9, 3), 24}, {v4(10, 0, 9, 4), 33}};
+    struct iface_cidr list[17] = {{v4(10, 0, 9, 1), 24}, {v4(10, 0, 9, 2), 24}, {v4(10, 0, 9, 3), 24}, {v4(10, 0, 9, 4), 33}};
     wants("prefix of 33 in a list", iface_set_addresses(host, list, 4), IFACE_BAD_ARGUMENT);
+    wants("list of 17", iface_set_addresses(host, list, 17), IFACE_TABLE_FULL);
+    list[3].prefix_len = 24, list[4] = list[3];
     wants("list of five", iface_set_addresses(host, list, 5), IFACE_TABLE_FULL);
-    list[3].prefix_len = 24, list[1].address.version = 0;
+    list[1].address.version = 0;
     wants("version 0 in a list", iface_set_addresses(host, list, 4), IFACE_BAD_ARGUMENT);
     list[1].address = v4(224, 0, 0, 1), wants("group in a list", iface_set_addresses(host, list, 4), IFACE_NOT_UNICAST);
     wants("address 3, as it was", iface_address_at(host, 3, &read, &prefix), IFACE_OK);

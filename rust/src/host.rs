@@ -50,8 +50,8 @@ pub enum Error {
     BadAddress,
     /// No such address, route or query, no own address, no ends of a connection, or no hardware addresses.
     NotThere,
-    /// Four addresses, four routes or eight groups are there, all sockets are open, or each place has a connection or a
-    /// query; a list of more than four addresses, or of more than three servers.
+    /// There is no room for another address, route or group, or for so many addresses; all sockets are open, or each place
+    /// has a connection or a query; a list of more than three servers.
     TableFull,
     /// No socket of this kind is open by this number, or no connection has this name.
     NoSocket,
@@ -262,6 +262,20 @@ pub struct Settings {
     /// How many neighbours it knows at once, of both versions together, in memory that is taken at once. 0 is four,
     /// without such memory. A new neighbour replaces the one whose instant is the first.
     pub neighbors: u32,
+    /// For how many own addresses there is room, those from routers included: 4 to 16. Less is 4, more is 16.
+    pub addresses: u32,
+    /// For how many routes there is room, at most 32, in memory that is taken at once. 0 is four, without such memory.
+    pub routes: u32,
+    /// For how many groups there is room, at most 16. On Ethernet the solicited-node groups of own IPv6 addresses are
+    /// among them.
+    pub groups: u32,
+    /// How many prefixes of routers are kept, at most 8.
+    pub prefixes: u32,
+    /// How many routers are kept, at most 8.
+    pub routers: u32,
+    /// How many packets in fragments are put together at a time, in memory that is taken at once. 0 is two, without such
+    /// memory.
+    pub fragmented: u32,
     /// How long a packet waits for a neighbour that doesn't answer, before it is given up. Zero is for ever: then one
     /// such packet stops its socket.
     pub patience: Duration,
@@ -286,9 +300,9 @@ struct Configured<C> {
 }
 
 impl Settings {
-    /// What `iface_config_init` writes: frames of 1514 octets, 8 sockets, 64 neighbours, no addresses from routers,
-    /// a patience of three seconds, ten seconds for fragments, the start [`Instant::ZERO`], all checksums its own, the
-    /// seed 0, and a guard.
+    /// What `iface_config_init` writes: frames of 1514 octets, 8 sockets, room for 64 neighbours, 8 addresses, 8 routes and
+    /// 16 groups, 4 prefixes, 4 routers and 8 packets in fragments, no addresses from routers, a patience of three
+    /// seconds, ten seconds for fragments, the start [`Instant::ZERO`], all checksums its own, the seed 0, and a guard.
     pub fn new(hardware_addr: HardwareAddress) -> Settings {
         let config = sys::iface_config {
             seed: 0,
@@ -298,6 +312,12 @@ impl Settings {
             frame_len: 0,
             sockets: 0,
             neighbors: 0,
+            addresses: 0,
+            routes: 0,
+            groups: 0,
+            prefixes: 0,
+            routers: 0,
+            fragmented: 0,
             burst: 0,
             hardware_address: [0; 6],
             medium: 0,
@@ -317,6 +337,12 @@ impl Settings {
             slaac: config.slaac != 0,
             sockets: config.sockets,
             neighbors: config.neighbors,
+            addresses: config.addresses,
+            routes: config.routes,
+            groups: config.groups,
+            prefixes: config.prefixes,
+            routers: config.routers,
+            fragmented: config.fragmented,
             patience: Duration::from_micros(config.patience),
             reassembly_timeout: Duration::from_micros(config.reassembly_timeout),
             start: Instant::from_micros_const(config.start),
@@ -339,6 +365,12 @@ impl Settings {
             frame_len: self.frame_len,
             sockets: self.sockets,
             neighbors: self.neighbors,
+            addresses: self.addresses,
+            routes: self.routes,
+            groups: self.groups,
+            prefixes: self.prefixes,
+            routers: self.routers,
+            fragmented: self.fragmented,
             burst: self.burst.unwrap_or(0),
             hardware_address,
             medium,
@@ -742,7 +774,7 @@ impl Host {
     /// Adds an own address with its network behind the others, and forgets all neighbours.
     ///
     /// # Errors
-    /// [`Error::TableFull`] if there are four, [`Error::NotUnicast`] if it is neither unicast nor unspecified.
+    /// [`Error::TableFull`] if there is no room for another, [`Error::NotUnicast`] if it is neither unicast nor unspecified.
     #[inline]
     pub fn add_address(&mut self, cidr: IpCidr) -> Result<(), Error> {
         call!(self.iface_add_address(&to_c(&cidr.address()), cidr.prefix_len()))
@@ -757,13 +789,14 @@ impl Host {
         call!(self.iface_remove_address(&to_c(&cidr.address()), cidr.prefix_len()))
     }
 
-    /// Makes a list of at most four its own addresses, with their networks, and forgets all neighbours.
+    /// Makes a list its own addresses, with their networks, and forgets all neighbours.
     ///
     /// # Errors
-    /// [`Error::TableFull`] if there are more, [`Error::NotUnicast`] if one of them is neither unicast nor unspecified.
+    /// [`Error::TableFull`] if there is no room for so many, [`Error::NotUnicast`] if one of them is neither unicast nor
+    /// unspecified.
     #[inline]
     pub fn set_addresses(&mut self, cidrs: &[IpCidr]) -> Result<(), Error> {
-        let mut list = [sys::iface_cidr { address: NO_ADDRESS, prefix_len: 0 }; 4];
+        let mut list = [sys::iface_cidr { address: NO_ADDRESS, prefix_len: 0 }; 16];
         let list = list.get_mut(..cidrs.len()).ok_or(Error::TableFull)?;
         for (place, cidr) in list.iter_mut().zip(cidrs) {
             *place = cidr_to_c(cidr);
@@ -803,10 +836,10 @@ impl Host {
     }
 
     /// Joins a group: from now on packets to it are taken, and routers are told of it. On Ethernet the solicited-node
-    /// groups of own addresses are among the eight.
+    /// groups of own addresses take room as well.
     ///
     /// # Errors
-    /// [`Error::BadAddress`] if it is no group's, [`Error::TableFull`] if there are eight.
+    /// [`Error::BadAddress`] if it is no group's, [`Error::TableFull`] if there is no room for another.
     #[inline]
     pub fn join_group(&mut self, group: IpAddress) -> Result<(), Error> {
         call!(self.iface_join_group(&to_c(&group)))
@@ -898,7 +931,7 @@ impl Host {
     /// Sets the default route of the gateway's version, in place of the first one that is there, and puts it last.
     ///
     /// # Errors
-    /// [`Error::TableFull`] if there are four routes, none of which is replaced.
+    /// [`Error::TableFull`] if there is no room for another route, and none is replaced.
     #[inline]
     pub fn set_default_route(&mut self, gateway: IpAddress) -> Result<(), Error> {
         call!(self.iface_set_default_route(&to_c(&gateway)))
@@ -908,7 +941,7 @@ impl Host {
     /// the last.
     ///
     /// # Errors
-    /// [`Error::TableFull`] if there are four routes.
+    /// [`Error::TableFull`] if there is no room for another route.
     #[inline]
     pub fn add_route(&mut self, network: IpCidr, router: IpAddress) -> Result<(), Error> {
         call!(self.iface_add_route(&to_c(&network.address()), network.prefix_len(), &to_c(&router)))
@@ -918,7 +951,7 @@ impl Host {
     /// included, and stays in the table behind it. With `None` it has no end.
     ///
     /// # Errors
-    /// [`Error::TableFull`] if there are four routes.
+    /// [`Error::TableFull`] if there is no room for another route.
     #[inline]
     pub fn add_route_until(&mut self, network: IpCidr, router: IpAddress, until: Option<Instant>) -> Result<(), Error> {
         let until = until.map_or(sys::IFACE_NEVER, |until| until.total_micros());

@@ -2,7 +2,7 @@
 //!
 //! Calling any of it is `unsafe`: the header says what the caller keeps. [`Host`](crate::Host) keeps it.
 //!
-//! Sum of the header: 0x662c8546697ed6c8
+//! Sum of the header: 0x1d177a0bd4c4509f
 #![allow(non_camel_case_types)]
 
 use core::ffi::{c_char, c_void};
@@ -27,7 +27,7 @@ pub const IFACE_BAD_MOMENT: u32 = 7;
 pub const IFACE_BAD_ADDRESS: u32 = 8;
 /// no such address, route or query, no own address; the medium has no hardware addresses
 pub const IFACE_NOT_THERE: u32 = 9;
-/// four addresses, four routes or eight groups are there, all sockets are open, or as many queries are there as may be; a list of more than four addresses
+/// there is no room for another address, route or group, or for so many addresses; all sockets are open, or as many queries are there as may be
 pub const IFACE_TABLE_FULL: u32 = 10;
 /// no socket of this kind is open by this number; no connection has this name
 pub const IFACE_NO_SOCKET: u32 = 11;
@@ -159,7 +159,7 @@ pub const IFACE_DNS_SERVERS: usize = 3;
 /// How many addresses of a result there are at most.
 pub const IFACE_DNS_ADDRESSES: usize = 4;
 /// The version of the header.
-pub const IFACE_VERSION: u32 = 0x000e0006;
+pub const IFACE_VERSION: u32 = 0x000e0007;
 /// Any address, for the end at which a socket listens.
 pub const IFACE_ANY: iface_address = iface_address { version: 0, octets: [0; 16] };
 
@@ -315,7 +315,7 @@ pub struct iface_config {
     pub seed: u64,
     /// how long a packet waits for a neighbour that doesn't answer, in microseconds, before it is given up; 0 is for ever, and then one such packet stops its socket
     pub patience: u64,
-    /// how long fragments of a packet wait for the others, in microseconds: not 0, at most a day. Two packets at a time are put together, so strangers' fragments block the others for so long
+    /// how long fragments of a packet wait for the others, in microseconds: not 0, at most a day. As many packets at a time are put together as fragmented says, so strangers' fragments block the others for so long
     pub reassembly_timeout: u64,
     /// the moment at which the host begins: from 0 to `IFACE_LAST_MOMENT`
     pub start: i64,
@@ -325,6 +325,18 @@ pub struct iface_config {
     pub sockets: u32,
     /// how many neighbours it knows at once, of both versions together, in memory that is taken at once; 0 is four, without such memory. A new one replaces the one that ends first
     pub neighbors: u32,
+    /// for how many own addresses there is room, those from routers included: 4 to 16, and less is 4, more is 16
+    pub addresses: u32,
+    /// for how many routes there is room, at most 32, in memory that is taken at once; 0 is four, without such memory
+    pub routes: u32,
+    /// for how many groups there is room, at most 16: on Ethernet the solicited-node groups of own IPv6 addresses are among them
+    pub groups: u32,
+    /// how many prefixes of routers are kept, at most 8
+    pub prefixes: u32,
+    /// how many routers are kept, at most 8
+    pub routers: u32,
+    /// how many packets in fragments are put together at a time, in memory that is taken at once; 0 is two, without such memory
+    pub fragmented: u32,
     /// how many frames the link takes one after the other: the window in a segment of TCP is at most what so many carry; 0 sets no bound
     pub burst: u32,
     /// on Ethernet; else it isn't read
@@ -519,7 +531,7 @@ impl iface_streams {
 
 const _: () = assert!(size_of::<iface_address>() == 17);
 const _: () = assert!(size_of::<iface_endpoint>() == 20);
-const _: () = assert!(size_of::<iface_config>() == 128);
+const _: () = assert!(size_of::<iface_config>() == 152);
 const _: () = assert!(size_of::<iface>() == 16);
 const _: () = assert!(size_of::<iface_cidr>() == 18);
 const _: () = assert!(size_of::<iface_counts>() == 32);
@@ -545,17 +557,17 @@ unsafe extern "C" {
     pub fn iface_new_for(host: *mut iface, config: *const iface_config, version: u32) -> u32;
     /// Frees a host, with its sockets and the frames that wait. The handle owns none from then on. NO_HOST.
     pub fn iface_free(host: *mut iface) -> u32;
-    /// Adds an own address with its network, as 192.168.69.1 with 24, after the others, and forgets all neighbours: at most four. On Ethernet the host joins the solicited-node group of an IPv6 address (RFC 4291, 2.7.1). BAD_ARGUMENT, TABLE_FULL, NOT_UNICAST (neither unicast nor unspecified).
+    /// Adds an own address with its network, as 192.168.69.1 with 24, after the others, and forgets all neighbours. On Ethernet the host joins the solicited-node group of an IPv6 address (RFC 4291, 2.7.1), if there is room for a group. BAD_ARGUMENT, TABLE_FULL, NOT_UNICAST (neither unicast nor unspecified).
     pub fn iface_add_address(host: *mut iface, address: *const iface_address, prefix_len: u8) -> u32;
     /// Takes out the first own address that is this one with this prefix, and forgets all neighbours. BAD_ARGUMENT, NOT_THERE.
     pub fn iface_remove_address(host: *mut iface, address: *const iface_address, prefix_len: u8) -> u32;
-    /// Makes a list of at most four its own addresses, with their networks, and forgets all neighbours. TABLE_FULL (a longer list), BAD_ARGUMENT, NO_HOST, NOT_UNICAST: in this order.
+    /// Makes a list its own addresses, with their networks, and forgets all neighbours. TABLE_FULL (more than 16), BAD_ARGUMENT, NO_HOST, TABLE_FULL (more than there is room for), NOT_UNICAST: in this order.
     pub fn iface_set_addresses(host: *mut iface, addresses: *const iface_cidr, count: usize) -> u32;
     /// Writes the own address at a place of their list, from 0 on: those that came from routers stand there too. NOT_THERE.
     pub fn iface_address_at(host: *mut iface, place: u32, address: *mut iface_address, prefix_len: *mut u8) -> u32;
     /// Writes the link-local address that a hardware address makes: fe80::/64 with its modified EUI-64 (RFC 4291, 2.5.1 and appendix A; RFC 2464, 5). It needs no host. NOT_UNICAST (a group's hardware address).
     pub fn iface_link_local(hardware_address: *const u8, address: *mut iface_address) -> u32;
-    /// Joins a group, of at most eight: from now on packets to it are taken, and `iface_next` tells routers of it (RFC 2236, RFC 3810). On Ethernet the solicited-node groups of own addresses are among the eight, if there was room for them. BAD_ARGUMENT, BAD_ADDRESS (no group's), TABLE_FULL.
+    /// Joins a group: from now on packets to it are taken, and `iface_next` tells routers of it (RFC 2236, RFC 3810). On Ethernet the solicited-node groups of own addresses take room as well, if there was room for them. BAD_ARGUMENT, BAD_ADDRESS (no group's), TABLE_FULL.
     pub fn iface_join_group(host: *mut iface, group: *const iface_address) -> u32;
     /// Leaves a group, if the host is in it. BAD_ARGUMENT, BAD_ADDRESS.
     pub fn iface_leave_group(host: *mut iface, group: *const iface_address) -> u32;
@@ -575,7 +587,7 @@ unsafe extern "C" {
     pub fn iface_any_ip(host: *mut iface, on: *mut u8) -> u32;
     /// Writes the moment at which own addresses and routes were last made those that routers advertise (RFC 4862), and 0 before the first time.
     pub fn iface_slaac_updated_at(host: *mut iface, at: *mut i64) -> u32;
-    /// Sets the default route of the gateway's family, in place of the first one that is there, and puts it last: at most four routes. BAD_ARGUMENT, TABLE_FULL.
+    /// Sets the default route of the gateway's family, in place of the first one that is there, and puts it last. BAD_ARGUMENT, TABLE_FULL.
     pub fn iface_set_default_route(host: *mut iface, gateway: *const iface_address) -> u32;
     /// Adds a route to a network by a router, last in the list. The longest prefix wins, of equal ones the last. The router may be of the other family: it is asked for by its own. BAD_ARGUMENT, TABLE_FULL.
     pub fn iface_add_route(host: *mut iface, network: *const iface_address, prefix_len: u8, router: *const iface_address) -> u32;

@@ -69,11 +69,11 @@ fn a_host_is_refused_with_its_reason() {
     assert_eq!(made(|settings| (settings.hardware_addr, settings.frame_len) = (HardwareAddress::Ip, 576)), Ok(()));
 }
 
-/// `docs/C.md`, Codes: four addresses, four routes, eight groups; the first code that applies.
+/// `docs/C.md`, Codes: with room for four addresses, four routes and eight groups; the first code that applies.
 #[test]
 fn a_refused_call_says_why() {
     let mut settings = settings();
-    settings.sockets = 1;
+    (settings.sockets, settings.addresses, settings.routes, settings.groups) = (1, 4, 0, 8);
     let mut node = Node::of(&settings, &[CIDR]);
     let host = &mut node.host;
     let group = |last| IpAddress::v4(239, 0, 0, last);
@@ -425,19 +425,20 @@ fn a_hardware_address_makes_a_link_local_one() {
     assert_eq!(made([0xff; 6]), Err(Error::NotUnicast));
 }
 
-/// `iface.h`: a list of at most four, all at once; refused, nothing has changed. smoltcp's `update_ip_addrs` flushes.
+/// `iface.h`: a list of as many as there is room for, all at once; refused, nothing has changed. smoltcp's `update_ip_addrs` flushes.
 #[test]
 fn addresses_are_set_at_once() {
     let other = IpCidr::new(IpAddress::v4(10, 0, 0, 9), 8);
     let mut node = Node::new(&[CIDR, other]);
     let addresses = |node: &mut Node| (0..).map_while(|index| node.host.address_at(index)).collect::<Vec<_>>();
     fill(&mut node, 2, neighbor(2).1, millis(0));
-    let five: Vec<IpCidr> = (1..=5).map(|last| IpCidr::new(IpAddress::v4(10, 0, 0, last), 8)).collect();
-    assert_eq!(node.host.set_addresses(&five), Err(Error::TableFull));
-    assert_eq!(node.host.set_addresses(&[five[0], "224.0.0.1/4".parse().unwrap()]), Err(Error::NotUnicast));
+    let nine: Vec<IpCidr> = (1..=9).map(|last| IpCidr::new(IpAddress::v4(10, 0, 0, last), 8)).collect();
+    assert_eq!(node.host.set_addresses(&nine), Err(Error::TableFull));
+    assert_eq!(node.host.set_addresses(&[nine[0]; 17]), Err(Error::TableFull));
+    assert_eq!(node.host.set_addresses(&[nine[0], "224.0.0.1/4".parse().unwrap()]), Err(Error::NotUnicast));
     assert_eq!(addresses(&mut node), [CIDR, other]);
     assert_eq!(node.lookup(neighbor(2).0, millis(0)), [Seen::Datagram(neighbor(2).1)]);
-    for list in [&five[..4], &[CIDR], &[], &[CIDR, CIDR, other]] {
+    for list in [&nine[..8], &[CIDR], &[], &[CIDR, CIDR, other]] {
         node.host.set_addresses(list).unwrap();
         assert_eq!(addresses(&mut node), list);
     }
@@ -453,7 +454,9 @@ fn a_route_is_used_until_its_end() {
     let (cidr_1, cidr_2) = ("192.0.2.0/24".parse().unwrap(), "198.51.100.0/24".parse().unwrap());
     let (addr_1b, addr_2b) = (Ipv4Address::new(192, 0, 2, 13), Ipv4Address::new(198, 51, 100, 21));
     let route = |cidr, via_router, expires_at| Route { cidr, via_router, preferred_until: None, expires_at };
-    let mut node = Node::new(&[CIDR]);
+    let mut few = settings();
+    few.routes = 0;
+    let mut node = Node::of(&few, &[CIDR]);
     assert_eq!(node.host.route_at(0), None);
     node.host.add_route_until(cidr_1, router_1, None).unwrap();
     node.host.add_route_until(cidr_2, router_2, Some(millis(10))).unwrap();
@@ -912,11 +915,11 @@ fn a_client_is_refused_with_its_reason() {
     let asked = polled(&mut client, &mut node, now, None).0.unwrap();
     let asked = polled(&mut client, &mut node, now, Some(&reply(&asked, OFFER, LEASED))).0.unwrap();
     assert_eq!(polled(&mut client, &mut node, now, Some(&reply(&asked, ACK, LEASED))).1, Some(LeaseEvent::Configured));
-    for last in 1..5 {
+    for last in 1..9 {
         node.host.add_address(IpCidr::new(neighbor(last).0.into(), 24)).unwrap();
     }
     assert_eq!(client.apply(&mut node.host), Err(Error::TableFull));
-    assert_eq!(node.host.address_at(3), Some(IpCidr::new(neighbor(4).0.into(), 24)));
+    assert_eq!(node.host.address_at(7), Some(IpCidr::new(neighbor(8).0.into(), 24)));
     // Dropped, it leaves its socket open.
     drop(client);
     assert!(node.host.queues(0).is_ok());

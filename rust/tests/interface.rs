@@ -156,7 +156,6 @@ fn addresses_are_read_back_and_a_refused_list_changes_nothing() {
     assert_eq!((iface.ipv4_addr(), iface.ipv6_addr()), (Some(SELF), Some(link_local)));
     iface
         .update_ip_addrs(|list| {
-            assert_eq!(list.push(all[0]), Err(all[0]));
             list.retain(|cidr| *cidr != all[1]);
         })
         .unwrap();
@@ -394,21 +393,21 @@ fn icmp_sockets_get_port_unreachables() {
     assert_eq!((received[..2].to_vec(), from), (vec![3, 3], PEER.into()));
 }
 
-/// `docs/C.md`: eight groups, four routes.
+/// `docs/C.md`: the usual room is for 16 groups and eight routes.
 #[test]
 fn groups_and_routes_have_their_errors() {
     let (mut device, mut iface, mut sockets) = interface();
     assert_eq!(iface.join_multicast_group(SELF), Err(MulticastError::Unaddressable));
-    for n in 0..8 {
+    for n in 0..16 {
         iface.join_multicast_group(Ipv4Address::new(239, 0, 0, n)).unwrap();
     }
-    let ninth = Ipv4Address::new(239, 0, 0, 9);
-    assert_eq!(iface.join_multicast_group(ninth), Err(MulticastError::GroupTableFull));
+    let another = Ipv4Address::new(239, 0, 0, 16);
+    assert_eq!(iface.join_multicast_group(another), Err(MulticastError::GroupTableFull));
     iface.poll(Instant::ZERO, &mut device, &mut sockets);
-    assert_eq!(device.sent.len(), 8);
+    assert_eq!(device.sent.len(), 16);
     iface.leave_multicast_group(Ipv4Address::new(239, 0, 0, 1)).unwrap();
     let mut routes = iface.routes_mut();
-    for n in 1..4 {
+    for n in 1..8 {
         routes.add(IpCidr::new(IpAddress::v4(10, n, 0, 0), 16), PEER.into()).unwrap();
     }
     let (first, second) = (Route::new_ipv4_gateway(PEER), Route::new_ipv4_gateway(Ipv4Address::new(192, 168, 69, 3)));
@@ -460,7 +459,7 @@ fn routes_are_changed_as_a_list_and_read_back() {
         assert_eq!(*iface.routes(), list[..]);
     }
     iface.routes_mut().update(|routes| {
-        for _ in 0..3 {
+        for _ in 0..7 {
             routes.push(one).unwrap();
         }
         assert_eq!(routes.push(one), Err(one));
@@ -468,7 +467,7 @@ fn routes_are_changed_as_a_list_and_read_back() {
         routes[1].via_router = PEER.into();
         routes.retain(|route| *route == one);
     });
-    assert_eq!(*iface.routes(), [one, one]);
+    assert_eq!(*iface.routes(), [one; 6]);
 }
 
 /// smoltcp's documentation of `PollResult` and `PollIngressSingleResult`, and its code: an empty frame is processed and
@@ -873,6 +872,32 @@ impl TruncateToOneAndPush for fumitorygate::iface::Addresses {
             self.pop();
         }
         self.push(cidr).unwrap();
+    }
+}
+
+/// `Config`: as many addresses and routes as there is room for can be set at once, and no more.
+#[test]
+fn lists_have_the_room_of_the_configuration() {
+    for (asked, addresses, routes) in [((8, 8), 8, 8), ((0, 0), 4, 4), ((5, 1), 5, 1), ((99, 99), 16, 32)] {
+        let mut device = Loopback::new(Medium::Ip);
+        let mut config = Config::new(HardwareAddress::Ip);
+        (config.addresses, config.routes) = asked;
+        let mut iface = Interface::new(config, &mut device, Instant::ZERO).unwrap();
+        let cidr = |n: usize| IpCidr::new(IpAddress::v4(10, 0, n as u8, 1), 24);
+        iface
+            .update_ip_addrs(|list| {
+                (0..addresses).for_each(|n| list.push(cidr(n)).unwrap());
+                assert_eq!(list.push(cidr(99)), Err(cidr(99)));
+            })
+            .unwrap();
+        assert_eq!(iface.ip_addrs().len(), addresses);
+        let route = |n: usize| Route { cidr: cidr(n), ..Route::new_ipv4_gateway(PEER) };
+        iface.routes_mut().update(|list| {
+            (0..routes).for_each(|n| list.push(route(n)).unwrap());
+            assert_eq!(list.push(route(99)), Err(route(99)));
+        });
+        assert_eq!(iface.routes()[..], (0..routes).map(route).collect::<Vec<_>>()[..]);
+        assert_eq!(iface.routes_mut().add(cidr(99), PEER.into()), Err(RouteTableFull));
     }
 }
 

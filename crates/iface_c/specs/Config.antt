@@ -6,6 +6,7 @@ use Rattle.ip_address.specs.declared.hardware.HardwareAddress.TheVariants.{Ether
 use Rattle.net_base.specs.declared.phy.Checksum.{Checksum}
 use Rattle.net_base.specs.declared.phy.Checksum.TheVariants as checksum
 use Rattle.net_base.specs.declared.phy.ChecksumCapabilities.{ChecksumCapabilities}
+use Rattle.host_machine.specs.declared.capacities.Capacities.{Capacities}
 use Rattle.iface_host.specs.declared.host.Settings.{Settings}
 use Rattle.iface_c.specs.Guarding.{usual_guard, watch_in}
 use Rattle.iface_c.specs.declared.hosts.IfaceChecksums.{IfaceChecksums}
@@ -30,6 +31,10 @@ checksums_in c = option_and_then (λ (a : Checksum). option_and_then (λ (b : Ch
 abbrev pub burst_in : ℕ → Option ℕ
 burst_in n = if n == 0 then None else Some n
 
+-- for how many addresses, groups, prefixes and routers there is room
+abbrev pub capacities_in : IfaceConfig → Capacities
+capacities_in c = record { addresses = c.addresses; groups = c.groups; prefixes = c.prefixes; routers = c.routers }
+
 -- its settings, with an address on its link and its checksums
 abbrev pub settings_with : IfaceConfig → HardwareAddress → ChecksumCapabilities → Settings
 settings_with c hardware checksums = record {
@@ -39,6 +44,9 @@ settings_with c hardware checksums = record {
   slaac = not (c.slaac == 0);
   sockets = c.sockets;
   neighbors = c.neighbors;
+  capacities = capacities_in c;
+  routes = c.routes;
+  fragmented = c.fragmented;
   burst = burst_in c.burst;
   patience = c.patience;
   reassembly_timeout = c.reassembly_timeout;
@@ -47,8 +55,9 @@ settings_with c hardware checksums = record {
   watch = watch_in c.guard;
 }
 
--- what most programs want: eight sockets and 64 neighbours on Ethernet, three seconds of patience, as three solicitations take (RFC 4861
--- 10), ten for fragments, moment 0 to begin at, and a guard by the usual rules
+-- what most programs want: on Ethernet eight sockets, 64 neighbours, eight addresses, eight routes, 16 groups, four prefixes
+-- and four routers, eight datagrams in fragments, three seconds of patience, as three solicitations take (RFC 4861 10), ten for
+-- fragments, moment 0 to begin at, and a guard by the usual rules
 abbrev pub usual : IfaceConfig
 usual = record {
   seed = 0;
@@ -58,6 +67,12 @@ usual = record {
   frame_len = 1514;
   sockets = 8;
   neighbors = 64;
+  addresses = 8;
+  routes = 8;
+  groups = 16;
+  prefixes = 4;
+  routers = 4;
+  fragmented = 8;
   burst = 0;
   hardware_address = replicate 6 0;
   medium = 0;

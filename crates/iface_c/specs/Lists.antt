@@ -8,7 +8,7 @@ use Rattle.ip_address.specs.declared.cidr.IpCidr.{IpCidr}
 use Rattle.ip_address.specs.declared.cidr.Ipv6Cidr.{Ipv6Cidr}
 use Rattle.ip_address.specs.declared.ethernet_address.EthernetAddress.{EthernetAddress}
 use Rattle.ip_address.specs.declared.ip.IpAddress.TheVariants.{Ipv6}
-use Rattle.iface_host.specs.TableRefusals.{list_refusal}
+use Rattle.iface_host.specs.TableRefusals.{addresses_refusal}
 use Rattle.iface_host.specs.declared.host.Host.{Host}
 use Rattle.iface_host.specs.declared.refusal.Refusal.{Refusal}
 use Rattle.iface_host.specs.declared.refusal.Refusal.TheVariants.{NotUnicast}
@@ -24,10 +24,10 @@ cidrs_in (c ∷ cs) =
     option_and_then (λ (one : IpCidr). option_map (λ (others : List IpCidr). one ∷ others) (cidrs_in cs))
     (cidr_in c.address c.prefix_len)
 
--- the code of a call that makes a list the own addresses: 10 where it has more than four; else as that of each other call
+-- the code of a call that makes a list the own addresses: 10 where it has more than sixteen; else as that of each other call
 abbrev pub code_for_list : List IfaceCidr → Option Host → ℕ
 code_for_list list host =
-    if nat_lt 4 (length list) then 10 else code_with (λ own _. list_refusal own) (cidrs_in list) host
+    if nat_lt 16 (length list) then 10 else code_with (λ own it. addresses_refusal it own) (cidrs_in list) host
 
 -- fe80::/64, the network of link-local addresses (RFC 4291 2.5.6)
 abbrev pub link_local : Ipv6Cidr

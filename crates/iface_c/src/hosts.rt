@@ -3,7 +3,7 @@ ghost use Rattle.std.specs.Prelude.{◌≡◌, ◌≢◌, None, IsSomeAnd};
 ghost use Rattle.std.specs.Option.{option_and_then};
 ghost use Rattle.iface_c.specs.Addresses.{address_in, cidr_in};
 ghost use Rattle.iface_c.specs.Calls.{Did, Made, Ruled};
-ghost use Rattle.iface_c.specs.Config.{burst_in, checksums_in, directions_in, hardware_in, settings_in, usual};
+ghost use Rattle.iface_c.specs.Config.{burst_in, capacities_in, checksums_in, directions_in, hardware_in, settings_in, usual};
 ghost use Rattle.iface_c.specs.Handle.{host_in};
 ghost use Rattle.iface_c.specs.Hosts.{ShowsAddress};
 ghost use Rattle.iface_c.specs.Status.{IsDueOrMemory, code_by, code_for_new, code_for_version, code_with};
@@ -18,7 +18,7 @@ use crate::handle::Iface;
 use crate::status::{
     BAD_ARGUMENT, BAD_VERSION, HAS_HOST, NO_HOST, NO_MEMORY, NOT_THERE, OK, VERSION, code,
 };
-use iface_host::{Host, Settings};
+use iface_host::{Capacities, Host, Settings};
 use ip_wire::{EthernetAddress, HardwareAddress};
 use net_base::phy::{Checksum, ChecksumCapabilities};
 use net_base::time::Duration;
@@ -42,6 +42,18 @@ pub struct IfaceConfig {
     pub sockets: u32,
     /// How many neighbours it knows at once; 0 is four.
     pub neighbors: u32,
+    /// For how many own addresses there is room; 16 at most.
+    pub addresses: u32,
+    /// For how many routes there is room; 0 is four, 32 at most.
+    pub routes: u32,
+    /// For how many groups there is room; 16 at most.
+    pub groups: u32,
+    /// How many prefixes of routers are kept; 8 at most.
+    pub prefixes: u32,
+    /// How many routers are kept; 8 at most.
+    pub routers: u32,
+    /// How many datagrams in fragments are put together at once; 0 is two.
+    pub fragmented: u32,
     /// How many frames the link takes one after the other, for the window in a segment of TCP; 0 sets no bound.
     pub burst: u32,
     /// Its address on Ethernet.
@@ -124,6 +136,18 @@ impl IfaceConfig {
         }
     }
 
+    /// For how many addresses, groups, prefixes and routers there is room.
+    fn capacities(&self) -> Capacities
+        ensures { result ≡ capacities_in self.now }
+    {
+        Capacities {
+            addresses: self.addresses as usize,
+            groups: self.groups as usize,
+            prefixes: self.prefixes as usize,
+            routers: self.routers as usize,
+        }
+    }
+
     /// The settings, if the medium is 0 or 1, and each of the checksums 0 to 3.
     fn settings(&self) -> Option<Settings>
         ensures { result ≡ settings_in self.now }
@@ -137,6 +161,9 @@ impl IfaceConfig {
             slaac: self.slaac != 0,
             sockets: self.sockets as usize,
             neighbors: self.neighbors as usize,
+            capacities: self.capacities(),
+            routes: self.routes as usize,
+            fragmented: self.fragmented as usize,
             burst: burst_of(self.burst),
             patience: Duration::from_micros(self.patience),
             reassembly_timeout: Duration::from_micros(self.reassembly_timeout),
@@ -160,6 +187,12 @@ pub extern "C" fn iface_config_init(config: &mut IfaceConfig)
         frame_len: 1514,
         sockets: 8,
         neighbors: 64,
+        addresses: 8,
+        routes: 8,
+        groups: 16,
+        prefixes: 4,
+        routers: 4,
+        fragmented: 8,
         burst: 0,
         hardware_address: [0; 6],
         medium: 0,

@@ -16,6 +16,9 @@ use arrayvec::ArrayVec;
 use ip_wire::{EthernetAddress, HardwareAddress, IpAddress, IpCidr, Ipv6Address, Ipv6Cidr};
 use std::alloc::Global;
 
+/// The most addresses that a host can have.
+const MOST_ADDRESSES: usize = 16;
+
 /// An own address with its network.
 #[repr(C)]
 #[derive(Drop)]
@@ -37,7 +40,7 @@ pub extern "C" fn iface_set_addresses(
         (λ list. Follows (SetsAddresses list) old new)) handle.old handle.new }
     ensures code { result ≡ code_for_list addresses.now (host_in handle.old) }
 {
-    if addresses.len() > 4 {
+    if addresses.len() > MOST_ADDRESSES {
         return TABLE_FULL;
     }
     let Some(list) = networks(addresses) else {
@@ -46,7 +49,7 @@ pub extern "C" fn iface_set_addresses(
     let Some(mut host) = handle.take(alloc) else {
         return NO_HOST;
     };
-    let done = host.set_addresses(list);
+    let done = host.set_addresses(list.as_slice());
     handle.put(host);
     match done {
         Ok(()) => OK,
@@ -82,12 +85,12 @@ const LINK_LOCAL: Ipv6Cidr = Ipv6Cidr {
     prefix_len: 64,
 };
 
-/// The networks of a list of at most four, if each is one.
-fn networks(list: &[IfaceCidr]) -> Option<ArrayVec<IpCidr, 4>>
-    requires { length list.now ≤ 4 }
+/// The networks of a list of at most sixteen, if each is one.
+fn networks(list: &[IfaceCidr]) -> Option<ArrayVec<IpCidr, MOST_ADDRESSES>>
+    requires { length list.now ≤ MOST_ADDRESSES }
     ensures { option_map (λ networks. networks.items) result ≡ cidrs_in list.now }
 {
-    let mut networks: ArrayVec<IpCidr, 4> = ArrayVec::new();
+    let mut networks: ArrayVec<IpCidr, MOST_ADDRESSES> = ArrayVec::new();
     for one in list {
         networks.push(one.address.cidr(one.prefix_len)?);
     }

@@ -15,6 +15,7 @@ use Rattle.host_machine.specs.Interface.Due.{Due, IsLeast}
 use Rattle.host_machine.specs.Context.Host.{Host as Machine, SocketSet, at}
 use Rattle.host_machine.specs.Interface.Ingress.{answer_to}
 use Rattle.host_machine.specs.Interface.Polling.{Polls, is_changed, may_change}
+use Rattle.net_base.specs.declared.phy.DeviceCapabilities.{DeviceCapabilities}
 use Rattle.net_base.specs.Device.{Event, Frame, sent_frames}
 use Rattle.host_machine.specs.Interface.Step.{SetsReassemblyTimeout, WithinDay, OverDay}
 use Rattle.interface.specs.Refines.{HostRefinesTelling}
@@ -31,7 +32,7 @@ use Rattle.guard.specs.declared.watch.Watch.{Watch}
 use Rattle.iface_host.specs.Frames.{Gives, IsDue, IsWritten, Made, PollsInto, Round, Takes, after_response, is_piece_left, let_go, planned}
 use Rattle.iface_host.specs.Guarded.{Admitted, Defends, Dropped, NextIs, Receives, after_arrival, after_sending, hardware_addr_of, is_admitted}
 use Rattle.iface_host.specs.Counters.{after_handing, after_taking}
-use Rattle.iface_host.specs.Outbox.{Tells, Waiting, empty, with_room}
+use Rattle.iface_host.specs.Outbox.{Tells, Waiting, with_room}
 use Rattle.iface_host.specs.RoundDevice as device
 use Rattle.iface_host.specs.RoundDevice.{KeepsRest, frames_in, len_or_zero}
 use Rattle.iface_host.specs.declared.round_device.RoundDevice.{RoundDevice}
@@ -45,14 +46,13 @@ pub none_waits : (frames : List (List ℕ)) → length frames ≡ 0 → frames �
 none_waits [] e = refl
 none_waits (f ∷ fs) e = absurd (omega arith)
 
--- what an interface stands for that was just made, over an empty outbox
-pub stood : (s : Settings) (i : Interface) (o : Waiting) (t : ℤ) → o ≡ empty (capabilities_of s) → t ≡ s.start →
-    ((sockets : SocketSet) → interfaces.StandsFor i sockets (first_host o.capabilities s.hardware_addr s.random_seed s.slaac t sockets)) →
+-- what an interface stands for that was just made
+pub stood : (s : Settings) (i : Interface) (d : DeviceCapabilities) (t : ℤ) → d ≡ capabilities_of s → t ≡ s.start →
+    ((sockets : SocketSet) → interfaces.StandsFor i sockets (first_host d s.hardware_addr s.random_seed s.slaac t sockets)) →
     (sockets : SocketSet) → interfaces.StandsFor i sockets (first_host (capabilities_of s) s.hardware_addr s.random_seed s.slaac s.start sockets)
-stood s i o t is begins stands sockets =
+stood s i d t is begins stands sockets =
     subst (λ (m : ℤ). interfaces.StandsFor i sockets (first_host (capabilities_of s) s.hardware_addr s.random_seed s.slaac m sockets)) begins
-    (subst (λ (w : Waiting). interfaces.StandsFor i sockets (first_host w.capabilities s.hardware_addr s.random_seed s.slaac t sockets))
-    is (stands sockets))
+    (subst (λ (c : DeviceCapabilities). interfaces.StandsFor i sockets (first_host c s.hardware_addr s.random_seed s.slaac t sockets)) is (stands sockets))
 
 -- fragments wait as long as they are to, from each host that an interface stood for
 pub timed : (i i' : Interface) (timeout : ℕ) (sockets : SocketSet) (H : Machine) →

@@ -1,8 +1,9 @@
 -- Why calls of the interface are refused, over plain variables.
-use Rattle.std.proofs.Common.{◌≡◌, ℕ, ◌<◌, ◌≤◌, Bool, true, false, List, [], ◌∷◌, ◌++◌, length, Result, Ok, Err}
+use Rattle.std.proofs.Common.{◌≡◌, ℕ, zero, suc, ◌<◌, ◌≤◌, Bool, true, false, List, [], ◌∷◌, ◌++◌, length, Result, Ok, Err}
 use Rattle.std.proofs.Common.{Option, Some, None, refl, ap, ◌∙◌, leb, ltb, arith}
 use Rattle.std.specs.Prelude.{ℤ, if◌then◌else◌}
 use Rattle.std.specs.List.{position_or_len, remove}
+use Rattle.std.proofs.lemmas.List.{length-append}
 use Rattle.std.proofs.lemmas.Bool.{le-leb, leb-true, lt-ltb, ltb-true}
 use Rattle.ip_address.specs.Ip.{is_multicast}
 use Rattle.ip_address.specs.declared.cidr.IpCidr.{IpCidr}
@@ -31,8 +32,8 @@ use Rattle.host_machine.specs.declared.results.MulticastError.TheVariants.{Group
 use Rattle.host_machine.specs.declared.results.TimeoutError.{TimeoutError}
 use Rattle.interface.specs.Stands as interface
 use Rattle.interface.specs.declared.interface.Interface.{Interface}
-use Rattle.iface_host.specs.Calls.{addresses_of, is_same, is_to, routes_of}
-use Rattle.iface_host.specs.TableRefusals.{address_refusal, join_refusal, leave_refusal, list_refusal, removal_refusal}
+use Rattle.iface_host.specs.Calls.{addr_room_of, addresses_of, is_same, is_to, route_room_of, routes_of}
+use Rattle.iface_host.specs.TableRefusals.{address_refusal, addresses_refusal, join_refusal, leave_refusal, list_refusal, removal_refusal}
 use Rattle.iface_host.specs.TableRefusals.{end_refusal, route_refusal, route_removal_refusal}
 use Rattle.iface_host.specs.declared.host.Host.{Host}
 use Rattle.iface_host.specs.declared.refusal.Refusal.{Refusal}
@@ -53,11 +54,11 @@ list_told (Ok done) = None
 list_told (Err e) = Some NotUnicast
 
 -- why a join is refused, by the groups
-abbrev refused_by : List Group → IpAddress → Option Refusal
-refused_by gs a = if is_multicast a then (if is_refused gs a then Some TableFull else None) else Some BadAddress
+abbrev refused_by : ℕ → List Group → IpAddress → Option Refusal
+refused_by room gs a = if is_multicast a then (if is_refused room gs a then Some TableFull else None) else Some BadAddress
 
 join_rule : (a : IpAddress) (r : Result (Unit {0}) MulticastError) (H H' : Machine) →
-    machine.JoinsGroup a r H H' → group_told r ≡ refused_by H.groups a
+    machine.JoinsGroup a r H H' → group_told r ≡ refused_by H.group_room H.groups a
 join_rule a r H H' (NoGroup m answers same) = rw (answers, m) refl
 join_rule a r H H' (NoPlace m full answers same) = rw (answers, m, full) refl
 join_rule a r H H' (JoinTaken m room answers same) = rw (answers, m, room) refl
@@ -83,7 +84,7 @@ joined_why old i a r there f =
     let H = (there old.sockets).0 in
     let h = (there old.sockets).1 in
     let l = f old.sockets H h in
-    join_rule a r H l.host l.follows ∙ ap (λ (K : Machine). refused_by K.groups a) h.same
+    join_rule a r H l.host l.follows ∙ ap (λ (K : Machine). refused_by K.group_room K.groups a) h.same
 
 pub left_why : (old : Host) (i : Interface) (a : IpAddress) (r : Result (Unit {0}) MulticastError) → IsThere old.interface.value →
     interface.HostRefines old.interface.value i (machine.LeavesGroup a r) → left_told r ≡ leave_refusal a
@@ -101,34 +102,56 @@ list_why old i list r there f =
     let l = f old.sockets H h in
     list_rule list r H l.host l.follows
 
--- the tests of how many there are
-four : (n : ℕ) → 4 ≤ n → leb 4 n ≡ true
-four n le = le-leb 4 n le
+-- the tests of how many there are, where there is room for so many
+at_room : (room n : ℕ) → room ≤ n → leb room n ≡ true
+at_room room n le = le-leb room n le
 
-fewer : (n : ℕ) → n < 4 → leb 4 n ≡ false
-fewer n lt = by (leb 4 n) refl where
-  by : (b : Bool) → leb 4 n ≡ b → b ≡ false
-  by true e = absurd (omega (arith, leb-true 4 n e))
+fewer : (room n : ℕ) → n < room → leb room n ≡ false
+fewer room n lt = by (leb room n) refl where
+  by : (b : Bool) → leb room n ≡ b → b ≡ false
+  by true e = absurd (omega (arith, leb-true room n e))
   by false e = refl
 
-there : (i n : ℕ) → i < n → ltb i n ≡ true
+pub there : (i n : ℕ) → i < n → ltb i n ≡ true
 there i n lt = lt-ltb i n lt
 
-behind : (i n : ℕ) → n ≤ i → ltb i n ≡ false
+pub behind : (i n : ℕ) → n ≤ i → ltb i n ≡ false
 behind i n le = by (ltb i n) refl where
   by : (b : Bool) → ltb i n ≡ b → b ≡ false
   by true e = absurd (omega (arith, ltb-true i n e))
   by false e = refl
 
-pub address_full : (host : Host) (own : List IpCidr) (cidr : IpCidr) → own ≡ addresses_of host → 4 ≤ length own →
-    Some TableFull ≡ address_refusal host cidr
-address_full host own cidr is most = rw (← is, four (length own) most) refl
+-- a list that is one longer than one that leaves room, and one that is shorter than one that fits
+pub fits_one_more : (own list : List IpCidr) (cidr : IpCidr) (room : ℕ) → list ≡ own ++ cidr ∷ [] → length own < room → length list ≤ room
+fits_one_more own list cidr room is less = rw is (let l = length-append own (cidr ∷ []) in omega (arith, l, less))
 
-pub address_told : (host : Host) (own list : List IpCidr) (cidr : IpCidr) (r : Result (Unit {0}) AddrError) →
-    own ≡ addresses_of host → length own < 4 → list ≡ own ++ cidr ∷ [] → list_told r ≡ list_refusal list →
+removed_least : (own : List IpCidr) (i : ℕ) → length (remove own i) ≤ length own
+removed_least [] zero = omega arith
+removed_least [] (suc i) = omega arith
+removed_least (c ∷ own) zero = omega arith
+removed_least (c ∷ own) (suc i) = let l = removed_least own i in omega (arith, l)
+
+pub fits_one_less : (own list : List IpCidr) (i room : ℕ) → list ≡ remove own i → length own ≤ room → length list ≤ room
+fits_one_less own list i room is few = rw is (let l = removed_least own i in omega (arith, l, few))
+
+pub address_full : (host : Host) (own : List IpCidr) (cidr : IpCidr) (room : ℕ) → own ≡ addresses_of host → room ≡ addr_room_of host →
+    room ≤ length own → Some TableFull ≡ address_refusal host cidr
+address_full host own cidr room is has most = rw (← is, ← has, at_room room (length own) most) refl
+
+pub address_told : (host : Host) (own list : List IpCidr) (cidr : IpCidr) (room : ℕ) (r : Result (Unit {0}) AddrError) →
+    own ≡ addresses_of host → room ≡ addr_room_of host → length own < room → list ≡ own ++ cidr ∷ [] → list_told r ≡ list_refusal list →
     list_told r ≡ address_refusal host cidr
-address_told host own list cidr r is less pushed told =
-    rw (← is, fewer (length own) less) (told ∙ ap list_refusal pushed)
+address_told host own list cidr room r is has less pushed told =
+    rw (← is, ← has, fewer room (length own) less) (told ∙ ap list_refusal pushed)
+
+-- all addresses at once
+pub addresses_full : (host : Host) (list : List IpCidr) (room : ℕ) → room ≡ addr_room_of host → room < length list →
+    Some TableFull ≡ addresses_refusal host list
+addresses_full host list room has more = rw (← has, there room (length list) more) refl
+
+pub addresses_told : (host : Host) (list : List IpCidr) (room : ℕ) (r : Result (Unit {0}) AddrError) → room ≡ addr_room_of host →
+    length list ≤ room → list_told r ≡ list_refusal list → list_told r ≡ addresses_refusal host list
+addresses_told host list room r has few told = rw (← has, behind room (length list) few) told
 
 pub removal_none : (host : Host) (own : List IpCidr) (cidr : IpCidr) (i : ℕ) → own ≡ addresses_of host →
     i ≡ position_or_len (is_same cidr) own → length own ≤ i → Some NotThere ≡ removal_refusal host cidr
@@ -145,20 +168,20 @@ abbrev pub route_told : Result (Option Route) RouteTableFull → Option Refusal
 route_told (Ok old) = None
 route_told (Err e) = Some TableFull
 
-pub default_told : (is_kind : Route → Bool) (rs : List Route) (r : Result (Option Route) RouteTableFull) → r ≡ routes.old_or_full is_kind rs →
-    route_told r ≡ (if routes.is_refused is_kind rs then Some TableFull else None)
-default_told is_kind rs r answers = by (routes.is_refused is_kind rs) refl where
-  by : (b : Bool) → routes.is_refused is_kind rs ≡ b → route_told r ≡ (if b then Some TableFull else None)
+pub default_told : (room : ℕ) (is_kind : Route → Bool) (rs : List Route) (r : Result (Option Route) RouteTableFull) →
+    r ≡ routes.old_or_full room is_kind rs → route_told r ≡ (if routes.is_refused room is_kind rs then Some TableFull else None)
+default_told room is_kind rs r answers = by (routes.is_refused room is_kind rs) refl where
+  by : (b : Bool) → routes.is_refused room is_kind rs ≡ b → route_told r ≡ (if b then Some TableFull else None)
   by true e = rw (answers, e) refl
   by false e = rw (answers, e) refl
 
-pub route_full : (host : Host) (end : Option ℤ) (n : ℕ) → None ≡ end_refusal end →
-    n ≡ length (routes_of host) → 4 ≤ n → Some TableFull ≡ route_refusal host end
-route_full host end n none is most = rw (← none, ← is, four n most) refl
+pub route_full : (host : Host) (end : Option ℤ) → None ≡ end_refusal end → route_room_of host ≤ length (routes_of host) →
+    Some TableFull ≡ route_refusal host end
+route_full host end none most = rw (← none, at_room (route_room_of host) (length (routes_of host)) most) refl
 
-pub route_room : (host : Host) (end : Option ℤ) (n : ℕ) → None ≡ end_refusal end →
-    n ≡ length (routes_of host) → n < 4 → None ≡ route_refusal host end
-route_room host end n none is less = rw (← none, ← is, fewer n less) refl
+pub route_room : (host : Host) (end : Option ℤ) → None ≡ end_refusal end → length (routes_of host) < route_room_of host →
+    None ≡ route_refusal host end
+route_room host end none less = rw (← none, fewer (route_room_of host) (length (routes_of host)) less) refl
 
 pub route_none : (host : Host) (own : List Route) (cidr : IpCidr) (i : ℕ) → own ≡ routes_of host →
     i ≡ position_or_len (is_to cidr) own → length own ≤ i → Some NotThere ≡ route_removal_refusal host cidr

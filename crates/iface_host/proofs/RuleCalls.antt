@@ -1,5 +1,5 @@
 -- Calls that go by a rule of the machine, over plain variables.
-use Rattle.std.proofs.Common.{◌≡◌, Bool, true, false, List, Result, Ok, Err, refl, ap, sym, ◌∙◌, subst}
+use Rattle.std.proofs.Common.{◌≡◌, ◌≤◌, arith, length, ℕ, Bool, true, false, List, [], ◌∷◌, ◌++◌, Result, Ok, Err, refl, ap, sym, ◌∙◌, subst}
 use Rattle.std.specs.Box.{with_value}
 use Rattle.std.specs.Prelude.{OnErr, OnOk}
 use Rattle.ip_address.specs.declared.cidr.IpCidr.{IpCidr}
@@ -7,20 +7,27 @@ use Rattle.ip_address.specs.declared.ip.IpAddress.{IpAddress}
 use Rattle.iface_tables.specs.declared.route.Route.{Route}
 use Rattle.iface_tables.specs.declared.route.RouteTableFull.{RouteTableFull}
 use Rattle.iface_tables.specs.Route.{is_refused, old_or_full, with_default}
-use Rattle.host_machine.specs.Context.Host.{Host as Machine, SocketSet}
+use Rattle.iface_tables.specs.Store.{Stored}
+use Rattle.host_machine.specs.Context.Host.{Host as Machine, SocketSet, no_sockets}
 use Rattle.host_machine.specs.Multicast.Joins as machine
 use Rattle.host_machine.specs.Multicast.Joins.{NoGroup, NoPlace, JoinTaken, NoGroupEither, LeaveTaken}
+use Rattle.host_machine.specs.Interface.Step.{SetsIpAddrs, Set, NoRoom, NoOwn}
 use Rattle.host_machine.specs.Interface.Step.{UpdatesIpAddrs, Accepted, Refused, SetsHardwareAddr, Taken, NotTaken}
 use Rattle.host_machine.specs.declared.results.HardwareError.{HardwareError}
 use Rattle.ip_address.specs.declared.hardware.HardwareAddress.{HardwareAddress}
 use Rattle.host_machine.specs.declared.results.AddrError.{AddrError}
+use Rattle.host_machine.specs.declared.results.AddrError.TheVariants.{NotUnicast}
+use Rattle.host_machine.specs.declared.results.AddrListError.{AddrListError}
 use Rattle.host_machine.specs.declared.results.MulticastError.{MulticastError}
 use Rattle.interface.specs.Stands as interface
-use Rattle.interface.specs.Stands.{Becomes, host_with}
+use Rattle.interface.specs.Stands.{Becomes, host_with, with_routes}
+use Rattle.interface.proofs.SettingCalls.{routes_become}
 use Rattle.interface.specs.declared.interface.Interface.{Interface}
 use Rattle.iface_host.specs.declared.host.Host.{Host}
 use Rattle.iface_host.specs.declared.refusal.Refusal.{Refusal}
+use Rattle.iface_host.specs.Calls.{RemovesRoute, is_to}
 use Rattle.iface_host.specs.Stands.{Follows, Stays}
+use Rattle.std.specs.List.{position_or_len, remove}
 
 abbrev pub with_interface : Host → Interface → Host
 with_interface host i = record host { interface = with_value host.interface i }
@@ -76,26 +83,52 @@ pub addresses_refused : (list : List IpCidr) (e : AddrError) (H H' : Machine) �
 addresses_refused list e H H' (Accepted a answers same) = absurd cc
 addresses_refused list e H H' (Refused a answers same) = same
 
+-- a list that there is room for is refused for one reason alone
+sets_rule : (list : List IpCidr) (H K : Machine) → SetsIpAddrs list (Ok tt) H K → UpdatesIpAddrs list (Ok tt) H K
+sets_rule list H K (Set few a answers same) = Accepted a refl same
+sets_rule list H K (NoRoom more answers same) = absurd cc
+sets_rule list H K (NoOwn few a answers same) = absurd cc
+
+refuses_rule : (list : List IpCidr) (e : AddrListError) (H K : Machine) → length list ≤ H.addr_room → SetsIpAddrs list (Err e) H K →
+    UpdatesIpAddrs list (Err NotUnicast) H K
+refuses_rule list e H K within (Set few a answers same) = absurd cc
+refuses_rule list e H K within (NoRoom more answers same) = absurd (omega (arith, more, within))
+refuses_rule list e H K within (NoOwn few a answers same) = Refused a refl same
+
+pub put : (i j : Interface) (list : List IpCidr) → interface.HostRefines i j (SetsIpAddrs list (Ok tt)) →
+    interface.HostRefines i j (UpdatesIpAddrs list (Ok tt))
+put i j list u = λ sockets H h.
+    let l = u sockets H h in record { host = l.host; follows = sets_rule list H l.host l.follows; stands = l.stands }
+
+pub put_refused : (i j : Interface) (list : List IpCidr) (e : AddrListError) → length list ≤ (host_with i no_sockets).addr_room →
+    interface.HostRefines i j (SetsIpAddrs list (Err e)) → interface.HostRefines i j (UpdatesIpAddrs list (Err NotUnicast))
+put_refused i j list e few u = λ sockets H h.
+    let l = u sockets H h in
+    let room : (host_with i no_sockets).addr_room ≡ H.addr_room = ap (λ (K : Machine). K.addr_room) (sym h.same) in
+    record { host = l.host; follows = refuses_rule list e H l.host (rw room at few) l.follows; stands = l.stands }
+
 pub hardware_refused : (a : HardwareAddress) (e : HardwareError) (H H' : Machine) → SetsHardwareAddr a (Err e) H H' → H' ≡ H
 hardware_refused a e H H' (Taken why is answers same) = absurd cc
 hardware_refused a e H H' (NotTaken other why answers same) = same
 
 -- a default route that is refused changes no table
-pub default_refused : (is_kind : Route → Bool) (routes : List Route) (route : Route) (e : RouteTableFull) →
-    Err e ≡ old_or_full is_kind routes → with_default is_kind routes route ≡ routes
-default_refused is_kind routes route e answers = by (is_refused is_kind routes) refl where
-  by : (b : Bool) → is_refused is_kind routes ≡ b → with_default is_kind routes route ≡ routes
+pub default_refused : (room : ℕ) (is_kind : Route → Bool) (routes : List Route) (route : Route) (e : RouteTableFull) →
+    Err e ≡ old_or_full room is_kind routes → with_default room is_kind routes route ≡ routes
+default_refused room is_kind routes route e answers = by (is_refused room is_kind routes) refl where
+  by : (b : Bool) → is_refused room is_kind routes ≡ b → with_default room is_kind routes route ≡ routes
   by true is = rw is refl
   by false is = absurd (let f = rw is at answers in cc)
 
 pub default_stays : (old : Host) (i : Interface) (is_kind : Route → Bool) (route : Route) (e : RouteTableFull) →
-    ((sockets : SocketSet) → Err e ≡ old_or_full is_kind (host_with old.interface.value sockets).routes) →
-    Becomes old.interface.value i (λ H. record H { routes = with_default is_kind H.routes route }) → Stays old (with_interface old i)
+    ((sockets : SocketSet) → Err e ≡ old_or_full (host_with old.interface.value sockets).route_room is_kind
+    (host_with old.interface.value sockets).routes) →
+    Becomes old.interface.value i (λ H. record H { routes = with_default H.route_room is_kind H.routes route }) → Stays old (with_interface old i)
 default_stays old i is_kind route e answers b = record {
   led = λ H h. record {
-    host = record H { routes = with_default is_kind H.routes route };
+    host = record H { routes = with_default H.route_room is_kind H.routes route };
     follows = ap (λ (routes : List Route). record H { routes = routes })
-        (default_refused is_kind H.routes route e (answers old.sockets ∙ ap (λ (K : Machine). old_or_full is_kind K.routes) (sym h.same)));
+        (default_refused H.route_room is_kind H.routes route e (answers old.sockets
+        ∙ ap (λ (K : Machine). old_or_full K.route_room is_kind K.routes) (sym h.same)));
     stands = b old.sockets H h;
   };
   rest = refl;
@@ -128,3 +161,44 @@ routed old i f list made b = record {
   };
   rest = refl;
 }
+
+stored_same : (s t : Stored Route) → s.items ≡ t.items → s.room ≡ t.room → s ≡ t
+stored_same s t items room =
+    ap (λ (routes : List Route). record { items = routes; room = s.room }) items ∙ ap (λ (n : ℕ). record { items = t.items; room = n }) room
+
+-- one that isn't
+pub unpushed_if : (i : Interface) (was w : Stored Route) (r : Result (Unit {0}) RouteTableFull) →
+    ((sockets : SocketSet) → was.items ≡ (host_with i sockets).routes) → ((sockets : SocketSet) → was.room ≡ (host_with i sockets).route_room) →
+    OnErr r (w ≡ was) → OnErr r (with_routes i w ≡ i)
+unpushed_if i was w (Ok done) items room same = tt
+unpushed_if i was w (Err e) items room same =
+    ap (λ (s : Stored Route). with_routes i s) (same ∙ stored_same was i.context.routes (items no_sockets) (room no_sockets))
+
+-- a route that is pushed, if there is room for it
+pub pushed_if : (i : Interface) (was w : Stored Route) (route : Route) (r : Result (Unit {0}) RouteTableFull) →
+    ((sockets : SocketSet) → was.items ≡ (host_with i sockets).routes) → ((sockets : SocketSet) → was.room ≡ (host_with i sockets).route_room) →
+    OnOk r (w ≡ record was { items = was.items ++ route ∷ [] }) →
+    OnOk r (Becomes i (with_routes i w) (λ H. record H { routes = H.routes ++ route ∷ [] }))
+pushed_if i was w route (Ok done) items room pushed = λ sockets H h.
+    routes_become i w sockets H h (λ (n : ℕ) (routes : List Route). routes ++ route ∷ [])
+    (ap (λ (s : Stored Route). s.items) pushed ∙ ap (λ (routes : List Route). routes ++ route ∷ []) (items no_sockets))
+    (ap (λ (s : Stored Route). s.room) pushed ∙ room no_sockets)
+pushed_if i was w route (Err e) items room pushed = tt
+
+-- the route at an index is gone, which is that of the first one to a network
+pub removed : (old : Host) (i : Interface) (network : IpCidr) (index : ℕ) →
+    index ≡ position_or_len (is_to network) (host_with old.interface.value no_sockets).routes →
+    Becomes old.interface.value i (λ H. record H { routes = remove H.routes index }) → Follows (RemovesRoute network) old (with_interface old i)
+removed old i network index at b = record {
+  led = λ H h. record {
+    host = record H { routes = remove H.routes index };
+    follows = ap (λ (n : ℕ). record H { routes = remove H.routes n })
+        (at ∙ ap (λ (K : Machine). position_or_len (is_to network) K.routes) (sym h.same));
+    stands = b old.sockets H h;
+  };
+  rest = refl;
+}
+
+-- the interface is as it was
+pub same_host : (old : Host) (i : Interface) → i ≡ old.interface.value → Stays old (with_interface old i)
+same_host old i same = subst (λ (host : Host). Stays old host) (ap (λ (j : Interface). with_interface old j) (sym same)) (untouched old)

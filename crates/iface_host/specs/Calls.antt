@@ -1,5 +1,5 @@
 -- What the calls of a host do to the machine's host: addresses, groups and routes.
-use Rattle.std.specs.Prelude.{ℤ, ◌≡◌, ◌==◌, ◌&&◌, Bool, false, List, [], ◌∷◌, ◌++◌, Ok, Option, None}
+use Rattle.std.specs.Prelude.{ℕ, ℤ, ◌≡◌, ◌==◌, ◌&&◌, Bool, false, List, [], ◌∷◌, ◌++◌, Ok, Option, None}
 use Rattle.std.specs.List.{position_or_len, remove}
 use Rattle.ip_address.specs.declared.cidr.IpCidr.{IpCidr}
 use Rattle.ip_address.specs.declared.cidr.IpCidr.TheVariants as cidr
@@ -37,6 +37,16 @@ groups_of host = (host_with host.interface.value no_sockets).groups
 abbrev pub routes_of : Host → List Route
 routes_of host = (host_with host.interface.value no_sockets).routes
 
+-- for how many addresses, groups and routes it has room
+abbrev pub addr_room_of : Host → ℕ
+addr_room_of host = (host_with host.interface.value no_sockets).addr_room
+
+abbrev pub group_room_of : Host → ℕ
+group_room_of host = (host_with host.interface.value no_sockets).group_room
+
+abbrev pub route_room_of : Host → ℕ
+route_room_of host = (host_with host.interface.value no_sockets).route_room
+
 -- an address comes behind the others
 abbrev pub AddsAddress : IpCidr → Machine → Machine → Type 0
 AddsAddress added H = UpdatesIpAddrs (H.ip_addrs ++ added ∷ []) (Ok tt) H
@@ -55,13 +65,13 @@ JoinsGroup group = machine.JoinsGroup group (Ok tt)
 abbrev pub LeavesGroup : IpAddress → Machine → Machine → Type 0
 LeavesGroup group = machine.LeavesGroup group (Ok tt)
 
--- the routes with a default route by a gateway
-abbrev pub with_default_gateway : IpAddress → List Route → List Route
-with_default_gateway (address.Ipv4 gateway) routes = with_default is_ipv4_gateway routes (ipv4_gateway gateway)
-with_default_gateway (address.Ipv6 gateway) routes = with_default is_ipv6_gateway routes (ipv6_gateway gateway)
+-- the routes with a default route by a gateway, where there is room for so many
+abbrev pub with_default_gateway : ℕ → IpAddress → List Route → List Route
+with_default_gateway room (address.Ipv4 gateway) routes = with_default room is_ipv4_gateway routes (ipv4_gateway gateway)
+with_default_gateway room (address.Ipv6 gateway) routes = with_default room is_ipv6_gateway routes (ipv6_gateway gateway)
 
 abbrev pub SetsDefault : IpAddress → Machine → Machine → Type 0
-SetsDefault gateway H H' = H' ≡ record H { routes = with_default_gateway gateway H.routes }
+SetsDefault gateway H H' = H' ≡ record H { routes = with_default_gateway H.route_room gateway H.routes }
 
 -- a route to a network up to an end, that moment included; for good, if it has none
 abbrev pub route_to : IpCidr → IpAddress → Option ℤ → Route

@@ -14,7 +14,7 @@ use Rattle.host_machine.specs.Context.Host.{Host as Machine, are_assignable}
 use Rattle.host_machine.specs.Context.Settings.{after_address_change}
 use Rattle.host_machine.specs.declared.results.AddrError.{AddrError}
 use Rattle.host_machine.specs.declared.results.AddrError.TheVariants.{NotUnicast}
-use Rattle.iface_host.specs.Calls.{addresses_of, is_same, routes_of}
+use Rattle.iface_host.specs.Calls.{addr_room_of, addresses_of, is_same, route_room_of, routes_of}
 use Rattle.iface_host.specs.TableRefusals.{list_refusal}
 use Rattle.iface_host.specs.declared.host.Host.{Host}
 use Rattle.iface_host.specs.declared.leased.Leased.{Leased}
@@ -71,16 +71,24 @@ pub data Replaces (list : List IpCidr) (routes : List Route) (answer : Result (U
       Replaces list routes answer old new
   Kept : are_assignable list ≡ false → answer ≡ Err NotUnicast → new ≡ old → Replaces list routes answer old new
 
+-- the addresses are these, and the route by the new router stands in place of that by the old one
+abbrev pub PutsLeased : List IpCidr → Option Leased → Option Leased → Result (Unit {0}) AddrError → Machine → Machine → Type 0
+PutsLeased list old new answer H = Replaces list (routes_with old new H.routes) answer H
+
 -- what was leased is replaced by what is leased now
 abbrev pub ReplacesLeased : Option Leased → Option Leased → Machine → Machine → Type 0
 ReplacesLeased old new H = Replaces (addresses_with old new H.ip_addrs) (routes_with old new H.routes) (Ok tt) H
 
--- more than four addresses, before or behind
-abbrev pub are_many_addresses : Option Leased → Option Leased → List IpCidr → Bool
-are_many_addresses old new own = nat_lt 4 (length own) || nat_lt 4 (length (addresses_with old new own))
+-- more addresses than there is room for, and more routes
+abbrev pub are_many_addresses : ℕ → Option Leased → Option Leased → List IpCidr → Bool
+are_many_addresses room old new own = nat_lt room (length (addresses_with old new own))
+
+abbrev pub are_many_routes : ℕ → Option Leased → Option Leased → List Route → Bool
+are_many_routes room old new routes = nat_lt room (length (routes_with old new routes))
 
 -- there is no room for an address or for a route, or an address can't be an own one
 abbrev pub leased_refusal : Host → Option Leased → Option Leased → Option Refusal
 leased_refusal host old new =
-    if are_many_addresses old new (addresses_of host) || nat_lt 4 (length (routes_with old new (routes_of host)))
+    if are_many_addresses (addr_room_of host) old new (addresses_of host)
+    || are_many_routes (route_room_of host) old new (routes_of host)
     then Some TableFull else list_refusal (addresses_with old new (addresses_of host))

@@ -1,14 +1,17 @@
 -- Which host of the machine a host stands for.
-use Rattle.std.specs.Prelude.{◌≡◌, ◌≤◌, ◌<◌, false, replicate, None}
+use Rattle.std.specs.Prelude.{◌≡◌, ◌≤◌, ◌<◌, ℕ, ◌+◌, ◌*◌, ◌==◌, min, false, replicate, None, if◌then◌else◌}
 use Rattle.std.specs.Borrow.{Bor}
 use Rattle.egress_schedule.specs.Plan.{first_plan}
 use Rattle.net_base.specs.Checksum.{ip_mtu_of}
 use Rattle.socket_set.specs.SocketSet.{Storage, over}
-use Rattle.iface_tables.specs.Neighbor.{first_neighbors, room_over}
+use Rattle.iface_tables.specs.Neighbor.{room_over}
+use Rattle.iface_tables.specs.Route.{route_room_over}
+use Rattle.fragmentation.specs.Slots.{slot_room_over}
 use Rattle.iface_host.specs.Counters.{no_frames}
 use Rattle.iface_host.specs.Outbox.{empty}
 use Rattle.host_machine.specs.Interface.Config.{first_host}
-use Rattle.host_machine.specs.Context.Host.{Host as Machine, SocketSet}
+use Rattle.host_machine.specs.Context.Host.{Host as Machine, SocketSet, with_neighbor_room, with_route_room, with_slot_room}
+use Rattle.host_machine.specs.Context.Settings.{with_capacities}
 use Rattle.ip_address.specs.Hardware.{medium_of}
 use Rattle.ip_address.specs.declared.hardware.HardwareAddress.{HardwareAddress}
 use Rattle.ip_address.specs.declared.hardware.HardwareAddress.TheVariants.{Ethernet, Ip}
@@ -36,14 +39,26 @@ capabilities_of s = record {
 abbrev pub free_storage : Storage (Bor (Unit {0}))
 free_storage = record { socket = None; wait = None }
 
+-- the nodes of the trie of so many routes
+abbrev pub nodes_for : ℕ → ℕ
+nodes_for routes = if routes == 0 then 0 else 128 * routes + 2
+
+-- for how many routes there is room where a number is asked for
+abbrev pub route_room : ℕ → ℕ
+route_room routes = route_room_over (min routes 32) (nodes_for (min routes 32))
+
+-- a host with as much room in its tables, in which nothing is, as the settings say
+abbrev pub with_room : Settings → Machine → Machine
+with_room s H = with_slot_room (with_route_room (with_neighbor_room (with_capacities H s.capacities)
+    (room_over s.neighbors)) (route_room s.routes)) (slot_room_over s.fragmented)
+
 -- the machine's first host at the moment at which it begins, whose fragments wait as long as they are to, and which has
--- room for as many neighbours as it is to know
+-- as much room in its tables as it is to have
 abbrev pub first_machine : Settings → SocketSet → Machine
 first_machine s sockets =
-    record (first_host (capabilities_of s) s.hardware_addr s.random_seed s.slaac s.start sockets) {
+    with_room s (record (first_host (capabilities_of s) s.hardware_addr s.random_seed s.slaac s.start sockets) {
       reassembly_timeout = s.reassembly_timeout;
-      neighbors = first_neighbors (room_over s.neighbors);
-    }
+    })
 
 -- its guard, which is off on a medium without hardware addresses
 abbrev pub watch_on : HardwareAddress → Watch → Watch

@@ -15,7 +15,7 @@ use Rattle.iface_tables.specs.Route.{is_ipv4_gateway, is_ipv6_gateway}
 use Rattle.group_table.specs.Groups as groups
 use Rattle.socket_set.specs.SocketSet.{has_free}
 use Rattle.host_machine.specs.Context.Host.{are_assignable}
-use Rattle.iface_host.specs.Calls.{addresses_of, groups_of, is_same, is_to, routes_of, source_for}
+use Rattle.iface_host.specs.Calls.{addr_room_of, addresses_of, group_room_of, groups_of, route_room_of, is_same, is_to, routes_of, source_for}
 use Rattle.iface_host.specs.Names.{first_unused}
 use Rattle.iface_host.specs.Refusals.{moment_refusal}
 use Rattle.iface_host.specs.Stands.{capabilities_of}
@@ -47,10 +47,14 @@ settings_refusal s =
 abbrev pub list_refusal : List IpCidr → Option Refusal
 list_refusal list = if are_assignable list then None else Some NotUnicast
 
--- one more own address: four are there
+-- other own addresses: there is no room for so many, or one can't be an own one
+abbrev pub addresses_refusal : Host → List IpCidr → Option Refusal
+addresses_refusal host list = if nat_lt (addr_room_of host) (length list) then Some TableFull else list_refusal list
+
+-- one more own address: there is no room for it
 abbrev pub address_refusal : Host → IpCidr → Option Refusal
 address_refusal host cidr =
-    if nat_le 4 (length (addresses_of host)) then Some TableFull else list_refusal (addresses_of host ++ cidr ∷ [])
+    if nat_le (addr_room_of host) (length (addresses_of host)) then Some TableFull else list_refusal (addresses_of host ++ cidr ∷ [])
 
 -- an own address less: it isn't there
 abbrev pub removal_refusal : Host → IpCidr → Option Refusal
@@ -63,32 +67,32 @@ removal_refusal host cidr =
 abbrev pub place_refusal : Host → ℕ → Option Refusal
 place_refusal host place = if is_some (slice_get (addresses_of host) place) then None else Some NotThere
 
--- a group to be joined: it is no group's address; or the host isn't in it, and eight others are in the table
+-- a group to be joined: it is no group's address; or the host isn't in it, and there is no room for another
 abbrev pub join_refusal : Host → IpAddress → Option Refusal
 join_refusal host group =
-    if is_multicast group then (if groups.is_refused (groups_of host) group then Some TableFull else None)
+    if is_multicast group then (if groups.is_refused (group_room_of host) (groups_of host) group then Some TableFull else None)
     else Some BadAddress
 
 -- a group to be left: it is no group's address
 abbrev pub leave_refusal : IpAddress → Option Refusal
 leave_refusal group = if is_multicast group then None else Some BadAddress
 
--- a default route: four routes are there, and none is a default route of its family
+-- a default route: there is no room for a route, and none is a default route of its family
 abbrev pub default_route_refusal : Host → IpAddress → Option Refusal
 default_route_refusal host (Ipv4 gateway) =
-    if routes.is_refused is_ipv4_gateway (routes_of host) then Some TableFull else None
+    if routes.is_refused (route_room_of host) is_ipv4_gateway (routes_of host) then Some TableFull else None
 default_route_refusal host (Ipv6 gateway) =
-    if routes.is_refused is_ipv6_gateway (routes_of host) then Some TableFull else None
+    if routes.is_refused (route_room_of host) is_ipv6_gateway (routes_of host) then Some TableFull else None
 
 -- the end of a route, if it has one: it is no moment that a caller may give
 abbrev pub end_refusal : Option ℤ → Option Refusal
 end_refusal None = None
 end_refusal (Some end) = moment_refusal end
 
--- one more route: its end is refused, or four routes are there
+-- one more route: its end is refused, or there is no room for it
 abbrev pub route_refusal : Host → Option ℤ → Option Refusal
 route_refusal host end =
-    first_reason (end_refusal end) (if nat_le 4 (length (routes_of host)) then Some TableFull else None)
+    first_reason (end_refusal end) (if nat_le (route_room_of host) (length (routes_of host)) then Some TableFull else None)
 
 -- the route at a place: none is there
 abbrev pub route_place_refusal : Host → ℕ → Option Refusal

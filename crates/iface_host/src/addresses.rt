@@ -1,15 +1,15 @@
 //! The addresses of a host, and the groups that it joins.
-ghost use Rattle.std.specs.Prelude.{◌≡◌, ◌<◌, IfSome, IfNone, OnOk, OnErr, length, slice_get};
+ghost use Rattle.std.specs.Prelude.{◌≡◌, ◌≤◌, OnOk, OnErr, length, slice_get};
 ghost use Rattle.std.specs.Result.{result_err};
 ghost use Rattle.host_machine.specs.Interface.Step.{UpdatesIpAddrs};
 ghost use Rattle.interface.specs.Stands as stands;
-ghost use Rattle.std.specs.List.{position_or_len, remove};
-ghost use Rattle.host_machine.specs.Context.Host.{SocketSet};
+ghost use Rattle.std.specs.List.{position_or_len};
+ghost use Rattle.host_machine.specs.Context.Host.{no_sockets};
 ghost use Rattle.iface_host.specs.Calls.{is_same, AddsAddress, JoinsGroup, LeavesGroup, RemovesAddress};
 ghost use Rattle.iface_host.specs.Calls.{SetsAddresses, addresses_of, source_for};
 ghost use Rattle.iface_host.specs.Stands.{Follows, Stays};
-ghost use Rattle.iface_host.specs.TableRefusals.{address_refusal, join_refusal, leave_refusal};
-ghost use Rattle.iface_host.specs.TableRefusals.{list_refusal, removal_refusal};
+ghost use Rattle.iface_host.specs.TableRefusals.{address_refusal, addresses_refusal, join_refusal};
+ghost use Rattle.iface_host.specs.TableRefusals.{leave_refusal, removal_refusal};
 
 use crate::host::Host;
 use crate::refusal::Refusal;
@@ -18,34 +18,41 @@ use host_machine::{AddrError, MulticastError};
 use interface::Interface;
 use ip_wire::{IpAddress, IpCidr};
 
+/// The most addresses that a host can have.
+pub(crate) const MOST_ADDRESSES: usize = 16;
+
 impl Host {
-    /// Adds an own address with its network, after the others, and forgets all neighbours. `TableFull` if
-    /// four are there, else `NotUnicast` if one of them all is neither unicast nor unspecified.
+    /// Adds an own address with its network, after the others, and forgets all neighbours. `TableFull` if there is no
+    /// room for another, else `NotUnicast` if one of them all is neither unicast nor unspecified.
     pub fn add_address(&mut self, cidr: IpCidr) -> Result<(), Refusal>
         ensures added { OnOk result (Follows (AddsAddress cidr) self.old self.new) }
         ensures why { result_err result ≡ address_refusal self.old cidr }
         ensures refused { OnErr result (Stays self.old self.new) }
     {
-        let Some(mut list) = copied(self.interface.ip_addrs()) else {
-            return Err(Refusal::TableFull);
-        };
-        if list.try_push(cidr).is_err() {
+        let own = self.interface.ip_addrs();
+        let room = self.interface.addr_room();
+        if own.len() >= room {
             return Err(Refusal::TableFull);
         }
+        let mut list = copied(own, room);
+        list.push(cidr);
         self.interface.stands_for_a_host();
-        match put_addresses(&mut self.interface, list) {
+        match put_addresses(&mut self.interface, list.as_slice()) {
             Ok(()) => Ok(()),
             Err(_) => Err(Refusal::NotUnicast),
         }
     }
 
-    /// Makes a list its own addresses, with their networks, and forgets all neighbours. `NotUnicast` if one of them is
-    /// neither unicast nor unspecified.
-    pub fn set_addresses(&mut self, addresses: ArrayVec<IpCidr, 4>) -> Result<(), Refusal>
-        ensures set { OnOk result (Follows (SetsAddresses addresses.items) self.old self.new) }
-        ensures why { result_err result ≡ list_refusal addresses.items }
+    /// Makes a list its own addresses, with their networks, and forgets all neighbours. `TableFull` if there is no room for
+    /// so many, else `NotUnicast` if one of them is neither unicast nor unspecified.
+    pub fn set_addresses(&mut self, addresses: &[IpCidr]) -> Result<(), Refusal>
+        ensures set { OnOk result (Follows (SetsAddresses addresses.now) self.old self.new) }
+        ensures why { result_err result ≡ addresses_refusal self.old addresses.now }
         ensures refused { OnErr result (Stays self.old self.new) }
     {
+        if addresses.len() > self.interface.addr_room() {
+            return Err(Refusal::TableFull);
+        }
         self.interface.stands_for_a_host();
         match put_addresses(&mut self.interface, addresses) {
             Ok(()) => Ok(()),
@@ -65,15 +72,17 @@ impl Host {
         if index >= own.len() {
             return Err(Refusal::NotThere);
         }
+        let mut list = copied(own, self.interface.addr_room());
+        let _ = list.remove(index);
         self.interface.stands_for_a_host();
-        match take_address(&mut self.interface, index) {
+        match put_addresses(&mut self.interface, list.as_slice()) {
             Ok(()) => Ok(()),
             Err(_) => Err(Refusal::NotUnicast),
         }
     }
 
-    /// The own address at a place of their list, if there is one: at most four stand there, those that came from
-    /// routers too.
+    /// The own address at a place of their list, if there is one: as many stand there as there is room for at most, those
+    /// that came from routers too.
     pub fn address_at(&self, index: usize) -> Option<IpCidr>
         ensures { result ≡ slice_get (addresses_of self.now) index }
     {
@@ -89,8 +98,8 @@ impl Host {
         self.interface.get_source_address(&remote)
     }
 
-    /// Joins a group. `BadAddress` if it is no group's address, else `TableFull` if the host isn't in
-    /// it and eight other groups are there.
+    /// Joins a group. `BadAddress` if it is no group's address, else `TableFull` if the host isn't in it and there is no
+    /// room for another.
     pub fn join_group(&mut self, group: IpAddress) -> Result<(), Refusal>
         ensures joined { OnOk result (Follows (JoinsGroup group) self.old self.new) }
         ensures why { result_err result ≡ join_refusal self.old group }
@@ -150,36 +159,29 @@ pub(crate) fn index_of(list: &[IpCidr], cidr: &IpCidr) -> usize
     list.len()
 }
 
-/// The same list, if it has at most four.
-fn copied(list: &[IpCidr]) -> Option<ArrayVec<IpCidr, 4>>
-    ensures copy { IfSome result (λ copy. copy.items ≡ list.now) }
-    ensures long { IfNone result (4 < length list.now) }
+/// The same list, of no more than there is room for.
+#[inline(always)]
+pub(crate) fn copied(list: &[IpCidr], _room: usize) -> ArrayVec<IpCidr, MOST_ADDRESSES>
+    requires few { length list.now ≤ _room }
+    requires most { _room ≤ MOST_ADDRESSES }
+    ensures { result.items ≡ list.now }
 {
     let mut copy = ArrayVec::new();
-    if copy.try_extend_from_slice(list).is_err() {
-        return None;
+    let _ = copy.try_extend_from_slice(list);
+    copy
+}
+
+/// Replaces the addresses of an interface by a list that there is room for.
+pub(crate) fn put_addresses(interface: &mut Interface, list: &[IpCidr]) -> Result<(), AddrError>
+    requires { length list.now ≤ (stands.host_with interface.old no_sockets).addr_room }
+    ensures set { stands.HostRefines interface.old interface.new (UpdatesIpAddrs list.now result) }
+    ensures routes { (stands.host_with interface.new no_sockets).routes
+        ≡ (stands.host_with interface.old no_sockets).routes }
+    ensures route_room { (stands.host_with interface.new no_sockets).route_room
+        ≡ (stands.host_with interface.old no_sockets).route_room }
+{
+    match interface.set_ip_addrs(list) {
+        Ok(()) => Ok(()),
+        Err(_) => Err(AddrError::NotUnicast),
     }
-    Some(copy)
-}
-
-/// Replaces the addresses of an interface by a list.
-pub(crate) fn put_addresses(
-    interface: &mut Interface,
-    list: ArrayVec<IpCidr, 4>,
-) -> Result<(), AddrError>
-    ensures { stands.HostRefines interface.old interface.new (UpdatesIpAddrs list.items result) }
-{
-    interface.update_ip_addrs(move |_| list)
-}
-
-/// Takes the address at a place out of an interface's list.
-fn take_address(interface: &mut Interface, index: usize) -> Result<(), AddrError>
-    requires { (sockets : SocketSet) → index < length (stands.host_with interface.old sockets).ip_addrs }
-    ensures { (sockets : SocketSet) → stands.HostRefines interface.old interface.new
-        (UpdatesIpAddrs (remove (stands.host_with interface.old sockets).ip_addrs index) result) }
-{
-    interface.update_ip_addrs(move |mut list| {
-        let _ = list.remove(index);
-        list
-    })
 }

@@ -1,13 +1,14 @@
 //! The host, and how it is made.
-ghost use Rattle.std.specs.Prelude.{◌≡◌, ◌<◌, ◌≤◌, IfOk, IfErr, OnOk, OnErr, MatchResult, None, Some, replicate};
+ghost use Rattle.std.specs.Prelude.{◌≡◌, ◌<◌, ◌≤◌, IfOk, IfErr, OnOk, OnErr, None, Some, replicate, true};
 ghost use Rattle.net_base.specs.Time.{IsMoment};
 ghost use Rattle.std.specs.Result.{IsErrOf, result_err};
 ghost use Rattle.net_base.specs.Checksum.{ip_mtu_of};
-ghost use Rattle.host_machine.specs.Interface.Config.{first_host, refusal_of};
+ghost use Rattle.ip_address.specs.Hardware.{IsOf, is_unicast};
 ghost use Rattle.host_machine.specs.Context.Host as machine;
 ghost use Rattle.iface_tables.specs.Neighbor.{room_over};
-ghost use Rattle.interface.specs.Stands.{Becomes, StandsFor};
-ghost use Rattle.iface_host.specs.Stands.{IsFirst, capabilities_of, free_storage};
+ghost use Rattle.fragmentation.specs.Slots.{slot_room_over};
+ghost use Rattle.interface.specs.Stands.{Becomes};
+ghost use Rattle.iface_host.specs.Stands.{IsFirst, capabilities_of, free_storage, nodes_for, route_room, with_room};
 ghost use Rattle.iface_host.specs.TableRefusals.{settings_refusal, timeout_refusal};
 
 use crate::counters::FrameCounts;
@@ -16,12 +17,11 @@ use crate::guarded::watch_for;
 use crate::names::Names;
 use crate::outbox::Outbox;
 use crate::refusal::Refusal;
-use crate::round_device::RoundDevice;
 use egress_schedule::Schedule;
 use guard::Watch;
-use interface::{Config, Interface, NewError};
+use interface::{Capacities, Config, Interface};
 use ip_wire::HardwareAddress;
-use net_base::phy::{ChecksumCapabilities, DeviceCapabilities, Medium};
+use net_base::phy::{ChecksumCapabilities, DeviceCapabilities};
 use net_base::time::{Duration, Instant};
 use socket_set::{SocketSet, SocketStorage, SocketStorageOf};
 use std::alloc::{AllocError, Global};
@@ -31,6 +31,20 @@ pub const FRAME_LEN: usize = 1514;
 
 /// How many neighbours most hosts have room for.
 pub const NEIGHBORS: usize = 64;
+
+/// How many routes most hosts have room for.
+pub const ROUTES: usize = 8;
+
+/// How many datagrams most hosts reassemble at once.
+pub const FRAGMENTED: usize = 8;
+
+/// For how many addresses, groups, prefixes and routers most hosts have room.
+pub const CAPACITIES: Capacities = Capacities {
+    addresses: 8,
+    groups: 16,
+    prefixes: 4,
+    routers: 4,
+};
 
 /// How a host is to be made.
 #[derive(Clone, Copy, Debug, PartialEq, Eq)]
@@ -49,6 +63,12 @@ pub struct Settings {
     /// How many neighbours it knows at once, of both families together: [`NEIGHBORS`] for most. 0 is four, for which no
     /// memory is taken.
     pub neighbors: usize,
+    /// For how many addresses, groups, prefixes and routers it has room.
+    pub capacities: Capacities,
+    /// How many routes it has room for, 32 at most: [`ROUTES`] for most. 0 is four, for which no memory is taken.
+    pub routes: usize,
+    /// How many datagrams it reassembles at once: [`FRAGMENTED`] for most. 0 is two, for which no memory is taken.
+    pub fragmented: usize,
     /// How many frames the link takes one after the other, if that is bounded: the window in a segment of TCP is at most
     /// what so many carry.
     pub burst: Option<usize>,
@@ -85,8 +105,8 @@ impl Host {
     /// A host with no address, no route and no socket, at the moment at which it begins. The first error that applies is
     /// returned: `NotUnicast` if its address on Ethernet isn't unicast; `BadMtu` if its longest packet has less than 576
     /// octets, or its longest frame more than 1,514; `BadTimeout` if fragments are to wait no time, or longer than a day;
-    /// `BadMoment` if it would begin below 0 or above 2^62; `NoMemory` if memory for its interface, its neighbours or the
-    /// places of its sockets is refused.
+    /// `BadMoment` if it would begin below 0 or above 2^62; `NoMemory` if memory for its interface, its tables or the places
+    /// of its sockets is refused.
     pub fn new(alloc: Global, settings: &Settings) -> Result<Box<Host>, Refusal>
         ensures made { IfOk result (λ host. IsFirst settings.now host.value) }
         ensures why { (e : Refusal) → settings_refusal settings.now ≡ Some e → IsErrOf result e }
@@ -94,23 +114,20 @@ impl Host {
     {
         let capabilities = capabilities(settings);
         let start = check_settings(settings, capabilities.ip_mtu())?;
-        let mut outbox = Outbox::new(alloc, capabilities);
+        let outbox = Outbox::new(alloc, capabilities);
         let config = Config {
             random_seed: settings.random_seed,
             hardware_addr: settings.hardware_addr,
             slaac: settings.slaac,
         };
-        // By the settings this can't fail, nor what lets fragments wait.
-        let Ok(interface) = interface_over(&mut outbox, config, start) else {
+        let Ok(mut interface) = Box::new(alloc, Interface::over(config, capabilities, start)) else {
             return Err(Refusal::NoMemory);
         };
-        let Ok(mut interface) = Box::new(alloc, interface) else {
-            return Err(Refusal::NoMemory);
-        };
+        // By the settings this can't fail.
         let Ok(()) = let_fragments_wait(&mut interface, settings.reassembly_timeout) else {
             return Err(Refusal::NoMemory);
         };
-        let Ok(()) = make_room(&mut interface, alloc, settings.neighbors) else {
+        let Ok(()) = make_room(&mut interface, alloc, settings) else {
             return Err(Refusal::NoMemory);
         };
         let places = free_storages(alloc, settings.sockets)?;
@@ -138,42 +155,14 @@ impl Host {
     }
 }
 
-/// An interface over the device of an outbox, of which only the capabilities are read. It fails as [`Interface::new`].
-#[inline(always)]
-fn interface_over(
-    outbox: &mut Outbox,
-    config: Config,
-    start: Instant,
-) -> Result<Interface, NewError>
-    requires { IsMoment start }
-    ensures made { MatchResult result
-        (λ interface. (refusal_of outbox.old.capabilities config.hardware_addr ≡ None)
-        × ((sockets : machine.SocketSet) → StandsFor interface sockets
-        (first_host outbox.old.capabilities config.hardware_addr config.random_seed config.slaac start sockets)))
-        (λ error. refusal_of outbox.old.capabilities config.hardware_addr ≡ Some error) }
-    ensures outbox { outbox.new ≡ outbox.old }
-{
-    let mut nothing = [0u8; 0];
-    let mut device = RoundDevice {
-        outbox,
-        out: &mut nothing,
-        len: None,
-    };
-    let made = Interface::new(config, &mut device, start);
-    let RoundDevice {
-        outbox: _,
-        out: _,
-        len: _,
-    } = device;
-    made
-}
-
 /// The moment at which a host begins, if one is made by these settings. `NotUnicast`, `BadMtu`, `BadTimeout` and
 /// `BadMoment` as [`Host::new`] says.
 fn check_settings(settings: &Settings, ip_mtu: usize) -> Result<Instant, Refusal>
     requires { ip_mtu ≡ ip_mtu_of (capabilities_of settings.now) }
     ensures why { result_err result ≡ settings_refusal settings.now }
     ensures start { IfOk result (λ t. (t ≡ settings.now.start) × IsMoment t) }
+    ensures fits { OnOk result
+        ((is_unicast settings.now.hardware_addr ≡ true) × (576 ≤ ip_mtu) × (settings.now.frame_len ≤ FRAME_LEN)) }
 {
     if !settings.hardware_addr.is_unicast() {
         return Err(Refusal::NotUnicast);
@@ -190,14 +179,11 @@ fn check_settings(settings: &Settings, ip_mtu: usize) -> Result<Instant, Refusal
 
 /// What the link of a host can do.
 fn capabilities(settings: &Settings) -> DeviceCapabilities
-    ensures { result ≡ capabilities_of settings.now }
+    ensures value { result ≡ capabilities_of settings.now }
+    ensures own { IsOf result.medium settings.now.hardware_addr }
 {
-    let medium = match settings.hardware_addr {
-        HardwareAddress::Ethernet(_) => Medium::Ethernet,
-        HardwareAddress::Ip => Medium::Ip,
-    };
     DeviceCapabilities {
-        medium,
+        medium: settings.hardware_addr.medium(),
         max_transmission_unit: settings.frame_len,
         max_burst_size: settings.burst,
         checksum: settings.checksum,
@@ -225,15 +211,72 @@ pub(crate) fn let_fragments_wait(
     }
 }
 
-/// Makes room for so many neighbours, none of which is known yet; for four if it is none. It fails if memory for them is
+/// Makes room in the tables of an interface, in which nothing is yet, as the settings say. It fails if memory for them is
 /// refused.
-fn make_room(interface: &mut Interface, alloc: Global, neighbors: usize) -> Result<(), AllocError>
+fn make_room(
+    interface: &mut Interface,
+    alloc: Global,
+    settings: &Settings,
+) -> Result<(), AllocError>
+    ensures { OnOk result (Becomes interface.old interface.new (with_room settings.now)) }
+{
+    interface.set_capacities(settings.capacities);
+    make_neighbor_room(interface, alloc, settings.neighbors)?;
+    make_route_room(interface, alloc, settings.routes)?;
+    make_fragment_room(interface, alloc, settings.fragmented)?;
+    Ok(())
+}
+
+/// Makes room for so many neighbours, none of which is known yet; for four if it is none.
+fn make_neighbor_room(
+    interface: &mut Interface,
+    alloc: Global,
+    neighbors: usize,
+) -> Result<(), AllocError>
     ensures { OnOk result
         (Becomes interface.old interface.new (λ H. machine.with_neighbor_room H (room_over neighbors))) }
 {
     let storage = Vec::with_capacity(alloc, neighbors)?;
     let hints = Vec::with_capacity(alloc, neighbors)?;
     interface.set_neighbor_storage(storage, hints);
+    Ok(())
+}
+
+/// Makes room for so many routes, at most 32, none of which is there yet; for four if it is none.
+fn make_route_room(
+    interface: &mut Interface,
+    alloc: Global,
+    routes: usize,
+) -> Result<(), AllocError>
+    ensures { OnOk result (Becomes interface.old interface.new (λ H. machine.with_route_room H (route_room routes))) }
+{
+    let count = routes.min(32);
+    let storage = Vec::with_capacity(alloc, count)?;
+    let nodes = Vec::with_capacity(alloc, node_count(count))?;
+    interface.set_route_storage(storage, nodes);
+    Ok(())
+}
+
+/// How many nodes the trie of so many routes takes: none for none.
+fn node_count(routes: usize) -> usize
+    requires { routes ≤ 32 }
+    ensures { result ≡ nodes_for routes }
+{
+    if routes == 0 { 0 } else { 128 * routes + 2 }
+}
+
+/// Makes room for so many datagrams in reassembly, none of which is there yet; for two if it is none.
+fn make_fragment_room(
+    interface: &mut Interface,
+    alloc: Global,
+    fragmented: usize,
+) -> Result<(), AllocError>
+    ensures { OnOk result
+        (Becomes interface.old interface.new (λ H. machine.with_slot_room H (slot_room_over fragmented))) }
+{
+    let keys = Vec::with_capacity(alloc, fragmented)?;
+    let slots = Vec::with_capacity(alloc, fragmented)?;
+    interface.set_fragment_storage(keys, slots);
     Ok(())
 }
 

@@ -1,19 +1,19 @@
 //! What a server leases to a host: an own address of IPv4, and the router by which all else goes.
-ghost use Rattle.std.specs.Prelude.{◌≡◌, ◌≤◌, nat_lt, is_none, IfSome, OnOk, OnErr, length};
+ghost use Rattle.std.specs.Prelude.{◌≡◌, ◌≤◌, is_none, IfSome, OnOk, OnErr, length};
 ghost use Rattle.std.specs.List.{position_or_len};
 ghost use Rattle.std.specs.Result.{result_err};
-ghost use Rattle.interface.specs.Stands.{HostRefines};
+ghost use Rattle.host_machine.specs.Context.Host.{no_sockets};
+ghost use Rattle.interface.specs.Stands.{Becomes, HostRefines, host_with};
 ghost use Rattle.iface_host.specs.Leased as spec;
-ghost use Rattle.iface_host.specs.Leased.{Replaces, ReplacesLeased};
+ghost use Rattle.iface_host.specs.Leased.{PutsLeased, ReplacesLeased};
 ghost use Rattle.iface_host.specs.Stands.{Follows, Stays};
 
-use crate::addresses::{index_of, put_addresses};
+use crate::addresses::{MOST_ADDRESSES, copied, index_of, put_addresses};
 use crate::host::Host;
 use crate::refusal::Refusal;
-use crate::routes::put_routes;
 use arrayvec::ArrayVec;
 use host_machine::AddrError;
-use iface_tables::route::Route;
+use iface_tables::route::{Route, Routes};
 use interface::Interface;
 use ip_wire::{IpAddress, IpCidr, Ipv4Address, Ipv4Cidr};
 
@@ -29,7 +29,7 @@ pub struct Leased {
 impl Host {
     /// Replaces what was leased by what is leased now, in one step, and forgets all neighbours. The first own address with the
     /// old network is taken out, and the new one comes after the others; likewise the first default route by the old router,
-    /// and one by the new router. `TableFull` if more than four addresses or routes would be there, else `NotUnicast` if one of
+    /// and one by the new router. `TableFull` if there is no room for so many addresses or routes, else `NotUnicast` if one of
     /// the addresses is neither unicast nor unspecified.
     pub fn replace_leased(
         &mut self,
@@ -40,46 +40,49 @@ impl Host {
         ensures why { result_err result ≡ spec.leased_refusal self.old old.now new.now }
         ensures refused { OnErr result (Stays self.old self.new) }
     {
-        let Some(addresses) = addresses_with(self.interface.ip_addrs(), old, new) else {
+        let room = self.interface.addr_room();
+        let Some(addresses) = addresses_with(self.interface.ip_addrs(), room, old, new) else {
             return Err(Refusal::TableFull);
         };
-        let Some(routes) = routes_with(self.interface.routes().as_slice(), old, new) else {
+        let routes = self.interface.routes();
+        if count_with(routes.as_slice(), old, new) > routes.room() {
             return Err(Refusal::TableFull);
-        };
+        }
         self.interface.stands_for_a_host();
-        match put_leased(&mut self.interface, addresses, routes) {
+        match put_leased(&mut self.interface, addresses.as_slice(), old, new) {
             Ok(()) => Ok(()),
             Err(_) => Err(Refusal::NotUnicast),
         }
     }
 }
 
-/// The own addresses with the new network in place of the old one. `None` if there are more than four.
+/// The own addresses with the new network in place of the old one. `None` if there is no room for so many.
 fn addresses_with(
     own: &[IpCidr],
+    room: usize,
     old: &Option<Leased>,
     new: &Option<Leased>,
-) -> Option<ArrayVec<IpCidr, 4>>
+) -> Option<ArrayVec<IpCidr, MOST_ADDRESSES>>
+    requires few { length own.now ≤ room }
+    requires most { room ≤ MOST_ADDRESSES }
     ensures list { IfSome result (λ list. list.items ≡ spec.addresses_with old.now new.now own.now) }
-    ensures full { is_none result ≡ spec.are_many_addresses old.now new.now own.now }
+    ensures full { is_none result ≡ spec.are_many_addresses room old.now new.now own.now }
 {
-    let mut list: ArrayVec<IpCidr, 4> = ArrayVec::new();
-    if list.try_extend_from_slice(own).is_err() {
-        return None;
-    }
+    let mut list = copied(own, room);
     if let Some(old) = old {
         take_network(&mut list, &IpCidr::Ipv4(old.network));
     }
     if let Some(new) = new {
-        if list.try_push(IpCidr::Ipv4(new.network)).is_err() {
+        if list.len() >= room {
             return None;
         }
+        list.push(IpCidr::Ipv4(new.network));
     }
     Some(list)
 }
 
 /// Takes the first address with a network out of a list, if there is one.
-fn take_network(list: &mut ArrayVec<IpCidr, 4>, network: &IpCidr)
+fn take_network(list: &mut ArrayVec<IpCidr, MOST_ADDRESSES>, network: &IpCidr)
     ensures { list.new.items ≡ spec.without_network network.now list.old.items }
 {
     let index = index_of(list.as_slice(), network);
@@ -88,27 +91,31 @@ fn take_network(list: &mut ArrayVec<IpCidr, 4>, network: &IpCidr)
     }
 }
 
-/// The routes with one by the new router in place of that by the old one. `None` if there are more than four.
-fn routes_with(
-    routes: &[Route],
-    old: &Option<Leased>,
-    new: &Option<Leased>,
-) -> Option<ArrayVec<Route, 4>>
-    requires { length routes.now ≤ 4 }
-    ensures list { IfSome result (λ list. list.items ≡ spec.routes_with old.now new.now routes.now) }
-    ensures full { is_none result ≡ nat_lt 4 (length (spec.routes_with old.now new.now routes.now)) }
+/// How many routes there are with one by the new router in place of that by the old one.
+fn count_with(routes: &[Route], old: &Option<Leased>, new: &Option<Leased>) -> usize
+    requires { length routes.now ≤ 32 }
+    ensures { result ≡ length (spec.routes_with old.now new.now routes.now) }
 {
-    let mut list: ArrayVec<Route, 4> = ArrayVec::new();
-    let _ = list.try_extend_from_slice(routes);
-    if let Some(router) = router_of(old) {
-        take_route(&mut list, &router);
+    let kept = match router_of(old) {
+        Some(router) => count_without(routes, &router),
+        None => routes.len(),
+    };
+    match router_of(new) {
+        Some(_) => kept + 1,
+        None => kept,
     }
-    if let Some(router) = router_of(new) {
-        if list.try_push(Route::new_ipv4_gateway(router)).is_err() {
-            return None;
-        }
+}
+
+/// How many routes there are without the first default route by a router, if there is one.
+fn count_without(routes: &[Route], router: &Ipv4Address) -> usize
+    ensures count { result ≡ length (spec.without_router router.now routes.now) }
+    ensures most { result ≤ length routes.now }
+{
+    if index_of_router(routes, router) < routes.len() {
+        routes.len() - 1
+    } else {
+        routes.len()
     }
-    Some(list)
 }
 
 /// The router of what is leased, if there is one.
@@ -121,14 +128,25 @@ fn router_of(leased: &Option<Leased>) -> Option<Ipv4Address>
     }
 }
 
-/// Takes the first default route by a router out of a list, if there is one.
-fn take_route(list: &mut ArrayVec<Route, 4>, router: &Ipv4Address)
-    ensures { list.new.items ≡ spec.without_router router.now list.old.items }
+/// Puts the route by the new router in place of that by the old one. There must be room for it.
+fn replace_router(routes: &mut Routes, old: &Option<Leased>, new: &Option<Leased>)
+    requires { length (spec.routes_with old.now new.now routes.old.items) ≤ routes.old.room }
+    ensures { routes.new ≡ record routes.old { items = spec.routes_with old.now new.now routes.old.items } }
 {
-    let index = index_of_router(list.as_slice(), router);
-    if index < list.len() {
-        let _ = list.remove(index);
+    if let Some(router) = router_of(old) {
+        take_route_by(routes, &router);
     }
+    if let Some(router) = router_of(new) {
+        let _ = routes.push(Route::new_ipv4_gateway(router));
+    }
+}
+
+/// Takes the first default route by a router out, if there is one.
+fn take_route_by(routes: &mut Routes, router: &Ipv4Address)
+    ensures { routes.new ≡ record routes.old { items = spec.without_router router.now routes.old.items } }
+{
+    let index = index_of_router(routes.as_slice(), router);
+    let _ = routes.remove(index);
 }
 
 /// Where the first default route by a router stands, or the length.
@@ -155,17 +173,32 @@ fn is_by(router: &Ipv4Address, route: &Route) -> bool
     }
 }
 
-/// Replaces the addresses and the routes of an interface by these.
+/// Puts the route by the new router of an interface in place of that by the old one. There must be room for it.
+fn put_router(interface: &mut Interface, old: &Option<Leased>, new: &Option<Leased>)
+    requires { length (spec.routes_with old.now new.now (host_with interface.old no_sockets).routes)
+        ≤ (host_with interface.old no_sockets).route_room }
+    ensures { Becomes interface.old interface.new
+        (λ H. record H { routes = spec.routes_with old.now new.now H.routes }) }
+{
+    replace_router(interface.routes_mut(), old, new);
+}
+
+/// Replaces the addresses of an interface by these, and the route by the old router by one by the new one. There must be
+/// room for both.
 fn put_leased(
     interface: &mut Interface,
-    addresses: ArrayVec<IpCidr, 4>,
-    routes: ArrayVec<Route, 4>,
+    addresses: &[IpCidr],
+    old: &Option<Leased>,
+    new: &Option<Leased>,
 ) -> Result<(), AddrError>
-    ensures { HostRefines interface.old interface.new (Replaces addresses.items routes.items result) }
+    requires addresses { length addresses.now ≤ (host_with interface.old no_sockets).addr_room }
+    requires routes { length (spec.routes_with old.now new.now (host_with interface.old no_sockets).routes)
+        ≤ (host_with interface.old no_sockets).route_room }
+    ensures { HostRefines interface.old interface.new (PutsLeased addresses.now old.now new.now result) }
 {
     match put_addresses(interface, addresses) {
         Ok(()) => {
-            put_routes(interface, routes);
+            put_router(interface, old, new);
             Ok(())
         }
         Err(error) => Err(error),

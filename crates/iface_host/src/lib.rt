@@ -28,6 +28,7 @@ pub mod waiting;
 
 pub use counters::{Counters, FrameCounts};
 pub use host::{Host, Settings};
+pub use host_machine::Capacities;
 pub use leased::Leased;
 pub use neighbors::Known;
 pub use opening::{Room, Rooms};

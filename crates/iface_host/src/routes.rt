@@ -1,11 +1,11 @@
 //! The routes of a host.
-ghost use Rattle.std.specs.Prelude.{◌≡◌, ◌≤◌, IfOk, OnOk, OnErr, length, slice_get};
+ghost use Rattle.std.specs.Prelude.{◌≡◌, ◌++◌, ◌∷◌, [], ◌≤◌, ◌↔◌, IfOk, IsErr, OnOk, OnErr, length, slice_get};
 ghost use Rattle.std.specs.Result.{result_err};
-ghost use Rattle.host_machine.specs.Context.Host.{SocketSet};
+ghost use Rattle.host_machine.specs.Context.Host.{SocketSet, no_sockets};
 ghost use Rattle.iface_tables.specs.Route.{ipv4_gateway, ipv6_gateway, is_ipv4_gateway};
 ghost use Rattle.iface_tables.specs.Route.{is_ipv6_gateway, old_or_full, with_default};
 ghost use Rattle.interface.specs.Stands.{Becomes, host_with};
-ghost use Rattle.std.specs.List.{position_or_len};
+ghost use Rattle.std.specs.List.{position_or_len, remove};
 ghost use Rattle.iface_host.specs.Calls.{is_to, AddsRoute, RemovesRoute, SetsDefault, routes_of};
 ghost use Rattle.iface_host.specs.Stands.{Follows, Stays};
 ghost use Rattle.iface_host.specs.TableRefusals.{default_route_refusal, end_refusal};
@@ -15,7 +15,6 @@ use crate::addresses::is_same_cidr;
 use crate::frames::moment;
 use crate::host::Host;
 use crate::refusal::Refusal;
-use arrayvec::ArrayVec;
 use iface_tables::route::{Route, RouteTableFull};
 use interface::Interface;
 use ip_wire::{IpAddress, IpCidr, Ipv4Address, Ipv6Address};
@@ -23,7 +22,7 @@ use net_base::time::Instant;
 
 impl Host {
     /// Puts a default route by a gateway after all other routes, in place of the first of the gateway's family.
-    /// `TableFull` if four routes are there and none is such.
+    /// `TableFull` if there is no room for another route and none is such.
     pub fn set_default_route(&mut self, gateway: IpAddress) -> Result<(), Refusal>
         ensures set { OnOk result (Follows (SetsDefault gateway) self.old self.new) }
         ensures why { result_err result ≡ default_route_refusal self.old gateway }
@@ -41,8 +40,8 @@ impl Host {
         }
     }
 
-    /// The route at a place of their list, if there is one: at most four stand there, those from routers and those whose
-    /// end has passed too.
+    /// The route at a place of their list, if there is one: those from routers and those whose end has passed stand there
+    /// too.
     pub fn route_at(&self, index: usize) -> Option<Route>
         ensures { result ≡ slice_get (routes_of self.now) index }
     {
@@ -50,7 +49,7 @@ impl Host {
     }
 
     /// Puts a route to a network by a router after all others. It is used up to an end in microseconds, that moment
-    /// included, or for good. `BadMoment` if the end is out of range, else `TableFull` if four routes are there.
+    /// included, or for good. `BadMoment` if the end is out of range, else `TableFull` if there is no room for another.
     pub fn add_route(
         &mut self,
         cidr: IpCidr,
@@ -62,18 +61,16 @@ impl Host {
         ensures refused { OnErr result (Stays self.old self.new) }
     {
         let expires_at = moment_of_end(end)?;
-        let mut list = copied(self.interface.routes().as_slice());
         let route = Route {
             cidr,
             via_router,
             preferred_until: None,
             expires_at,
         };
-        if list.try_push(route).is_err() {
-            return Err(Refusal::TableFull);
+        match push_route(&mut self.interface, route) {
+            Ok(()) => Ok(()),
+            Err(_) => Err(Refusal::TableFull),
         }
-        put_routes(&mut self.interface, list);
-        Ok(())
     }
 
     /// Takes out the first route to a network. `NotThere` if there is none.
@@ -82,13 +79,12 @@ impl Host {
         ensures why { result_err result ≡ route_removal_refusal self.old cidr }
         ensures refused { OnErr result (Stays self.old self.new) }
     {
-        let mut list = copied(self.interface.routes().as_slice());
-        let index = index_of(list.as_slice(), &cidr);
-        if index >= list.len() {
+        let routes = self.interface.routes().as_slice();
+        let index = index_of(routes, &cidr);
+        if index >= routes.len() {
             return Err(Refusal::NotThere);
         }
-        let _ = list.remove(index);
-        put_routes(&mut self.interface, list);
+        take_route(&mut self.interface, index);
         Ok(())
     }
 }
@@ -123,21 +119,22 @@ fn index_of(list: &[Route], cidr: &IpCidr) -> usize
     list.len()
 }
 
-/// The same list.
-fn copied(list: &[Route]) -> ArrayVec<Route, 4>
-    requires { length list.now ≤ 4 }
-    ensures { result.items ≡ list.now }
+/// Puts a route after all others of an interface, if there is room for it.
+fn push_route(interface: &mut Interface, route: Route) -> Result<(), RouteTableFull>
+    ensures refused { IsErr result ↔ ((host_with interface.old no_sockets).route_room
+        ≤ length (host_with interface.old no_sockets).routes) }
+    ensures pushed { OnOk result (Becomes interface.old interface.new
+        (λ H. record H { routes = H.routes ++ route ∷ [] })) }
+    ensures kept { OnErr result (interface.new ≡ interface.old) }
 {
-    let mut copy = ArrayVec::new();
-    let _ = copy.try_extend_from_slice(list);
-    copy
+    interface.routes_mut().push(route)
 }
 
-/// Replaces the routes of an interface by a list.
-pub(crate) fn put_routes(interface: &mut Interface, list: ArrayVec<Route, 4>)
-    ensures { Becomes interface.old interface.new (λ H. record H { routes = list.items }) }
+/// Takes the route at an index out of an interface's, if there is one.
+fn take_route(interface: &mut Interface, index: usize)
+    ensures { Becomes interface.old interface.new (λ H. record H { routes = remove H.routes index }) }
 {
-    interface.routes_mut().update(move |_| list);
+    let _ = interface.routes_mut().remove(index);
 }
 
 /// Puts a default route of IPv4 after all others, in place of the first one.
@@ -146,9 +143,10 @@ fn add_default_ipv4_route(
     gateway: Ipv4Address,
 ) -> Result<Option<Route>, RouteTableFull>
     ensures answer { (sockets : SocketSet) →
-        result ≡ old_or_full is_ipv4_gateway (host_with interface.old sockets).routes }
+        result ≡ old_or_full (host_with interface.old sockets).route_room is_ipv4_gateway
+        (host_with interface.old sockets).routes }
     ensures table { Becomes interface.old interface.new
-        (λ H. record H { routes = with_default is_ipv4_gateway H.routes (ipv4_gateway gateway) }) }
+        (λ H. record H { routes = with_default H.route_room is_ipv4_gateway H.routes (ipv4_gateway gateway) }) }
 {
     interface.routes_mut().add_default_ipv4_route(gateway)
 }
@@ -159,9 +157,10 @@ fn add_default_ipv6_route(
     gateway: Ipv6Address,
 ) -> Result<Option<Route>, RouteTableFull>
     ensures answer { (sockets : SocketSet) →
-        result ≡ old_or_full is_ipv6_gateway (host_with interface.old sockets).routes }
+        result ≡ old_or_full (host_with interface.old sockets).route_room is_ipv6_gateway
+        (host_with interface.old sockets).routes }
     ensures table { Becomes interface.old interface.new
-        (λ H. record H { routes = with_default is_ipv6_gateway H.routes (ipv6_gateway gateway) }) }
+        (λ H. record H { routes = with_default H.route_room is_ipv6_gateway H.routes (ipv6_gateway gateway) }) }
 {
     interface.routes_mut().add_default_ipv6_route(gateway)
 }

@@ -26,6 +26,21 @@ pub struct Config {
     /// How many neighbours it knows at once, of both versions together, in memory that is taken at once. 0 is four,
     /// without such memory. smoltcp sets this when it is compiled.
     pub neighbors: u32,
+    /// For how many own addresses there is room, those from routers included: 4 to 16. Less is 4, more is 16. smoltcp
+    /// sets this and the next five when it is compiled.
+    pub addresses: u32,
+    /// For how many routes there is room, at most 32, in memory that is taken at once. 0 is four, without such memory.
+    pub routes: u32,
+    /// For how many groups there is room, at most 16. On Ethernet the solicited-node groups of own IPv6 addresses are
+    /// among them.
+    pub groups: u32,
+    /// How many prefixes of routers are kept, at most 8.
+    pub prefixes: u32,
+    /// How many routers are kept, at most 8.
+    pub routers: u32,
+    /// How many packets in fragments are put together at a time, in memory that is taken at once. 0 is two, without such
+    /// memory.
+    pub fragmented: u32,
     /// How long a packet waits for a neighbour that doesn't answer, before it is given up. Zero is for ever, as in
     /// smoltcp: then one such packet stops its socket.
     pub patience: Duration,
@@ -39,8 +54,9 @@ pub struct Config {
 }
 
 impl Config {
-    /// What most programs want, but for the seed, which is 0: 8 sockets, 64 neighbours, no addresses from routers, a
-    /// patience of three seconds, ten seconds for fragments, and a guard. It is what `iface_config_init` writes.
+    /// What most programs want, but for the seed, which is 0: 8 sockets, room for 64 neighbours, 8 addresses, 8 routes and
+    /// 16 groups, 4 prefixes, 4 routers and 8 packets in fragments, no addresses from routers, a patience of three
+    /// seconds, ten seconds for fragments, and a guard. It is what `iface_config_init` writes.
     pub fn new(hardware_addr: HardwareAddress) -> Config {
         let settings = Settings::new(hardware_addr);
         Config {
@@ -49,6 +65,12 @@ impl Config {
             slaac: settings.slaac,
             sockets: settings.sockets,
             neighbors: settings.neighbors,
+            addresses: settings.addresses,
+            routes: settings.routes,
+            groups: settings.groups,
+            prefixes: settings.prefixes,
+            routers: settings.routers,
+            fragmented: settings.fragmented,
             patience: settings.patience,
             reassembly_timeout: settings.reassembly_timeout,
             guard: settings.guard,
@@ -64,6 +86,12 @@ impl Config {
         settings.slaac = self.slaac;
         settings.sockets = self.sockets.saturating_add(TCP_SOCKETS);
         settings.neighbors = self.neighbors;
+        settings.addresses = self.addresses;
+        settings.routes = self.routes;
+        settings.groups = self.groups;
+        settings.prefixes = self.prefixes;
+        settings.routers = self.routers;
+        settings.fragmented = self.fragmented;
         settings.patience = self.patience;
         settings.reassembly_timeout = self.reassembly_timeout;
         settings.guard = self.guard;
@@ -97,7 +125,7 @@ pub enum PollIngressSingleResult {
 /// Why a group isn't joined or left.
 #[derive(Clone, Copy, Debug, PartialEq, Eq)]
 pub enum MulticastError {
-    /// There are eight.
+    /// There is no room for another.
     GroupTableFull,
     /// The address is no group's.
     Unaddressable,
@@ -162,6 +190,8 @@ pub struct Interface {
     given_up: u64,
     /// Whether a client of DHCP has an event, or one of DNS a result, that wasn't told by `sockets_changed`.
     is_news: bool,
+    addr_room: usize,
+    route_room: usize,
 }
 
 impl Interface {
@@ -186,6 +216,8 @@ impl Interface {
             out: Box::new([0; FRAME_ROOM]),
             given_up: 0,
             is_news: false,
+            addr_room: config.addresses.clamp(4, 16) as usize,
+            route_room: if config.routes == 0 { 4 } else { config.routes.min(32) as usize },
         })
     }
 
@@ -214,7 +246,7 @@ impl Interface {
 
     /// Its addresses with their networks, those from routers included: a copy.
     pub fn ip_addrs(&self) -> Addresses {
-        self.host.with(Addresses::of)
+        self.host.with(|host| Addresses::of(host, self.addr_room))
     }
 
     /// Its first IPv4 address.
@@ -328,12 +360,12 @@ impl Interface {
 
     /// Its routes, those from routers included, and those whose end has passed: a copy.
     pub fn routes(&self) -> RouteList {
-        self.host.with(RouteList::of)
+        self.host.with(|host| RouteList::of(host, self.route_room))
     }
 
     /// Its routes, to be changed.
     pub fn routes_mut(&mut self) -> Routes<'_> {
-        Routes { host: &self.host }
+        Routes { host: &self.host, room: self.route_room }
     }
 
     /// Takes the frames that a device has, sends what is to be sent, as long as the device gives permission, and tells

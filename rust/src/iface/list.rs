@@ -4,11 +4,11 @@ use crate::wire::{IpAddress, IpCidr, Ipv4Address};
 use core::fmt;
 use core::ops::{Deref, DerefMut};
 
-/// How many addresses there may be.
-pub const IFACE_MAX_ADDR_COUNT: usize = 4;
+/// How many addresses there may be, at most: [`Config::addresses`](super::Config::addresses) sets it.
+pub const IFACE_MAX_ADDR_COUNT: usize = 16;
 
-/// How many routes there may be.
-pub const IFACE_MAX_ROUTE_COUNT: usize = 4;
+/// How many routes there may be, at most: [`Config::routes`](super::Config::routes) sets it.
+pub const IFACE_MAX_ROUTE_COUNT: usize = 32;
 
 /// A list of own addresses with their networks: a copy, which [`update_ip_addrs`](super::Interface::update_ip_addrs)
 /// lends to be changed.
@@ -17,17 +17,19 @@ pub type Addresses = List<IpCidr, IFACE_MAX_ADDR_COUNT>;
 /// A list of routes: a copy, which [`Routes::update`](super::Routes::update) lends to be changed.
 pub type RouteList = List<Route, IFACE_MAX_ROUTE_COUNT>;
 
-/// A list of at most `N` items. It derefs to a slice of them.
+/// A list of as many items as there is room for, at most `N`. It derefs to a slice of them.
 #[derive(Clone, Copy)]
 pub struct List<T, const N: usize> {
     places: [T; N],
     len: usize,
+    room: usize,
 }
 
 impl<T: Copy, const N: usize> List<T, N> {
-    /// What `at` returns for the indices from 0 on, until it returns none. What stands beyond isn't read.
-    pub(crate) fn read(place: T, mut at: impl FnMut(u32) -> Option<T>) -> List<T, N> {
-        let mut list = List { places: [place; N], len: 0 };
+    /// What `at` returns for the indices from 0 on, until it returns none, with room for so many, at most `N`. What stands
+    /// beyond isn't read.
+    pub(crate) fn read(room: usize, place: T, mut at: impl FnMut(u32) -> Option<T>) -> List<T, N> {
+        let mut list = List { places: [place; N], len: 0, room: room.min(N) };
         for index in 0.. {
             match at(index) {
                 Some(item) if list.push(item).is_ok() => {}
@@ -42,7 +44,7 @@ impl<T: Copy, const N: usize> List<T, N> {
     /// # Errors
     /// The item.
     pub fn push(&mut self, item: T) -> Result<(), T> {
-        *self.places.get_mut(self.len).ok_or(item)? = item;
+        *self.places[..self.room].get_mut(self.len).ok_or(item)? = item;
         self.len += 1;
         Ok(())
     }
@@ -82,16 +84,16 @@ impl<T: Copy, const N: usize> List<T, N> {
 }
 
 impl Addresses {
-    /// The own addresses of a host.
-    pub(super) fn of(host: &mut Host) -> Addresses {
-        List::read(IpCidr::new(IpAddress::v4(0, 0, 0, 0), 0), |index| host.address_at(index))
+    /// The own addresses of a host, with room for so many.
+    pub(super) fn of(host: &mut Host, room: usize) -> Addresses {
+        List::read(room, IpCidr::new(IpAddress::v4(0, 0, 0, 0), 0), |index| host.address_at(index))
     }
 }
 
 impl RouteList {
-    /// The routes of a host.
-    pub(super) fn of(host: &mut Host) -> RouteList {
-        List::read(Route::new_ipv4_gateway(Ipv4Address::UNSPECIFIED), |index| host.route_at(index))
+    /// The routes of a host, with room for so many.
+    pub(super) fn of(host: &mut Host, room: usize) -> RouteList {
+        List::read(room, Route::new_ipv4_gateway(Ipv4Address::UNSPECIFIED), |index| host.route_at(index))
     }
 
     /// The first default route of IPv4.

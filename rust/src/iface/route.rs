@@ -5,7 +5,7 @@ use crate::shared::Shared;
 use crate::wire::{IpAddress, IpCidr, Ipv4Address, Ipv6Address};
 use core::fmt;
 
-/// There are four routes.
+/// There is no room for another route.
 #[derive(Clone, Copy, Debug, PartialEq, Eq)]
 pub struct RouteTableFull;
 
@@ -21,6 +21,7 @@ impl core::error::Error for RouteTableFull {}
 #[derive(Debug)]
 pub struct Routes<'a> {
     pub(super) host: &'a Shared,
+    pub(super) room: usize,
 }
 
 impl Routes<'_> {
@@ -48,7 +49,7 @@ impl Routes<'_> {
         let mut new = old;
         f(&mut new);
         self.host.with(|host| {
-            // The old ones are there, and four have room.
+            // The old ones are there, and there is room for as many as the list takes.
             for route in old.iter() {
                 let _ = host.remove_route(route.cidr);
             }
@@ -61,7 +62,7 @@ impl Routes<'_> {
     /// Sets the default route of IPv4, behind all others, and returns the first one that was there, which it replaces.
     ///
     /// # Errors
-    /// [`RouteTableFull`] if four others are there.
+    /// [`RouteTableFull`] if there is no room for another.
     pub fn add_default_ipv4_route(&mut self, gateway: Ipv4Address) -> Result<Option<Route>, RouteTableFull> {
         let old = self.get_default_ipv4_route();
         self.host.with(|host| host.set_default_route(gateway.into())).map_err(|_| RouteTableFull)?;
@@ -71,7 +72,7 @@ impl Routes<'_> {
     /// Sets the default route of IPv6, behind all others, and returns the first one that was there, which it replaces.
     ///
     /// # Errors
-    /// [`RouteTableFull`] if four others are there.
+    /// [`RouteTableFull`] if there is no room for another.
     pub fn add_default_ipv6_route(&mut self, gateway: Ipv6Address) -> Result<Option<Route>, RouteTableFull> {
         let old = self.get_default_ipv6_route();
         self.host.with(|host| host.set_default_route(gateway.into())).map_err(|_| RouteTableFull)?;
@@ -116,6 +117,6 @@ impl Routes<'_> {
     }
 
     fn list(&self) -> RouteList {
-        self.host.with(RouteList::of)
+        self.host.with(|host| RouteList::of(host, self.room))
     }
 }

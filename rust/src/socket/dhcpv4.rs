@@ -45,7 +45,7 @@ impl Config {
             server: ServerInfo { address: lease.server, identifier: lease.server },
             address: lease.address,
             router: lease.router,
-            dns_servers: List::read(Ipv4Address::UNSPECIFIED, name_server),
+            dns_servers: List::read(usize::MAX, Ipv4Address::UNSPECIFIED, name_server),
         }
     }
 }

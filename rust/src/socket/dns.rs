@@ -137,7 +137,7 @@ pub struct Socket<'a> {
 
 /// The first servers of a list, as many as there may be.
 fn first_of(servers: &[IpAddress]) -> List<IpAddress, MAX_SERVER_COUNT> {
-    List::read(IpAddress::Ipv4(Ipv4Address::UNSPECIFIED), |index| servers.get(index as usize).copied())
+    List::read(usize::MAX, IpAddress::Ipv4(Ipv4Address::UNSPECIFIED), |index| servers.get(index as usize).copied())
 }
 
 impl<'a> Socket<'a> {
@@ -330,7 +330,7 @@ fn check(name: &str) -> Result<(), StartQueryError> {
 }
 
 fn found_of(addresses: &[Option<IpAddress>; MAX_ADDRESS_COUNT]) -> Found {
-    List::read(IpAddress::Ipv4(Ipv4Address::UNSPECIFIED), |index| *addresses.get(index as usize)?)
+    List::read(usize::MAX, IpAddress::Ipv4(Ipv4Address::UNSPECIFIED), |index| *addresses.get(index as usize)?)
 }
 
 /// A key of the operating system's random numbers.

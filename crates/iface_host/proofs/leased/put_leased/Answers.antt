@@ -1,10 +1,13 @@
 use Rattle.iface_host.proofs.LeasedCalls.{kept, replaced}
 use Rattle.iface_host.proofs.leased.put_leased.Goals as goal
 
+pub put_router-requires : goal.put_router-requires
+put_router-requires c = rw (← c.put_addresses.ensures.routes, ← c.put_addresses.ensures.route_room) at c.requires.routes
+
 pub returns-in-Ok : goal.returns-in-Ok
-returns-in-Ok c = replaced c.args.interface.now c.put_addresses.new.interface c.put_routes.new.interface c.args.addresses.items c.args.routes.items
-    (rw c.in-Ok.is at c.put_addresses.ensures) c.put_routes.ensures
+returns-in-Ok c = replaced c.args.interface.now c.put_addresses.new.interface c.put_router.new.interface c.args.addresses.now
+    c.args.old.now c.args.new.now (rw c.in-Ok.is at c.put_addresses.ensures.set) c.put_router.ensures
 
 pub returns-in-Err : goal.returns-in-Err
-returns-in-Err c = kept c.args.interface.now c.put_addresses.new.interface c.args.addresses.items c.args.routes.items c.in-Err.error
-    (rw c.in-Err.is at c.put_addresses.ensures)
+returns-in-Err c = kept c.args.interface.now c.put_addresses.new.interface c.args.addresses.now c.args.old.now c.args.new.now c.in-Err.error
+    (rw c.in-Err.is at c.put_addresses.ensures.set)

@@ -1,19 +1,19 @@
-use Rattle.std.proofs.Common.{List, refl, ap, ◌∙◌}
+use Rattle.std.proofs.Common.{ℕ, List, ap, ◌∙◌}
+use Rattle.host_machine.specs.Context.Host.{no_sockets}
 use Rattle.iface_tables.specs.declared.route.Route.{Route}
-use Rattle.iface_tables.specs.Route.{is_ipv4_gateway, ipv4_gateway, old_or_full, with_default}
-use Rattle.iface_context.specs.Stands.{host_of}
-use Rattle.interface.specs.Stands.{with_routes}
-use Rattle.interface.proofs.SettingCalls.{becomes}
+use Rattle.iface_tables.specs.Route.{is_ipv4_gateway, ipv4_gateway, with_default}
+use Rattle.iface_tables.specs.Store.{Stored}
+use Rattle.interface.proofs.SettingCalls.{routes_become}
 use Rattle.iface_host.proofs.routes.add_default_ipv4_route.Goals as goal
 
 pub returns-clause-answer : goal.returns-clause-answer
-returns-clause-answer c = λ sockets. c.add_default_ipv4_route.ensures.answer
-    ∙ ap (λ (routes : List Route). old_or_full is_ipv4_gateway routes) (c.routes_mut.ensures.value sockets)
+returns-clause-answer c = λ sockets.
+    rw (c.routes_mut.ensures.items sockets, c.routes_mut.ensures.room sockets) at c.add_default_ipv4_route.ensures.answer
 
 pub returns-clause-table : goal.returns-clause-table
-returns-clause-table c =
-    λ sockets H h. becomes c.args.interface.now.context (with_routes c.args.interface.now c.add_default_ipv4_route.new.self).context
-    c.args.interface.now.fragments sockets H h (λ K. record K { routes = with_default is_ipv4_gateway K.routes (ipv4_gateway c.args.gateway) })
-    (ap (λ (routes : List Route). host_of (with_routes c.args.interface.now routes).context sockets)
-    (c.add_default_ipv4_route.ensures.table ∙ ap (λ (routes : List Route). with_default is_ipv4_gateway routes (ipv4_gateway c.args.gateway))
-    (c.routes_mut.ensures.value sockets))) (λ K slots. refl)
+returns-clause-table c = λ sockets H h.
+    routes_become c.args.interface.now c.add_default_ipv4_route.new.self sockets H h
+    (λ (room : ℕ) (routes : List Route). with_default room is_ipv4_gateway routes (ipv4_gateway c.args.gateway))
+    (rw (c.routes_mut.ensures.items no_sockets, c.routes_mut.ensures.room no_sockets) at
+    (ap (λ (s : Stored Route). s.items) c.add_default_ipv4_route.ensures.table))
+    (ap (λ (s : Stored Route). s.room) c.add_default_ipv4_route.ensures.table ∙ c.routes_mut.ensures.room no_sockets)

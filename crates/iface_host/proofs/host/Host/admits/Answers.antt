@@ -13,7 +13,7 @@ use Rattle.iface_host.proofs.host.Host.admits.Goals as goal
 
 pub returns-clause-admitted : goal.returns-clause-admitted
 returns-clause-admitted c =
-    let own : c.ip_addrs-own.result.now ≡ addresses_of c.args.self.now = rw c.deref.ensures at (c.ip_addrs-own.ensures no_sockets) in
+    let own : c.ip_addrs-own.result.now ≡ addresses_of c.args.self.now = rw c.deref.ensures at (c.ip_addrs-own.ensures.value no_sockets) in
     let known : c.neighbors-neighbors.result.now ≡ (machine_of c.args.self.now).neighbors = rw c.deref-2.ensures at (c.neighbors-neighbors.ensures no_sockets) in
     let hardware : c.hardware_addr-hardware.result ≡ hardware_addr_of c.args.self.now = rw c.deref-3.ensures at (c.hardware_addr-hardware.ensures no_sockets) in
     c.admits.ensures.admitted
@@ -21,7 +21,7 @@ returns-clause-admitted c =
 
 pub returns-clause-rest : goal.returns-clause-rest
 returns-clause-rest c =
-    let own : c.ip_addrs-own.result.now ≡ addresses_of c.args.self.now = rw c.deref.ensures at (c.ip_addrs-own.ensures no_sockets) in
+    let own : c.ip_addrs-own.result.now ≡ addresses_of c.args.self.now = rw c.deref.ensures at (c.ip_addrs-own.ensures.value no_sockets) in
     let known : c.neighbors-neighbors.result.now ≡ (machine_of c.args.self.now).neighbors = rw c.deref-2.ensures at (c.neighbors-neighbors.ensures no_sockets) in
     let hardware : c.hardware_addr-hardware.result ≡ hardware_addr_of c.args.self.now = rw c.deref-3.ensures at (c.hardware_addr-hardware.ensures no_sockets) in
     arrives_as c.args.now c.args.frame.now _ _ hardware _ _ own _ _ known no_waits no_waits refl c.args.self.now c.admits.new.self

@@ -8,7 +8,7 @@ use Rattle.iface_host.proofs.host.Host.poll_streams.Goals as goal
 
 pub returns-clause-polled : goal.returns-clause-polled
 returns-clause-polled c =
-    let own : c.ip_addrs.result.now ≡ addresses_of c.args.self.now = rw c.deref-interface.ensures at (c.ip_addrs.ensures no_sockets) in
+    let own : c.ip_addrs.result.now ≡ addresses_of c.args.self.now = rw c.deref-interface.ensures at (c.ip_addrs.ensures.value no_sockets) in
     let now : pos c.in_ok-micros.micros ≡ c.args.now = search rules in
     let known =
     polls_as _ (IsKnownAt c.args.self.now.interface.value) c.in_ok-micros.micros c.ip_addrs.result.now

@@ -6,4 +6,4 @@ use Rattle.iface_host.proofs.host.Host.route_at.Goals as goal
 
 pub returns : goal.returns
 returns c = c.route_in.ensures
-    ∙ ap (λ (list : List Route). slice_get list c.args.index) (c.as_slice.ensures.value ∙ rw c.deref.ensures at (c.routes.ensures no_sockets))
+    ∙ ap (λ (list : List Route). slice_get list c.args.index) (c.as_slice.ensures.value ∙ rw c.deref.ensures at (c.routes.ensures.items no_sockets))
