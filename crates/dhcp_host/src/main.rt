@@ -15,6 +15,7 @@ use net_base::MemoryDevice;
 use net_base::phy::{ChecksumCapabilities, DeviceCapabilities, Medium};
 use net_base::time::Instant;
 use sockets::{Queue, raw, udp};
+use std::alloc::Global;
 use std::io::Print;
 
 /// Its link: Ethernet, with frames of at most 1514 octets.
@@ -38,23 +39,14 @@ fn main(rt: HostRuntime) -> Result<()> {
     let mut device = MemoryDevice::new(alloc, CAPABILITIES);
     let mut interface = Interface::new(Config::new(HARDWARE.into()), &mut device, Instant::ZERO)?;
     let mut sockets = SocketSet::new(Vec::new(alloc));
-    let (rx, tx) = (Queue::new(alloc, 4, 4096)?, Queue::new(alloc, 1, 1472)?);
-    let udp = sockets.add(udp::Socket::new(68.into(), rx, tx))?;
-    let (rx, tx) = (Queue::new(alloc, 0, 0)?, Queue::new(alloc, 1, 1500)?);
-    let raw = sockets.add(raw::Socket::new(IpVersion::Ipv4, IpProtocol::Udp, rx, tx))?;
+    let (udp, raw) = add_sockets(alloc, &mut sockets)?;
     let mut client = DhcpClient::new(HARDWARE, None);
     let mut room = DhcpRoom::new();
     let mut own = None;
     for line in rt.lines(alloc) {
-        let line = line?;
-        let mut words = line.as_str().split_whitespace();
-        let millis: u32 = words.next().unwrap_or("").parse()?;
+        let millis = take_line(alloc, line?.as_str(), &mut device)?;
         let now = u64::from(millis) * 1_000;
         let moment = moment_of(millis);
-        if let Some(frame) = words.next() {
-            let octets = hex::decode(alloc, frame)?;
-            device.push(&octets)?;
-        }
         interface.poll(moment, &mut device, &mut sockets, BUDGET);
         hear(&mut client, &mut sockets, udp);
         let message = client.next_message(now, RANDOM);
@@ -66,9 +58,34 @@ fn main(rt: HostRuntime) -> Result<()> {
             apply(&rt, event, &mut own, &mut interface)?;
         }
         interface.poll(moment, &mut device, &mut sockets, BUDGET);
-        for frame in device.take_sent() {
-            println!(rt; "{}", hex::encode(alloc, &frame)?)?;
-        }
+        write_sent(&rt, alloc, &mut device)?;
+    }
+    Ok(())
+}
+
+/// Opens the sockets of a client: one at its port, and one for packets to all servers.
+fn add_sockets(alloc: Global, sockets: &mut SocketSet<'_>) -> Result<(SocketHandle, SocketHandle)> {
+    let (rx, tx) = (Queue::new(alloc, 4, 4096)?, Queue::new(alloc, 1, 1472)?);
+    let udp = sockets.add(udp::Socket::new(68.into(), rx, tx))?;
+    let (rx, tx) = (Queue::new(alloc, 0, 0)?, Queue::new(alloc, 1, 1500)?);
+    let raw = sockets.add(raw::Socket::new(IpVersion::Ipv4, IpProtocol::Udp, rx, tx))?;
+    Ok((udp, raw))
+}
+
+/// Reads a line: its time in milliseconds, which is returned, and maybe a frame, which the device gets.
+fn take_line(alloc: Global, line: &str, device: &mut MemoryDevice) -> Result<u32> {
+    let mut words = line.split_whitespace();
+    let millis = words.next().unwrap_or("").parse()?;
+    if let Some(frame) = words.next() {
+        device.push(&hex::decode(alloc, frame)?)?;
+    }
+    Ok(millis)
+}
+
+/// Prints the frames that were sent.
+fn write_sent(rt: &impl Print, alloc: Global, device: &mut MemoryDevice) -> Result<()> {
+    for frame in device.take_sent() {
+        println!(rt; "{}", hex::encode(alloc, &frame)?)?;
     }
     Ok(())
 }

@@ -12,21 +12,34 @@ use line_host::host::LineHost;
 use line_host::limits::Limits;
 use line_host::line::Line;
 use pages::Pages;
-use std::io::{BufRead, BufReader, BufWriter};
+use std::alloc::Global;
+use std::io::{BufRead, BufReader, BufWriter, Write};
 
 fn main(rt: HostRuntime) -> Result<()> {
     let alloc = rt.alloc();
-    let mut output = BufWriter::new(alloc, rt.stdout())?;
     let limits = Limits::of_arguments(&rt)?;
+    let mut output = BufWriter::new(alloc, rt.stdout())?;
+    let input = BufReader::new(alloc, rt.reader())?;
     let mut host = LineHost::new(alloc, &limits)?;
     let mut pages = Pages::new(alloc, &limits, &mut host.streams)?;
-    for text in BufReader::new(alloc, rt.reader())?.lines(alloc) {
-        let text = text?;
-        let line = Line::read(alloc, text.as_str())?;
-        host.receive(&line);
-        pages.serve(&mut host.streams)?;
-        host.send(line.micros);
-        host.write(alloc, line.micros, &mut output)?;
+    for text in input.lines(alloc) {
+        take_line(alloc, text?.as_str(), &mut host, &mut pages, &mut output)?;
     }
+    Ok(())
+}
+
+/// Takes a line, lets the service serve, and writes what the host sends.
+fn take_line<W: Write + Drop>(
+    alloc: Global,
+    text: &str,
+    host: &mut LineHost,
+    pages: &mut Pages,
+    output: &mut W,
+) -> Result<()> {
+    let line = Line::read(alloc, text)?;
+    host.receive(&line);
+    pages.serve(&mut host.streams)?;
+    host.send(line.micros);
+    host.write(alloc, line.micros, output)?;
     Ok(())
 }
