@@ -7,10 +7,10 @@ ghost use Rattle.iface_context.specs.Stands.{host_in};
 
 use host_machine::PollResult;
 use iface_context::Context;
-use iface_discovery::polling::routers_poll_at;
-use iface_multicast::polling::groups_poll_at;
+use iface_receive::discovery_polling::routers_poll_at;
+use iface_receive::group_polling::groups_poll_at;
 use iface_send::fragments::piece_poll_at;
-use iface_sockets::polling::sockets_poll_at;
+use iface_receive::polling::sockets_poll_at;
 use net_base::instants::earlier_of;
 use net_base::time::Instant;
 use socket_set::SocketSet;
