@@ -17,8 +17,8 @@ use Rattle.ip_wire.specs.declared.ethernet.EthernetProtocol.TheVariants as proto
 use Rattle.iface_tables.specs.declared.neighbor.Neighbor.{Neighbor}
 use Rattle.host_machine.specs.Interface.Config.{if_ethernet}
 use Rattle.host_machine.specs.Context.Host.{Host}
-use Rattle.host_machine.specs.Laws.Restraint.Neighbors.{CameToBeKnown, TellsByArp, TellsByMessage, WasKnown, WasRenewed, WasTold}
-use Rattle.host_machine.proofs.Discovery.LearntNeighbors.{neighbors_came}
+use Rattle.machine_laws.specs.Laws.Restraint.Neighbors.{CameToBeKnown, TellsByArp, TellsByMessage, WasKnown, WasRenewed, WasTold}
+use Rattle.machine_laws.proofs.Discovery.LearntNeighbors.{neighbors_came}
 use Rattle.guard.proofs.PassLemmas.{own_addresses_stay, pinned_stay, tells_by_arp}
 use Rattle.guard.specs.Claim.{hardware_at, is_from, is_from_host, tells_only}
 use Rattle.guard.specs.Guard.{is_own}

@@ -28,10 +28,10 @@ use Rattle.group_wire.specs.Mld.{IsMld, IsQuery, IsReport}
 use Rattle.iface_tables.specs.declared.neighbor.Neighbor.{Neighbor as Entry}
 use Rattle.host_machine.specs.Interface.Config.{if_ethernet}
 use Rattle.host_machine.specs.Context.Host.{Host}
-use Rattle.host_machine.specs.Laws.Restraint.Neighbors.{AfterHeader, AfterOptions, CameToBeKnown, Gives, HasMessage as Carries, TellsByArp}
-use Rattle.host_machine.specs.Laws.Restraint.Neighbors.{TellsByMessage, WasKnown, WasRenewed, WasTold}
-use Rattle.host_machine.specs.Laws.Restraint.Readings.{CarriesV6}
-use Rattle.host_machine.proofs.Discovery.LearntNeighbors.{neighbors_came}
+use Rattle.machine_laws.specs.Laws.Restraint.Neighbors.{AfterHeader, AfterOptions, CameToBeKnown, Gives, HasMessage as Carries, TellsByArp}
+use Rattle.machine_laws.specs.Laws.Restraint.Neighbors.{TellsByMessage, WasKnown, WasRenewed, WasTold}
+use Rattle.machine_laws.specs.Laws.Restraint.Readings.{CarriesV6}
+use Rattle.machine_laws.proofs.Discovery.LearntNeighbors.{neighbors_came}
 use Rattle.guard.proofs.Ipv6Lemmas.{among_if, own_messages_stay, pinned_messages_stay}
 use Rattle.guard.specs.Guard.{is_own}
 use Rattle.guard.specs.Ipv6.{AsSource, Behind, BehindOptions, HasMessage, IsIpv6, IsNeighborMessage, TellsNoOther, source_of}

@@ -4,8 +4,8 @@ use Rattle.net_base.specs.Device.{Event}
 use Rattle.host_machine.specs.declared.command.Command.{Command}
 use Rattle.host_machine.specs.declared.command.Answer.{Answer}
 use Rattle.host_machine.specs.Context.Host.{Host, SocketSet}
-use Rattle.host_machine.specs.Laws.Real.{IsRegular}
-use Rattle.host_machine.specs.Laws.Ran.{Ran}
+use Rattle.host_machine.specs.Context.Real.{IsRegular}
+use Rattle.machine_laws.specs.Laws.Ran.{Ran}
 use Rattle.host_laws.specs.Datagrams.{KeepsDatagrams}
 use Rattle.host_laws.specs.Progress.{ComeToRest, IsSound}
 

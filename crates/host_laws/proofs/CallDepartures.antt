@@ -14,10 +14,10 @@ use Rattle.host_machine.specs.Context.Host.{Host, Socket, Storage, SocketSet}
 use Rattle.host_machine.specs.Sockets.Turns.{SocketTurn, Serves, Walks, SocketEgress, with_socket}
 use Rattle.host_machine.specs.Interface.Egress.{Round, Egress}
 use Rattle.host_machine.specs.Sockets.Turns as egress
-use Rattle.host_machine.specs.Laws.Order.{IsBeginning}
-use Rattle.host_machine.specs.Laws.TwoHosts.{cuts}
-use Rattle.host_machine.proofs.Interface.PollCalls.{both}
-use Rattle.host_machine.specs.Laws.Real.{IsRegular}
+use Rattle.machine_laws.specs.Laws.Order.{IsBeginning}
+use Rattle.machine_laws.specs.Laws.TwoHosts.{cuts}
+use Rattle.machine_laws.proofs.Interface.PollCalls.{both}
+use Rattle.host_machine.specs.Context.Real.{IsRegular}
 use Rattle.host_laws.specs.Deliveries.{udp_at}
 use Rattle.host_laws.specs.Departures.{Departure, entries, from_index, without}
 use Rattle.host_laws.proofs.Places.{set_other, set_same, udp_of}
@@ -29,9 +29,9 @@ use Rattle.host_machine.specs.Context.Addresses.{source_for}
 use Rattle.host_machine.specs.Context.Host.{at}
 use Rattle.host_machine.specs.Packet.Packet.{Packet, payload_of}
 use Rattle.host_machine.specs.Sockets.Offers.{packet_from}
-use Rattle.host_machine.proofs.Receive.Malformed.{sent_frames-sends}
-use Rattle.host_machine.proofs.Sockets.RawProtocols.{get_speaks}
-use Rattle.host_machine.proofs.Interface.Turns.{first_is, icmp_is, tcp_is, join_is, leave_is, served_speaks, turn_sockets}
+use Rattle.machine_laws.proofs.Receive.Malformed.{sent_frames-sends}
+use Rattle.machine_laws.proofs.Sockets.RawProtocols.{get_speaks}
+use Rattle.machine_laws.proofs.Interface.Turns.{first_is, icmp_is, tcp_is, join_is, leave_is, served_speaks, turn_sockets}
 use Rattle.host_laws.specs.Senders.{CarryOnly, NoSocketWritesUdp, may_be_udp}
 use Rattle.host_laws.proofs.FramesWithoutUdp.{has_udp, own_has_none}
 use Rattle.host_laws.proofs.Accounts.{AccountsFor, Follows, accounts_after, accounts_same, all_account, dispatch_follows, igmp_accounts}

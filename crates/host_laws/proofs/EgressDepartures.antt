@@ -15,16 +15,16 @@ use Rattle.host_machine.specs.Context.Pieces.{datagram_of}
 use Rattle.host_machine.specs.Packet.Packet.{total_len}
 use Rattle.host_machine.specs.Packet.Packet as packet
 use Rattle.net_base.specs.Checksum.{ip_mtu_of}
-use Rattle.host_machine.specs.Laws.Order.{IsAmong, IsBeginning}
+use Rattle.machine_laws.specs.Laws.Order.{IsAmong, IsBeginning}
 use Rattle.host_machine.specs.Interface.Parts.{Part}
-use Rattle.host_machine.specs.Laws.TwoHosts.{cuts}
-use Rattle.host_machine.proofs.Context.NotesBySubject.{cut_notes-append}
-use Rattle.host_machine.proofs.Runs.Walk.{sent_frames-append}
+use Rattle.machine_laws.specs.Laws.TwoHosts.{cuts}
+use Rattle.machine_laws.proofs.Context.NotesBySubject.{cut_notes-append}
+use Rattle.machine_laws.proofs.Runs.Walk.{sent_frames-append}
 use Rattle.host_laws.specs.Deliveries.{udp_at}
 use Rattle.host_laws.specs.Departures.{Departure, HasDeparted, Departs, InOneFrame, InPieces, cuts_of}
 use Rattle.host_laws.specs.Departures.{departs_from, entries, frames_of, from_index, packet_of, without}
 use Rattle.host_laws.specs.Departures as spec
-use Rattle.host_machine.proofs.Runs.TwoHosts.{cuts-append}
+use Rattle.machine_laws.proofs.Runs.TwoHosts.{cuts-append}
 use Rattle.host_laws.proofs.Accounts.{AccountsFor, accounts_on}
 use Rattle.host_laws.proofs.IdleParts.{Idle, base}
 use Rattle.host_laws.proofs.IngressDeliveries.{all-append}

@@ -45,7 +45,7 @@ use Rattle.host_machine.specs.Multicast.Mld as mld_rules
 use Rattle.host_machine.specs.Discovery.RouterSolicitation.{NdiscRsEgress, due_solicitation, solicitation_by, solicitation_from}
 use Rattle.host_machine.specs.Discovery.RouterSolicitation as slaac
 use Rattle.slaac.specs.Slaac.{rs_required}
-use Rattle.host_machine.proofs.Interface.GrantedEgress.{tells_way}
+use Rattle.machine_laws.proofs.Interface.GrantedEgress.{tells_way}
 
 -- the device of a host takes packets of 576 octets
 abbrev pub IsWide : Host → Type 0

@@ -35,11 +35,11 @@ use Rattle.host_machine.specs.Receive.Ipv4 as ipv4
 use Rattle.host_machine.specs.Receive.Ipv6 as ipv6
 use Rattle.host_machine.specs.Receive.Ethernet.{ProcessesEthertype, ProcessesFrame, is_for}
 use Rattle.host_machine.specs.Receive.Ethernet as ethernet
-use Rattle.host_machine.specs.Laws.Frames.{Carries}
-use Rattle.host_machine.specs.Laws.Frames as frames
+use Rattle.machine_laws.specs.Laws.Frames.{Carries}
+use Rattle.machine_laws.specs.Laws.Frames as frames
 use Rattle.host_machine.specs.Interface.Ingress.{Takes}
-use Rattle.host_machine.proofs.Context.NotesBySubject.{slot_notes-slots}
-use Rattle.host_machine.proofs.Receive.PacketEffects.{whole_plain}
+use Rattle.machine_laws.proofs.Context.NotesBySubject.{slot_notes-slots}
+use Rattle.machine_laws.proofs.Receive.PacketEffects.{whole_plain}
 use Rattle.host_laws.specs.Deliveries.{BringsUdp, CarriesIpv6}
 use Rattle.host_laws.specs.Deliveries as spec
 use Rattle.host_laws.proofs.DatagramHandover.{Same, Hands, HandsPacket, same, same_by, same_then, unread, hands_after, whole_v4, payload_v6}

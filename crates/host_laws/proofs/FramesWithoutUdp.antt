@@ -35,13 +35,13 @@ use Rattle.host_machine.specs.Context.Host.{Host}
 use Rattle.host_machine.specs.Packet.Packet.{Packet, IpPayload, Icmpv4, Icmpv6, Udp, Tcp, Raw, Igmp, Mld, payload_of}
 use Rattle.host_machine.specs.Packet.Packet as packet
 use Rattle.host_machine.specs.Packet.Frame.{arp_frame, ip_frame, piece_frame, piece_text, link_header}
-use Rattle.host_machine.specs.Laws.Frames.{Carries}
-use Rattle.host_machine.specs.Laws.Frames as frames
+use Rattle.machine_laws.specs.Laws.Frames.{Carries}
+use Rattle.machine_laws.specs.Laws.Frames as frames
 use Rattle.host_machine.specs.Receive.Ethernet.{version_in}
-use Rattle.host_machine.specs.Laws.Requests.{is_request, is_arp_request, is_solicitation}
-use Rattle.host_machine.proofs.Interface.OwnMessages.{is_own}
-use Rattle.host_machine.proofs.Receive.FrameReading.{number_again, same_packet, other_packet, version_six}
-use Rattle.host_machine.specs.Laws.Real.{IsPart}
+use Rattle.machine_laws.specs.Laws.Requests.{is_request, is_arp_request, is_solicitation}
+use Rattle.machine_laws.proofs.Interface.OwnMessages.{is_own}
+use Rattle.machine_laws.proofs.Receive.FrameReading.{number_again, same_packet, other_packet, version_six}
+use Rattle.host_machine.specs.Context.Real.{IsPart}
 use Rattle.host_laws.specs.Deliveries.{CarriesIpv6}
 use Rattle.host_laws.specs.Deliveries as spec
 use Rattle.host_laws.specs.Senders.{CarriesNoUdp, may_be_udp}

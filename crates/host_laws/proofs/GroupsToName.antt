@@ -36,10 +36,10 @@ use Rattle.host_machine.specs.Multicast.Igmp.{igmp_report, IgmpEgress, igmp_poll
 use Rattle.host_machine.specs.Multicast.Joins as multicast
 use Rattle.host_machine.specs.Multicast.Timeout.{has_passed}
 use Rattle.host_machine.specs.Multicast.Igmp as reports
-use Rattle.host_machine.specs.Laws.Service.{all_granted}
-use Rattle.host_machine.proofs.Receive.FrameReplies.{clash}
-use Rattle.host_machine.proofs.Interface.DueWork.{has_come_by}
-use Rattle.host_machine.proofs.Interface.GrantedEgress.{dispatched_gone}
+use Rattle.machine_laws.specs.Laws.Service.{all_granted}
+use Rattle.machine_laws.proofs.Receive.FrameReplies.{clash}
+use Rattle.machine_laws.proofs.Interface.DueWork.{has_come_by}
+use Rattle.machine_laws.proofs.Interface.GrantedEgress.{dispatched_gone}
 use Rattle.host_laws.specs.Progress.{to_name}
 
 -- The number of IPv4 groups

@@ -28,9 +28,9 @@ use Rattle.host_machine.specs.Packet.Packet.{Packet}
 use Rattle.host_machine.specs.Receive.Response.{Responds}
 use Rattle.host_machine.specs.Interface.Ingress.{Ingress}
 use Rattle.host_machine.specs.Interface.Parts.{Part}
-use Rattle.host_machine.proofs.Context.NotesBySubject.{slot_notes-append}
-use Rattle.host_machine.proofs.Receive.Malformed.{handed_frames-sends}
-use Rattle.host_machine.proofs.Receive.SlotEffects.{handed_frames-append}
+use Rattle.machine_laws.proofs.Context.NotesBySubject.{slot_notes-append}
+use Rattle.machine_laws.proofs.Receive.Malformed.{handed_frames-sends}
+use Rattle.machine_laws.proofs.Receive.SlotEffects.{handed_frames-append}
 use Rattle.host_laws.specs.Deliveries.{BringsPacket, BringsUdp, Delivery, Deliver, Gets, IsAccepted}
 use Rattle.host_laws.specs.Deliveries.{NoFrame, NoSocketGets, OneGets, to_index, udp_at, with_deliveries}
 use Rattle.host_laws.specs.Deliveries as spec

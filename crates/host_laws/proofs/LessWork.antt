@@ -43,12 +43,12 @@ use Rattle.host_machine.specs.Interface.Polling as polling
 use Rattle.host_machine.specs.Interface.Run.{Transition, Run, Ends, Then}
 use Rattle.host_machine.specs.Interface.Step.{Act, Step}
 use Rattle.host_machine.specs.Interface.Step as step
-use Rattle.host_machine.specs.Laws.Service.{IsDone, IsLater, all_granted}
-use Rattle.host_machine.proofs.Receive.Malformed.{nothing_responded}
-use Rattle.host_machine.proofs.Interface.SlaacPolls.{polls_sync_slaac}
-use Rattle.host_machine.proofs.Interface.GrantedEgress.{all_untouched, dispatched_gone, given_parts, groups_way}
-use Rattle.host_machine.proofs.Interface.GrantedEgress.{routers_way, to_sockets}
-use Rattle.host_machine.proofs.Interface.DueWork.{all_kept, due_done, groups_kept, igmp_kept, mld_kept, piece_gone}
+use Rattle.machine_laws.specs.Laws.Service.{IsDone, IsLater, all_granted}
+use Rattle.machine_laws.proofs.Receive.Malformed.{nothing_responded}
+use Rattle.machine_laws.proofs.Interface.SlaacPolls.{polls_sync_slaac}
+use Rattle.machine_laws.proofs.Interface.GrantedEgress.{all_untouched, dispatched_gone, given_parts, groups_way}
+use Rattle.machine_laws.proofs.Interface.GrantedEgress.{routers_way, to_sockets}
+use Rattle.machine_laws.proofs.Interface.DueWork.{all_kept, due_done, groups_kept, igmp_kept, mld_kept, piece_gone}
 use Rattle.host_laws.specs.Progress.{ComeToRest, PollsComeToRest, RunsComeToRest, PollsMakeProgress, LeavesWorkDue, IsSound, to_name, work}
 use Rattle.host_laws.proofs.QueuesAfterTurns.{CallLoads, NoLoad, LessLoad, call_loads, call_works}
 use Rattle.host_laws.proofs.QueuesAfterTurns.{one_less_apart}

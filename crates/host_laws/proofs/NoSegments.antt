@@ -27,7 +27,7 @@ use Rattle.host_machine.specs.Multicast.Joins.{join_packet, leave_packet}
 use Rattle.host_machine.specs.Discovery.RouterSolicitation.{due_solicitation, router_solicitation, solicitation_by, solicitation_from}
 use Rattle.host_machine.specs.Sockets.Icmp.{echo_payload}
 use Rattle.host_machine.specs.Sockets.Offers.{packet_between, packet_of}
-use Rattle.host_machine.proofs.Interface.Turns.{between_is}
+use Rattle.machine_laws.proofs.Interface.Turns.{between_is}
 use Rattle.host_laws.proofs.RawReplies.{is_segment}
 
 -- what ICMP sockets offer

@@ -37,11 +37,11 @@ use Rattle.host_machine.specs.Packet.Packet.{IpPayload, PacketV4, Icmpv4, header
 use Rattle.host_machine.specs.Packet.Packet as packet
 use Rattle.host_machine.specs.Packet.Frame.{link_header, packet_text, payload_text}
 use Rattle.host_machine.specs.Interface.Run.{Transition}
-use Rattle.host_machine.specs.Laws.Calls.{IsCallOf, IsEgress, IsIngress, KeepsCallLaws}
-use Rattle.host_machine.specs.Laws.Service.{HasPacketV4, IsOfLink, IsToItself, Pings as AsksByEcho, HasEchoReply, Takes}
-use Rattle.host_machine.proofs.Receive.FrameReplies.{pings_served}
-use Rattle.host_machine.proofs.Icmp.EchoReplies.{replies_queued}
-use Rattle.host_machine.proofs.Sockets.FirstPackets.{first_echoes_go}
+use Rattle.machine_laws.specs.Laws.Calls.{IsCallOf, IsEgress, IsIngress, KeepsCallLaws}
+use Rattle.machine_laws.specs.Laws.Service.{HasPacketV4, IsOfLink, IsToItself, Pings as AsksByEcho, HasEchoReply, Takes}
+use Rattle.machine_laws.proofs.Receive.FrameReplies.{pings_served}
+use Rattle.machine_laws.proofs.Icmp.EchoReplies.{replies_queued}
+use Rattle.machine_laws.proofs.Sockets.FirstPackets.{first_echoes_go}
 use Rattle.host_laws.specs.Pings.{Echo, End, FitsBoth, Knows, PingsComeBack, frame_to, reply_packet, request_packet}
 use Rattle.host_laws.specs.PingsInRuns.{PingsReturn, RunsReturnPings, call_at}
 

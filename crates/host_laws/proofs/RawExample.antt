@@ -36,7 +36,7 @@ use Rattle.host_machine.specs.Interface.Egress.{Egress}
 use Rattle.host_machine.specs.Sockets.Turns as egress
 use Rattle.host_machine.proofs.Interface.RoundWithoutPieces.{no_piece}
 use Rattle.host_machine.specs.Interface.Ingress.{Ingress}
-use Rattle.host_machine.specs.Laws.Frames as frames
+use Rattle.machine_laws.specs.Laws.Frames as frames
 use Rattle.host_machine.specs.Examples.ArpAndEcho as example
 use Rattle.host_machine.specs.Examples.Sockets.{datagram, port_unreachable, unknown_protocol_frame, with_raw}
 use Rattle.host_laws.specs.Deliveries as spec

@@ -34,10 +34,10 @@ use Rattle.host_machine.specs.Context.Host.{Host}
 use Rattle.host_machine.specs.Packet.Packet.{Packet, IsFormed, payload_of, packet_with, header_v4, header_v6}
 use Rattle.host_machine.specs.Packet.Packet as packet
 use Rattle.host_machine.specs.Packet.Frame.{ip_frame, piece_frame, piece_text, link_header}
-use Rattle.host_machine.specs.Laws.Frames.{Carries}
-use Rattle.host_machine.proofs.Receive.FrameReading.{number_again, same_packet, other_packet, version_six}
+use Rattle.machine_laws.specs.Laws.Frames.{Carries}
+use Rattle.machine_laws.proofs.Receive.FrameReading.{number_again, same_packet, other_packet, version_six}
 use Rattle.host_machine.proofs.Receive.Pieces.{IsIn, contains_in, IsPiece, piece_in, part_of}
-use Rattle.host_machine.proofs.Runs.TwoHosts.{is_part}
+use Rattle.host_machine.proofs.Receive.Parts.{is_part}
 use Rattle.host_laws.specs.Deliveries.{CarriesIpv6}
 use Rattle.host_laws.specs.RawPackets.{IsPartIf}
 use Rattle.host_laws.proofs.FramesWithoutUdp.{CarriesAtMostIcmpv6, number_v4, number_v6, other_packet_v6}

@@ -37,15 +37,15 @@ use Rattle.host_machine.specs.Receive.Ipv4 as ipv4
 use Rattle.host_machine.specs.Receive.Ipv6 as ipv6
 use Rattle.host_machine.specs.Receive.Ethernet.{ProcessesEthertype, ProcessesFrame, is_for}
 use Rattle.host_machine.specs.Receive.Ethernet as ethernet
-use Rattle.host_machine.specs.Laws.Frames.{Carries}
-use Rattle.host_machine.specs.Laws.Frames as frames
+use Rattle.machine_laws.specs.Laws.Frames.{Carries}
+use Rattle.machine_laws.specs.Laws.Frames as frames
 use Rattle.host_machine.specs.Interface.Ingress.{Takes, Ingress}
 use Rattle.host_machine.specs.Packet.Frame.{sends}
 use Rattle.host_machine.specs.Interface.Parts.{Part}
-use Rattle.host_machine.proofs.Context.NotesBySubject.{slot_notes-append, slot_notes-slots}
-use Rattle.host_machine.proofs.Receive.PacketEffects.{whole_plain}
-use Rattle.host_machine.proofs.Receive.Malformed.{handed_frames-sends}
-use Rattle.host_machine.proofs.Receive.SlotEffects.{handed_frames-append}
+use Rattle.machine_laws.proofs.Context.NotesBySubject.{slot_notes-append, slot_notes-slots}
+use Rattle.machine_laws.proofs.Receive.PacketEffects.{whole_plain}
+use Rattle.machine_laws.proofs.Receive.Malformed.{handed_frames-sends}
+use Rattle.machine_laws.proofs.Receive.SlotEffects.{handed_frames-append}
 use Rattle.host_laws.specs.Deliveries.{CarriesIpv6}
 use Rattle.host_laws.specs.Deliveries as spec
 use Rattle.host_laws.specs.RawArrivals.{RawArrival, Arrive, BringsRaw, socket_after_arrival, with_arrivals, without_sending}

@@ -32,15 +32,17 @@ use Rattle.host_machine.specs.Send.Outcome.{Outcome}
 use Rattle.host_machine.specs.Send.Dispatch.{Dispatches}
 use Rattle.host_machine.specs.Context.Pieces.{datagram_of, piece_size}
 use Rattle.host_machine.specs.Sockets.Offers.{packet_from, packet_of}
-use Rattle.host_machine.specs.Laws.Real.{IsRegular}
-use Rattle.host_machine.specs.Laws.Steps.{SendsOneThing, ThePacket, ItsFirstPiece, ARequest}
-use Rattle.host_machine.specs.Laws.Steps as laws
+use Rattle.host_machine.specs.Context.Real.{IsRegular}
+use Rattle.machine_laws.specs.Laws.Steps.{SendsOneThing, ThePacket, ItsFirstPiece, ARequest}
+use Rattle.machine_laws.specs.Laws.Steps as laws
 use Rattle.host_machine.proofs.Receive.Pieces.{IsIn, count_below, in_left, in_right, length-pieces_from}
-use Rattle.host_machine.proofs.Runs.TwoHosts.{in_map, size_positive}
-use Rattle.host_machine.proofs.Runs.Walk.{Reached, dispatched}
-use Rattle.host_machine.proofs.Discovery.NotedRequests.{sends_one}
-use Rattle.host_machine.proofs.Interface.OwnMessages.{is_own}
-use Rattle.host_machine.proofs.Interface.Turns.{between_is, icmp_is, tcp_is}
+use Rattle.machine_laws.proofs.Runs.TwoHosts.{in_map}
+use Rattle.host_machine.proofs.Receive.Parts.{size_positive}
+use Rattle.host_machine.proofs.Send.Reached.{Reached}
+use Rattle.machine_laws.proofs.Runs.Walk.{dispatched}
+use Rattle.machine_laws.proofs.Discovery.NotedRequests.{sends_one}
+use Rattle.machine_laws.proofs.Interface.OwnMessages.{is_own}
+use Rattle.machine_laws.proofs.Interface.Turns.{between_is, icmp_is, tcp_is}
 use Rattle.host_laws.proofs.Accounts.{cuts_follow, dispatch_follows, follows}
 use Rattle.host_laws.proofs.FramesWithoutUdp.{request_at_most}
 use Rattle.host_laws.proofs.RawFrames.{packet_for}

@@ -35,13 +35,13 @@ use Rattle.host_machine.specs.Interface.Ingress.{Ingress}
 use Rattle.host_machine.specs.Interface.Polling.{Polls, after_maintenance}
 use Rattle.host_machine.specs.Interface.Step.{Act, Step, Accepted, Refused, Taken, NotTaken, WithinDay, OverDay}
 use Rattle.host_machine.specs.Interface.Step as step
-use Rattle.host_machine.specs.Laws.Real.{IsReal, IsRegular}
-use Rattle.host_machine.proofs.Context.NotesBySubject.{slot_notes-append}
-use Rattle.host_machine.proofs.Interface.PollCalls.{until}
-use Rattle.host_machine.proofs.Receive.Malformed.{handed_frames-received, handed_frames-sends, sent_frames-sends}
-use Rattle.host_machine.proofs.Receive.SlotEffects.{egress_hands_none, egress_still, handed_frames-append}
-use Rattle.host_machine.proofs.Runs.SentPieces.{GoodReply, takes_good, takes_real}
-use Rattle.host_machine.proofs.Runs.Walk.{sent_frames-append}
+use Rattle.host_machine.specs.Context.Real.{IsReal, IsRegular}
+use Rattle.machine_laws.proofs.Context.NotesBySubject.{slot_notes-append}
+use Rattle.machine_laws.proofs.Interface.PollCalls.{until}
+use Rattle.machine_laws.proofs.Receive.Malformed.{handed_frames-received, handed_frames-sends, sent_frames-sends}
+use Rattle.machine_laws.proofs.Receive.SlotEffects.{egress_hands_none, egress_still, handed_frames-append}
+use Rattle.machine_laws.proofs.Runs.SentPieces.{GoodReply, takes_good, takes_real}
+use Rattle.machine_laws.proofs.Runs.Walk.{sent_frames-append}
 use Rattle.host_laws.specs.Datagrams.{host_at_command}
 use Rattle.host_laws.specs.RawArrivals.{RawArrival, Arrive, NoFrame, raw_at, receiver_at, socket_after_arrival, with_arrivals}
 use Rattle.host_laws.specs.RawPackets.{HasRaw, HasNoSegmentAfterOptions, LeavesSegments, LosesFront, TakesSegments, tcp_at}

@@ -37,13 +37,13 @@ use Rattle.host_machine.specs.Multicast.Mld as mld
 use Rattle.host_machine.specs.Discovery.RouterSolicitation.{NdiscRsEgress}
 use Rattle.host_machine.specs.Discovery.RouterSolicitation as slaac
 use Rattle.host_machine.specs.Interface.Parts.{Part}
-use Rattle.host_machine.specs.Laws.Real.{IsPart, IsRegular}
-use Rattle.host_machine.proofs.Interface.PollCalls.{both}
-use Rattle.host_machine.proofs.Receive.Malformed.{sent_frames-sends}
-use Rattle.host_machine.proofs.Discovery.NotedRequests.{sends_one}
-use Rattle.host_machine.proofs.Runs.Walk.{sent_frames-append}
-use Rattle.host_machine.proofs.Interface.OwnMessages.{is_own}
-use Rattle.host_machine.proofs.Interface.Turns.{join_is, leave_is, report_is, solicitation_is, turn_sockets}
+use Rattle.host_machine.specs.Context.Real.{IsPart, IsRegular}
+use Rattle.machine_laws.proofs.Interface.PollCalls.{both}
+use Rattle.machine_laws.proofs.Receive.Malformed.{sent_frames-sends}
+use Rattle.machine_laws.proofs.Discovery.NotedRequests.{sends_one}
+use Rattle.machine_laws.proofs.Runs.Walk.{sent_frames-append}
+use Rattle.machine_laws.proofs.Interface.OwnMessages.{is_own}
+use Rattle.machine_laws.proofs.Interface.Turns.{join_is, leave_is, report_is, solicitation_is, turn_sockets}
 use Rattle.host_laws.specs.RawArrivals.{receiver_at, without_sending}
 use Rattle.host_laws.proofs.Accounts.{dispatch_follows, still}
 use Rattle.host_laws.proofs.IdleParts.{Idle, dispatch_idle}

@@ -32,7 +32,7 @@ use Rattle.host_machine.specs.Packet.Packet.{IsFormedV4, IsFormedV6, header_v4, 
 use Rattle.host_machine.specs.Packet.Packet as packet
 use Rattle.host_machine.specs.Packet.Frame.{ip_frame, packet_text, payload_text}
 use Rattle.host_machine.specs.Sockets.Offers.{packet_between}
-use Rattle.host_machine.proofs.Receive.FrameReading.{same_packet, other_packet, version_six}
+use Rattle.machine_laws.proofs.Receive.FrameReading.{same_packet, other_packet, version_six}
 use Rattle.host_laws.specs.Deliveries.{BringsPacket}
 use Rattle.host_laws.specs.Deliveries as spec
 use Rattle.host_laws.proofs.TurnDepartures.{datagram_len}

@@ -13,16 +13,16 @@ use Rattle.host_machine.specs.Context.Host.{Host, without_expired, with_left}
 use Rattle.host_machine.specs.Packet.Frame.{piece_frame, sends}
 use Rattle.host_machine.specs.Interface.Ingress.{Ingress}
 use Rattle.host_machine.specs.Interface.Parts.{Part}
-use Rattle.host_machine.specs.Laws.Real.{IsReal, IsPart, IsRegular}
+use Rattle.host_machine.specs.Context.Real.{IsReal, IsPart, IsRegular}
 use Rattle.host_machine.specs.Receive.Reply.{Reply, Arp, Ip}
 use Rattle.host_machine.specs.Receive.Response.{Responds}
 use Rattle.host_machine.specs.Interface.Run.{Transition, Run, Ends, Then}
 use Rattle.host_machine.specs.Interface.Step.{Act, Step}
 use Rattle.host_machine.specs.Interface.Step as step
-use Rattle.host_machine.specs.Laws.TwoHosts.{cuts}
-use Rattle.host_machine.proofs.Runs.SentPieces.{takes_real}
-use Rattle.host_machine.proofs.Context.MediumAddresses.{none_of}
-use Rattle.host_machine.proofs.Interface.Turns.{stepped}
+use Rattle.machine_laws.specs.Laws.TwoHosts.{cuts}
+use Rattle.machine_laws.proofs.Runs.SentPieces.{takes_real}
+use Rattle.machine_laws.proofs.Context.MediumAddresses.{none_of}
+use Rattle.machine_laws.proofs.Interface.Turns.{stepped}
 use Rattle.host_laws.specs.Departures.{Departure, HasDeparted}
 use Rattle.host_laws.specs.Datagrams.{host_at_command}
 use Rattle.host_laws.specs.EndToEnd.{LeaveQueues}

@@ -3,7 +3,7 @@ use Rattle.std.proofs.Common.{◌≡◌, ℕ, List, [], ◌∷◌, ◌++◌, ref
 use Rattle.std.proofs.lemmas.List.{append_assoc}
 use Rattle.transport_sockets.specs.Udp.{UdpSocket, socket_after_delivery, without_first_to_send}
 use Rattle.host_machine.specs.Context.Host.{Host}
-use Rattle.host_machine.specs.Laws.Order.{IsBeginning}
+use Rattle.machine_laws.specs.Laws.Order.{IsBeginning}
 use Rattle.host_machine.specs.Interface.Run.{Transition, Run, Ends, Then, acts_in}
 use Rattle.host_laws.specs.Deliveries.{Delivery, to_index, udp_at, with_deliveries}
 use Rattle.host_laws.specs.Departures.{Departure, entries, from_index, without}

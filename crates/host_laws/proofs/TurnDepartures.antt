@@ -33,12 +33,12 @@ use Rattle.ip_wire.specs.Udp as udp_wire
 use Rattle.fragmentation.specs.Cuts.{Piece, HasForm, pieces_of}
 use Rattle.host_machine.specs.Packet.Frame.{payload_text}
 use Rattle.host_machine.specs.Context.Pieces.{piece_size, datagram_of}
-use Rattle.host_machine.proofs.Discovery.NotedRequests.{sends_one}
+use Rattle.machine_laws.proofs.Discovery.NotedRequests.{sends_one}
 use Rattle.host_machine.proofs.Receive.Pieces.{contains_in}
-use Rattle.host_machine.proofs.Runs.TwoHosts.{size_positive}
+use Rattle.host_machine.proofs.Receive.Parts.{size_positive}
 use Rattle.host_machine.proofs.Context.PendingParts.{pieces_are}
-use Rattle.host_machine.proofs.Interface.Turns.{between_is}
-use Rattle.host_machine.specs.Laws.Real.{IsPart, IsRegular}
+use Rattle.machine_laws.proofs.Interface.Turns.{between_is}
+use Rattle.host_machine.specs.Context.Real.{IsPart, IsRegular}
 use Rattle.host_laws.specs.Senders.{CarryOnly}
 use Rattle.host_laws.proofs.Accounts.{nothing_carried, unsent_carry}
 use Rattle.host_laws.proofs.FramesWithoutUdp.{piece_none}
@@ -48,9 +48,9 @@ use Rattle.host_machine.specs.Sockets.Turns.{SocketTurn}
 use Rattle.host_machine.specs.Sockets.Offers.{packet_between, packet_from, socket_after_asking}
 use Rattle.host_machine.specs.Sockets.Offers as offers_rules
 use Rattle.host_machine.specs.Sockets.Turns as turns_rules
-use Rattle.host_machine.specs.Laws.Order.{IsAmong, NoneOfNone, OneOf}
-use Rattle.host_machine.specs.Laws.TwoHosts.{cuts}
-use Rattle.host_machine.proofs.Receive.Malformed.{sent_frames-sends}
+use Rattle.machine_laws.specs.Laws.Order.{IsAmong, NoneOfNone, OneOf}
+use Rattle.machine_laws.specs.Laws.TwoHosts.{cuts}
+use Rattle.machine_laws.proofs.Receive.Malformed.{sent_frames-sends}
 use Rattle.host_laws.specs.Departures.{Departure, Departs, Dropped, InOneFrame, InPieces, cuts_of}
 use Rattle.host_laws.specs.Departures.{frames_of, packet_of}
 use Rattle.host_laws.specs.Departures as spec

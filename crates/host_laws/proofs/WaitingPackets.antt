@@ -15,7 +15,7 @@ use Rattle.host_machine.specs.Context.Host.{Host, Socket}
 use Rattle.host_machine.specs.Context.Addresses.{source_for}
 use Rattle.host_machine.specs.Packet.Packet.{Packet}
 use Rattle.host_machine.specs.Sockets.Offers.{socket_after_asking, packet_from, packet_of}
-use Rattle.host_machine.specs.Laws.Service.{waiting_in}
+use Rattle.machine_laws.specs.Laws.Service.{waiting_in}
 
 -- the same number, or one less
 abbrev pub IsSameOrLess : ℕ → ℕ → Type 0

@@ -12,7 +12,7 @@ use Rattle.fragmentation.specs.Cuts.{Piece, pieces_of, HasForm}
 use Rattle.host_machine.specs.Context.Note.{Note, cut_notes}
 use Rattle.host_machine.specs.Context.Host.{Host, with_next_id}
 use Rattle.host_machine.specs.Packet.Packet.{IpPayload, Packet, PacketV4, IsFormed, total_len}
-use Rattle.host_machine.specs.Laws.Real.{IsReal}
+use Rattle.host_machine.specs.Context.Real.{IsReal}
 use Rattle.host_machine.specs.Packet.Packet as packet
 use Rattle.host_machine.specs.Packet.Frame.{ip_frame, piece_frame}
 use Rattle.host_machine.specs.Send.Outcome.{Outcome}
@@ -22,9 +22,9 @@ use Rattle.host_machine.specs.Context.Pieces.{datagram_of}
 use Rattle.host_machine.specs.Send.Dispatch as dispatch
 use Rattle.host_machine.specs.Send.Requests as requests
 use Rattle.host_machine.specs.Sockets.Offers.{packet_between}
-use Rattle.host_machine.specs.Laws.TwoHosts.{cuts}
-use Rattle.host_machine.proofs.Runs.Walk.{Reached, ByNeighbor, ByGroup, WithoutAddresses}
-use Rattle.host_machine.proofs.Runs.SentPieces.{reached_of}
+use Rattle.machine_laws.specs.Laws.TwoHosts.{cuts}
+use Rattle.host_machine.proofs.Send.Reached.{Reached, ByNeighbor, ByGroup, WithoutAddresses}
+use Rattle.host_machine.proofs.Send.Reached.{reached_of}
 
 -- whole, cut, or not at all
 pub data Goes (H : Host) (p : Packet) (frames : List (List ℕ)) (notes : List Note) : Type 0 where

@@ -27,7 +27,7 @@ use Rattle.socket_set.specs.SocketSet.{socket_at}
 use Rattle.host_machine.specs.Context.Host.{Host, SocketSet}
 use Rattle.host_machine.specs.Context.Addresses.{is_broadcast, is_for_host, may_be_source}
 use Rattle.host_machine.specs.Receive.Ethernet.{is_for, version_in}
-use Rattle.host_machine.specs.Laws.Frames.{Carries}
+use Rattle.machine_laws.specs.Laws.Frames.{Carries}
 use Rattle.host_machine.specs.Receive.Ipv4.{key_in, datagram_header}
 
 -- a datagram that was delivered to a socket: the socket's index, both endpoints, and the payload

@@ -6,10 +6,10 @@ use Rattle.fragmentation.specs.Slots.{slot_of}
 use Rattle.fragmentation.specs.Reassembly.{SlotNote}
 use Rattle.net_base.specs.Device.{sent_frames}
 use Rattle.host_machine.specs.Context.Host.{Host}
-use Rattle.host_machine.specs.Laws.Order.{IsAmong, IsBeginning}
-use Rattle.host_machine.specs.Laws.Real.{IsReal, IsRegular}
+use Rattle.machine_laws.specs.Laws.Order.{IsAmong, IsBeginning}
+use Rattle.host_machine.specs.Context.Real.{IsReal, IsRegular}
 use Rattle.host_machine.specs.Interface.Run.{Transition, Run}
-use Rattle.host_machine.specs.Laws.TwoHosts.{HaveOwnKeys, WereSent, cuts_in, key_of_cut}
+use Rattle.machine_laws.specs.Laws.TwoHosts.{HaveOwnKeys, WereSent, cuts_in, key_of_cut}
 use Rattle.transport_sockets.specs.Udp.{UdpSocket}
 use Rattle.host_laws.specs.Deliveries.{Delivery, Deliver, NoFrame, OneGets}
 use Rattle.host_laws.specs.Deliveries.{NoSocketGets, BringsUdp, AtOnce, InFragments, udp_at}

@@ -7,7 +7,7 @@ use Rattle.net_base.specs.declared.phy.Medium.{Medium}
 use Rattle.ip_address.specs.declared.ip.IpAddress.{IpAddress}
 use Rattle.fragmentation.specs.Reassembly.{SlotNote}
 use Rattle.host_machine.specs.Context.Host.{Host}
-use Rattle.host_machine.specs.Laws.Real.{IsReal, IsRegular}
+use Rattle.host_machine.specs.Context.Real.{IsReal, IsRegular}
 use Rattle.host_machine.specs.Interface.Run.{Transition, Run, events_in}
 use Rattle.host_laws.specs.Deliveries.{Delivery, Deliver, NoFrame, OneGets, NoSocketGets}
 use Rattle.host_laws.specs.Deliveries.{BringsUdp, AtOnce, InFragments}

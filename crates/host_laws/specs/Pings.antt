@@ -22,7 +22,7 @@ use Rattle.host_machine.specs.Packet.Packet.{PacketV4, Icmpv4}
 use Rattle.host_machine.specs.Packet.Packet as packet
 use Rattle.host_machine.specs.Packet.Frame.{ip_frame}
 use Rattle.host_machine.specs.Interface.Egress.{Egress}
-use Rattle.host_machine.specs.Laws.Service.{HasFirstEcho, IsOfLink, IsReached, MayBeAsked, Takes, all_granted}
+use Rattle.machine_laws.specs.Laws.Service.{HasFirstEcho, IsOfLink, IsReached, MayBeAsked, Takes, all_granted}
 
 -- a host, as another one on its Ethernet knows it
 pub record End : Type 0 where

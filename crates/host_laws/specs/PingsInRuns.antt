@@ -6,8 +6,8 @@ use Rattle.network_sockets.specs.Icmp.{IcmpSocket}
 use Rattle.host_machine.specs.declared.command.Command.TheVariants.{PollEgress, PollIngressSingle}
 use Rattle.host_machine.specs.Context.Host.{Host, at}
 use Rattle.host_machine.specs.Interface.Run.{Transition}
-use Rattle.host_machine.specs.Laws.Service.{HasFirstEcho, MayBeAsked, all_granted}
-use Rattle.host_machine.specs.Laws.Ran.{Laws}
+use Rattle.machine_laws.specs.Laws.Service.{HasFirstEcho, MayBeAsked, all_granted}
+use Rattle.machine_laws.specs.Laws.Ran.{Laws}
 use Rattle.host_laws.specs.Pings.{AwaitsReply, Call, ComesBack, Echo, End, FitsBoth, Knows, frame_to, request_packet}
 
 abbrev pub call_at : ℤ → Transition → Call

@@ -17,7 +17,7 @@ use Rattle.host_machine.specs.Interface.Egress.{Egress}
 use Rattle.host_machine.specs.Interface.Due.{Due}
 use Rattle.host_machine.specs.Interface.Polling.{Polls}
 use Rattle.host_machine.specs.Interface.Run.{Transition, Run}
-use Rattle.host_machine.specs.Laws.Service.{all_granted, waiting_in}
+use Rattle.machine_laws.specs.Laws.Service.{all_granted, waiting_in}
 
 -- the number of packets that the entry of a socket set has to send
 abbrev pub queued_in : Storage → ℕ

@@ -19,7 +19,7 @@ use Rattle.fragmentation.specs.Reassembly.{SlotNote, Rebuild}
 use Rattle.host_machine.specs.Context.Host.{Host, SocketSet}
 use Rattle.host_machine.specs.Context.Addresses.{is_for_host, may_be_source}
 use Rattle.host_machine.specs.Receive.Ipv4.{key_in, datagram_header}
-use Rattle.host_machine.specs.Laws.Frames.{Carries}
+use Rattle.machine_laws.specs.Laws.Frames.{Carries}
 use Rattle.host_laws.specs.Deliveries.{CarriesIpv6}
 
 -- the raw socket at an index, if there is one

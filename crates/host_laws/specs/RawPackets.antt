@@ -23,7 +23,7 @@ use Rattle.socket_set.specs.SocketSet.{socket_at}
 use Rattle.fragmentation.specs.Cuts.{Piece, piece_header, piece_fragment}
 use Rattle.host_machine.specs.Context.Note.{slot_notes}
 use Rattle.host_machine.specs.Context.Host.{Host, SocketSet}
-use Rattle.host_machine.specs.Laws.Real.{IsReal, IsRegular}
+use Rattle.host_machine.specs.Context.Real.{IsReal, IsRegular}
 use Rattle.host_machine.specs.Interface.Run.{Transition, Run}
 use Rattle.host_laws.specs.Deliveries.{CarriesIpv6}
 use Rattle.host_laws.specs.Datagrams.{host_at_command}

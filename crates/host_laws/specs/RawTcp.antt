@@ -7,7 +7,7 @@ use Rattle.ip_address.specs.declared.protocol.IpVersion.TheVariants.{Ipv4, Ipv6}
 use Rattle.ip_address.specs.Protocol.{number_of}
 use Rattle.network_sockets.specs.Raw.{RawSocket}
 use Rattle.host_machine.specs.Context.Host.{Host}
-use Rattle.host_machine.specs.Laws.Real.{IsRegular}
+use Rattle.host_machine.specs.Context.Real.{IsRegular}
 use Rattle.host_machine.specs.Interface.Run.{Transition, Run}
 use Rattle.host_laws.specs.Network.{Runs, WereSentBySome}
 use Rattle.host_laws.specs.RawArrivals.{raw_at}

@@ -1,2 +1,1 @@
-pub mod DispatchDeterminism
-pub mod HopsByLists
+pub mod Reached

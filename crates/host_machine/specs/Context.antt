@@ -5,3 +5,4 @@ pub mod Membership
 pub mod Settings
 pub mod Autoconfiguration
 pub mod Pieces
+pub mod Real

@@ -1,4 +1,5 @@
 pub mod ArpAndEcho
+pub mod Choices
 pub mod Ignored
 pub mod AnyIp
 pub mod Sockets

@@ -7,5 +7,4 @@ pub mod Icmp
 pub mod Sockets
 pub mod Receive
 pub mod Interface
-pub mod Laws
 pub mod Examples

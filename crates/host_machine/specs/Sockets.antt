@@ -6,3 +6,4 @@ pub mod Icmp
 pub mod Offers
 pub mod Turns
 pub mod Polling
+pub mod Quiet

@@ -7,7 +7,7 @@ ghost use Rattle.ip_address.specs.Hardware.{IsOf, IsOf-prop, medium_of};
 ghost use Rattle.iface_tables.specs.Neighbor.{AreOf, AreOf-prop};
 ghost use Rattle.host_machine.specs.Context.Host.{is_assigned, no_sockets};
 ghost use Rattle.host_machine.specs.Context.Addresses as addresses;
-ghost use Rattle.host_machine.specs.Laws.Real.{IsPart, are_parts-prop};
+ghost use Rattle.host_machine.specs.Context.Real.{IsPart, are_parts-prop};
 
 use crate::membership::Membership;
 use address_selection::{get_source_address_ipv6, ipv6_addr};

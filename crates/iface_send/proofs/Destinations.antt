@@ -24,8 +24,8 @@ use Rattle.host_machine.specs.Send.Requests.{Discovers}
 use Rattle.host_machine.specs.Send.Hops.{IsNextHop, multicast_hardware_addr}
 use Rattle.host_machine.specs.declared.results.DispatchError.{DispatchError}
 use Rattle.host_machine.specs.declared.results.DispatchError.TheVariants.{NoRoute, NeighborPending}
-use Rattle.host_machine.proofs.Runs.Walk.{ByNeighbor}
-use Rattle.host_machine.proofs.Runs.SentPieces.{reached_of}
+use Rattle.host_machine.proofs.Send.Reached.{ByNeighbor}
+use Rattle.host_machine.proofs.Send.Reached.{reached_of}
 use Rattle.iface_context.specs.declared.context.Context.{Context}
 use Rattle.iface_send.specs.Destination.{IsReached, IsRefused, ethertype_to}
 use Rattle.iface_context.specs.Stands.{host_in, host_of}

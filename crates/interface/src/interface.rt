@@ -100,7 +100,7 @@ impl Interface {
     ghost use Rattle.std.specs.Prelude.{ℤ};
     ghost use Rattle.std.specs.Borrow.{Bor};
     ghost use Rattle.socket_set.specs.SocketSet.{Sockets};
-    ghost use Rattle.host_machine.specs.Laws.Real.{IsRegular};
+    ghost use Rattle.host_machine.specs.Context.Real.{IsRegular};
     ghost use Rattle.host_machine.specs.Context.Host.{Host, at, without_expired};
     ghost use Rattle.host_machine.specs.Interface.Egress.{Egress};
     ghost use Rattle.host_machine.specs.Send.Hops.{HasNeighbor};

@@ -4,14 +4,14 @@ use Rattle.std.specs.Prelude.{◌==◌, if◌then◌else◌, map, set, drop, Opt
 use Rattle.std.specs.List.{AllByRecursion, slice_get}
 use Rattle.net_base.specs.Device.{handed_frames, sent_frames}
 use Rattle.net_base.proofs.KeptFrames.{frames_are_kept}
-use Rattle.host_machine.specs.Laws.Real.{IsRegular}
+use Rattle.host_machine.specs.Context.Real.{IsRegular}
 use Rattle.host_machine.specs.Context.Host.{Host}
 use Rattle.host_machine.specs.Interface.Step.{Step}
 use Rattle.host_machine.specs.Interface.Run.{Transition, Run, Ends, Then, events_in}
-use Rattle.host_machine.proofs.Runs.Walk.{sent_frames-append}
-use Rattle.host_machine.proofs.Receive.SlotEffects.{handed_frames-append}
+use Rattle.machine_laws.proofs.Runs.Walk.{sent_frames-append}
+use Rattle.machine_laws.proofs.Receive.SlotEffects.{handed_frames-append}
 use Rattle.host_machine.proofs.Receive.Pieces.{IsIn, contains_in, in_left, in_right}
-use Rattle.host_machine.proofs.Interface.RunConcatenation.{run_laws}
+use Rattle.machine_laws.proofs.Interface.RunConcatenation.{run_laws}
 use Rattle.host_laws.specs.Network.{IsHost, SendsBySockets, SentBySome, WereSentBySome}
 use Rattle.interface.specs.Stands.{StandsFor}
 use Rattle.host.specs.declared.link.Host.{Host as Linked}

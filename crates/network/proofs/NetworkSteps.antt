@@ -3,7 +3,7 @@ use Rattle.std.proofs.Common.{◌≡◌, ℕ, zero, suc, List, [], ◌∷◌, �
 use Rattle.std.specs.Prelude.{ℤ, ◌+◌, ◌<◌, ◌==◌, Bool, true, false, drop, set}
 use Rattle.std.proofs.lemmas.Bool.{eqb-false, eqb-true}
 use native.Mathlib.Omega.{arith}
-use Rattle.host_machine.specs.Laws.Real.{IsRegular}
+use Rattle.host_machine.specs.Context.Real.{IsRegular}
 use Rattle.std.specs.List.{slice_get}
 use Rattle.std.proofs.lemmas.List.{map-append}
 use Rattle.net_base.specs.MemoryDevice.{Tells}

@@ -13,14 +13,14 @@ use Rattle.ip_wire.specs.IpPacket.{next_header}
 use Rattle.network_sockets.specs.Raw.{Sent as Packet, packet_in}
 use Rattle.host_machine.specs.Context.Host.{Host, SocketSet}
 use Rattle.host_machine.specs.Interface.Run.{Transition, Run, Ends, Then, events_in}
-use Rattle.host_machine.proofs.Interface.SingleCalls.{events_in-append}
-use Rattle.host_machine.proofs.Receive.SlotEffects.{handed_frames-append}
+use Rattle.machine_laws.proofs.Interface.SingleCalls.{events_in-append}
+use Rattle.machine_laws.proofs.Receive.SlotEffects.{handed_frames-append}
 use Rattle.host_laws.specs.Network.{SentBySome, WereSentBySome}
 use Rattle.host_laws.specs.RawPackets.{SendsByRaw}
 use Rattle.host_laws.specs.RawTcp.{SendsTcpByRaw, SpeaksTcpByRaw}
 use Rattle.host_laws.proofs.DatagramOrigin.{all_parted}
 use Rattle.host_laws.proofs.RawTcp.{networks_speak_tcp_by_raw}
-use Rattle.host_machine.proofs.Interface.GrantedEgress.{sent_frames-append}
+use Rattle.machine_laws.proofs.Interface.GrantedEgress.{sent_frames-append}
 use Rattle.tcp_packets.specs.Again.{AreEnds}
 use Rattle.tcp_runs.specs.Lives.{Life, Event as Happens, after_event, after_events}
 use Rattle.tcp_runs.specs.Turns.{WasSent}

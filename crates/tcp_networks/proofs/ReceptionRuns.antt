@@ -18,7 +18,7 @@ use Rattle.ip_wire.specs.Ipv4Packet.{front, back, header_with}
 use Rattle.ipv6_wire.specs.declared.ipv6_packet.Ipv6Repr.{Ipv6Repr}
 use Rattle.ipv6_wire.specs.Ipv6Packet as ipv6
 use Rattle.network_sockets.specs.Raw as raw
-use Rattle.host_machine.proofs.Receive.FrameReading.{number_again}
+use Rattle.machine_laws.proofs.Receive.FrameReading.{number_again}
 use Rattle.network_sockets.specs.Raw.{RawSocket, Sent as Packet, packet_in, stored_packet, accepts, is_same_version, socket_after_delivery}
 use Rattle.socket_base.specs.Queue.{is_room}
 use Rattle.fragmentation.specs.Reassembly.{SlotNote}

@@ -7,7 +7,7 @@ use Rattle.ip_address.specs.declared.protocol.IpVersion.{IpVersion}
 use Rattle.ip_wire.specs.IpPacket.{next_header}
 use Rattle.network_sockets.specs.Raw.{packet_in}
 use Rattle.host_machine.specs.Context.Host.{Host}
-use Rattle.host_machine.specs.Laws.Real.{IsReal}
+use Rattle.host_machine.specs.Context.Real.{IsReal}
 use Rattle.host_machine.specs.Interface.Run.{Transition, Run}
 use Rattle.host_laws.specs.Network.{Runs, IsHost, WereSentBySome}
 use Rattle.host_laws.specs.RawArrivals.{RawArrival}

@@ -8,8 +8,8 @@ use Rattle.ip_address.specs.declared.protocol.IpVersion.{IpVersion}
 use Rattle.ip_wire.specs.IpPacket.{next_header}
 use Rattle.ip_wire.specs.Ipv4Packet.{IsIpv4, ipv4_in, is_fragment}
 use Rattle.network_sockets.specs.Raw.{RawSocket, Sent as Packet, packet_in}
-use Rattle.host_machine.specs.Laws.Frames.{Carries}
-use Rattle.host_machine.specs.Laws.Real.{IsReal}
+use Rattle.machine_laws.specs.Laws.Frames.{Carries}
+use Rattle.host_machine.specs.Context.Real.{IsReal}
 use Rattle.host_machine.specs.Interface.Run.{Transition, Run}
 use Rattle.host_machine.specs.Context.Host.{Host, SocketSet}
 use Rattle.host_laws.specs.Datagrams.{host_at_command}

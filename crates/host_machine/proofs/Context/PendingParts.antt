@@ -6,9 +6,9 @@ use Rattle.net_base.specs.declared.phy.Medium.{Medium}
 use Rattle.ip_address.specs.Hardware.{IsOf}
 use Rattle.fragmentation.specs.Fragments.{Fragment}
 use Rattle.fragmentation.specs.Cuts.{Datagram, HasForm, cut, pieces_of, piece_of}
-use Rattle.host_machine.specs.Laws.Real.{IsPart}
+use Rattle.host_machine.specs.Context.Real.{IsPart}
 use Rattle.host_machine.proofs.Receive.Pieces.{IsIn, contains_in, IsPiece, piece_in, part_of}
-use Rattle.host_machine.proofs.Runs.TwoHosts.{is_part}
+use Rattle.host_machine.proofs.Receive.Parts.{is_part}
 
 -- the pieces of a packet that was cut into two or more
 part_is : (m : Medium) (d : Datagram) (y : ℕ) (f : Fragment) → HasForm d → IsOf m d.destination → d.size ≡ y * 8 → 0 < d.size →

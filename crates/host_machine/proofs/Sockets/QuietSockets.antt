@@ -16,7 +16,7 @@ use Rattle.transport_sockets.specs.Tcp as tcp
 use Rattle.sockets.specs.Kinds.{RawOffer, IcmpOffer, UdpOffer, TcpOffer, offered_packet, socket_after_offer, poll_at}
 use Rattle.host_machine.specs.Context.Host.{Socket}
 use Rattle.host_machine.specs.Sockets.Polling.{instant_of}
-use Rattle.host_machine.specs.Laws.Quiet.{IsBefore, SocketsAreQuiet}
+use Rattle.host_machine.specs.Sockets.Quiet.{IsBefore, SocketsAreQuiet}
 
 -- what is due at once is never to come
 not_at_once : (t : ℤ) → pos 0 ≤ℤ t → t <ℤ pos 0 → ⊥

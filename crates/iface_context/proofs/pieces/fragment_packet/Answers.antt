@@ -2,7 +2,7 @@ use Rattle.std.proofs.Common.{rules, ◌≡◌, ◌<◌, ◌+◌, ◌-◌, ◌*�
 use Rattle.std.proofs.lemmas.List.{length-append}
 use Rattle.fragmentation.specs.Cuts.{Datagram, HasForm}
 use Rattle.host_machine.proofs.Context.PendingParts.{pieces_are}
-use Rattle.host_machine.proofs.Runs.TwoHosts.{size_positive}
+use Rattle.host_machine.proofs.Receive.Parts.{size_positive}
 use Rattle.iface_context.proofs.pieces.fragment_packet.Goals as goal
 
 pub invariant_of-context-clause-pending : goal.invariant_of-context-clause-pending

@@ -1,5 +1,0 @@
-use Rattle.host_machine.proofs.Receive.FrameReplies.{arp_served}
-use Rattle.host_machine.proofs.laws.arp_requests_are_answered.Goals as goal
-
-pub returns : goal.returns
-returns c = arp_served

@@ -1,5 +1,0 @@
-use Rattle.host_machine.proofs.Receive.FrameReplies.{arp_teaches}
-use Rattle.host_machine.proofs.laws.arp_senders_are_learnt.Goals as goal
-
-pub returns : goal.returns
-returns c = arp_teaches

@@ -1,5 +1,0 @@
-use Rattle.host_machine.proofs.Sockets.ClosedTcpPorts.{ports_reset}
-use Rattle.host_machine.proofs.laws.closed_tcp_ports_are_reset.Goals as goal
-
-pub returns : goal.returns
-returns c = ports_reset

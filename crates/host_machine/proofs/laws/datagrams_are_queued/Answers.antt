@@ -1,5 +1,0 @@
-use Rattle.host_machine.proofs.Sockets.DatagramDelivery.{datagrams_queued}
-use Rattle.host_machine.proofs.laws.datagrams_are_queued.Goals as goal
-
-pub returns : goal.returns
-returns c = datagrams_queued

@@ -1,5 +1,0 @@
-use Rattle.host_machine.proofs.Sockets.ManyDelivery.{many_queued}
-use Rattle.host_machine.proofs.laws.datagrams_to_many_are_queued.Goals as goal
-
-pub returns : goal.returns
-returns c = many_queued

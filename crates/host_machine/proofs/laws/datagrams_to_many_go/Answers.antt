@@ -1,5 +1,0 @@
-use Rattle.host_machine.proofs.Sockets.ManyPackets.{many_go}
-use Rattle.host_machine.proofs.laws.datagrams_to_many_go.Goals as goal
-
-pub returns : goal.returns
-returns c = many_go

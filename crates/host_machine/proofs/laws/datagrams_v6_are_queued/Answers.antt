@@ -1,5 +1,0 @@
-use Rattle.host_machine.proofs.Sockets.DatagramDeliveryV6.{datagrams_v6_queued}
-use Rattle.host_machine.proofs.laws.datagrams_v6_are_queued.Goals as goal
-
-pub returns : goal.returns
-returns c = datagrams_v6_queued

@@ -1,5 +1,0 @@
-use Rattle.host_machine.proofs.Runs.RunRequests.{run_asks}
-use Rattle.host_machine.proofs.laws.discoveries_are_noted.Goals as goal
-
-pub returns : goal.returns
-returns c = run_asks

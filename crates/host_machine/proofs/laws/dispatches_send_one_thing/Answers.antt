@@ -1,5 +1,0 @@
-use Rattle.host_machine.proofs.Discovery.NotedRequests.{sends_one}
-use Rattle.host_machine.proofs.laws.dispatches_send_one_thing.Goals as goal
-
-pub returns : goal.returns
-returns c = sends_one

@@ -1,5 +1,0 @@
-use Rattle.std.proofs.Common.{refl}
-use Rattle.host_machine.proofs.laws.groups_follow_addresses.Goals as goal
-
-pub returns : goal.returns
-returns c = record { moved = refl; loopback = refl; without_hardware = refl }

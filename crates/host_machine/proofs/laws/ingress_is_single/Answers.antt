@@ -1,5 +1,0 @@
-use Rattle.host_machine.proofs.Interface.OneFrameCalls.{single}
-use Rattle.host_machine.proofs.laws.ingress_is_single.Goals as goal
-
-pub returns : goal.returns
-returns c = single

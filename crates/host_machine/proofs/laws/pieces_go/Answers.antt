@@ -1,5 +1,0 @@
-use Rattle.host_machine.proofs.Interface.DueWork.{pieces_go}
-use Rattle.host_machine.proofs.laws.pieces_go.Goals as goal
-
-pub returns : goal.returns
-returns c = pieces_go

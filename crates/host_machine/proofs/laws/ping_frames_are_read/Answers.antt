@@ -1,5 +1,0 @@
-use Rattle.host_machine.proofs.Receive.RequestReading.{pings_read}
-use Rattle.host_machine.proofs.laws.ping_frames_are_read.Goals as goal
-
-pub returns : goal.returns
-returns c = pings_read

@@ -1,5 +1,0 @@
-use Rattle.host_machine.proofs.Sockets.SocketDelivery.{raw_packets_queued}
-use Rattle.host_machine.proofs.laws.raw_packets_are_queued.Goals as goal
-
-pub returns : goal.returns
-returns c = raw_packets_queued

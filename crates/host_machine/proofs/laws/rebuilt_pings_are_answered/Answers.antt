@@ -1,5 +1,0 @@
-use Rattle.host_machine.proofs.Icmp.RebuiltPings.{rebuilt_pings_served}
-use Rattle.host_machine.proofs.laws.rebuilt_pings_are_answered.Goals as goal
-
-pub returns : goal.returns
-returns c = rebuilt_pings_served

@@ -1,5 +1,0 @@
-use Rattle.host_machine.proofs.Examples.ArpExchange.{request_answered}
-use Rattle.host_machine.proofs.laws.request_is_answered.Goals as goal
-
-pub returns : goal.returns
-returns c = request_answered

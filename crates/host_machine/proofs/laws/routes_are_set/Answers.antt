@@ -1,5 +1,0 @@
-use Rattle.host_machine.proofs.Interface.Configured.{routes_set}
-use Rattle.host_machine.proofs.laws.routes_are_set.Goals as goal
-
-pub returns : goal.returns
-returns c = routes_set

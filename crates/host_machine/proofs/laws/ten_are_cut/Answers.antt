@@ -1,5 +1,0 @@
-use Rattle.std.proofs.Common.{refl}
-use Rattle.host_machine.proofs.laws.ten_are_cut.Goals as goal
-
-pub returns : goal.returns
-returns c = refl

@@ -1,5 +1,0 @@
-use Rattle.host_machine.proofs.Receive.SettingChanges.{frames_keep}
-use Rattle.host_machine.proofs.restraint.frames_keep_settings.Goals as goal
-
-pub returns : goal.returns
-returns c = frames_keep

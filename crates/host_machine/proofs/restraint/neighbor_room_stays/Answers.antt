@@ -1,5 +1,0 @@
-use Rattle.host_machine.proofs.Runs.NeighborRoom.{room_stays}
-use Rattle.host_machine.proofs.restraint.neighbor_room_stays.Goals as goal
-
-pub returns : goal.returns
-returns c = room_stays

@@ -1,5 +1,0 @@
-use Rattle.host_machine.proofs.Interface.OtherSteps.{keep_settings}
-use Rattle.host_machine.proofs.restraint.other_steps_keep_settings.Goals as goal
-
-pub returns : goal.returns
-returns c = keep_settings

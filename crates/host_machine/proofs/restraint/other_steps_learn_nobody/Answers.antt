@@ -1,5 +1,0 @@
-use Rattle.host_machine.proofs.Interface.OtherSteps.{learn_nobody}
-use Rattle.host_machine.proofs.restraint.other_steps_learn_nobody.Goals as goal
-
-pub returns : goal.returns
-returns c = learn_nobody

@@ -1,5 +1,0 @@
-use Rattle.host_machine.proofs.Packet.WellFormed.{well_formed}
-use Rattle.host_machine.proofs.restraint.packets_are_well_formed.Goals as goal
-
-pub returns : goal.returns
-returns c = well_formed

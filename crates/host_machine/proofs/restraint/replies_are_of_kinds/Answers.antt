@@ -1,5 +1,0 @@
-use Rattle.host_machine.proofs.Receive.ReplyLaws.{kinds_of_replies}
-use Rattle.host_machine.proofs.restraint.replies_are_of_kinds.Goals as goal
-
-pub returns : goal.returns
-returns c = kinds_of_replies

@@ -1,5 +1,0 @@
-use Rattle.host_machine.proofs.Receive.SettingChanges.{reports_asked}
-use Rattle.host_machine.proofs.restraint.reports_are_asked.Goals as goal
-
-pub returns : goal.returns
-returns c = reports_asked

@@ -1,5 +1,0 @@
-use Rattle.host_machine.proofs.Multicast.ReportTimes.{reports_wait}
-use Rattle.host_machine.proofs.restraint.reports_wait.Goals as goal
-
-pub returns : goal.returns
-returns c = reports_wait

@@ -1,5 +1,0 @@
-use Rattle.host_machine.proofs.Receive.ReplyLaws.{resets_caused}
-use Rattle.host_machine.proofs.restraint.resets_have_cause.Goals as goal
-
-pub returns : goal.returns
-returns c = resets_caused

@@ -1,5 +1,0 @@
-use Rattle.host_machine.proofs.Runs.RouterSolicitations.{run_solicits}
-use Rattle.host_machine.proofs.restraint.solicitations_are_few.Goals as goal
-
-pub returns : goal.returns
-returns c = run_solicits

@@ -1,5 +1,0 @@
-use Rattle.host_machine.proofs.Runs.OwnSources.{sources_own}
-use Rattle.host_machine.proofs.restraint.sources_are_own.Goals as goal
-
-pub returns : goal.returns
-returns c = sources_own

@@ -1,5 +1,0 @@
-use Rattle.host_machine.proofs.Receive.WordsByLists.{words_by_lists}
-use Rattle.host_machine.proofs.restraint.words_are_lists.Goals as goal
-
-pub returns : goal.returns
-returns c = words_by_lists

@@ -1,0 +1,2 @@
+pub mod DispatchDeterminism
+pub mod HopsByLists

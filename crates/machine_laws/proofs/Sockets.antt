@@ -1,0 +1,11 @@
+pub mod ClosedTcpPorts
+pub mod DatagramDelivery
+pub mod DatagramDeliveryV6
+pub mod ManyDelivery
+pub mod RawProtocols
+pub mod RebuiltDelivery
+pub mod ResetNumbers
+pub mod SocketDelivery
+pub mod FirstPackets
+pub mod ManyPackets
+pub mod QueueDecrease

@@ -1,0 +1,5 @@
+use Rattle.machine_laws.proofs.Receive.RequestReading.{solicitations_read}
+use Rattle.machine_laws.proofs.laws.solicitation_frames_are_read.Goals as goal
+
+pub returns : goal.returns
+returns c = solicitations_read
