@@ -23,7 +23,7 @@ OF_ANY_LENGTH = {"API.md"}
 LISTS = {
     "Adding a message": ([r"PktTooBig"], []),
     "Adding a call": ([r"SetAnyIp|TookAnyIp|any_ip", r"TookHardwareAddr|SetsHardwareAddr"], [
-        "crates/machine_laws/specs/Laws/Restraint/Settings.antt",   # no proof fails without it
+        "crates/host_laws/specs/Laws/Restraint/Settings.antt",   # no proof fails without it
         "crates/iface_c/src/properties.rt",                         # the setter of C
     ]),
     "Adding a kind of socket": (
@@ -180,7 +180,7 @@ def as_number(words):
 
 def test_law_counts(text):
     """Names each number of laws in THEOREM.md that isn't that of the rows, or of the fields, below it."""
-    ran = (TOP / "crates" / "machine_laws" / "specs" / "Laws" / "Ran.antt").read_text(encoding="utf-8")
+    ran = (TOP / "crates" / "host_laws" / "specs" / "Laws" / "Ran.antt").read_text(encoding="utf-8")
     fields = re.findall(r"^  pub (\w+) :", re.search(r"^pub record Laws (.*?)^$", ran, re.M | re.S).group(1), re.M)
     counts = [(r"the (\w+) laws of runs", len(fields)), (r"keeps the (\w+) laws", len(fields))]
     for words, heading in ((r"^([\w-]+) laws of what a host must do,", "### Laws of service"),

@@ -1,10 +1,10 @@
 -- A message is read as it was written.
 use Rattle.std.proofs.Common.{◌≡◌, ℕ, ◌+◌, ◌-◌, ◌%◌, ◌<◌, ◌≤◌, ◌^◌, Bool, true, false}
 use Rattle.std.proofs.Common.{IsTrue, List, ◌++◌, length, refl, ap, ◌∙◌, length-append, arith}
-use Rattle.wire_base.specs.Checksum.{folded_sum, word_sum}
+use Rattle.ip_wire.specs.Checksum.{folded_sum, word_sum}
 use Rattle.ip_wire.specs.Ipv4Packet.{quoted_in, header_text, header_with, front, back, whole}
 use Rattle.ip_wire.specs.declared.ipv4_packet.Ipv4Repr.{Ipv4Repr}
-use Rattle.wire_base.proofs.Sums.{summed_up}
+use Rattle.ip_wire.proofs.Sums.{summed_up}
 use Rattle.ip_wire.proofs.Ipv4Again.{total, quoted_again}
 use Rattle.control_wire.specs.declared.icmpv4.Icmpv4DstUnreachable.{Icmpv4DstUnreachable}
 use Rattle.control_wire.specs.declared.icmpv4.Icmpv4Repr.{Icmpv4Repr}

@@ -1,9 +1,9 @@
 -- Sums over the parts of a message.
 use Rattle.std.proofs.Common.{◌≡◌, ℕ, zero, suc, ◌+◌, ◌-◌, ◌/◌, ◌%◌, ◌<◌, ◌≤◌, ◌^◌, List, []}
 use Rattle.std.proofs.Common.{◌++◌, length, drop, refl, sym, ap, ◌∙◌, length-append, arith}
-use Rattle.wire_base.specs.Checksum.{folded_sum, word_sum, checksum_of}
-use Rattle.wire_base.proofs.Sums.{word, word_sum-append}
-use Rattle.wire_base.specs.Octets.{u16_at}
+use Rattle.ip_wire.specs.Checksum.{folded_sum, word_sum, checksum_of}
+use Rattle.ip_wire.proofs.Sums.{word, word_sum-append}
+use Rattle.ip_wire.specs.Octets.{u16_at}
 use Rattle.control_wire.specs.declared.icmpv4.Icmpv4Repr.TheVariants.{EchoReply}
 use Rattle.control_wire.specs.Icmpv4.{IsEchoRequest, code_in, echo_reply_to, head_with, type_in}
 

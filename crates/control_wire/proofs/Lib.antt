@@ -1,2 +1,13 @@
+pub mod IgmpAgain
+pub mod MldAgain
+pub mod Times
+pub mod EchoSums
+pub mod Icmpv6Again
+pub mod Icmpv6Sums
+pub mod NdiscAgain
+pub mod NdiscOptions
+pub mod NdiscSix
+pub mod RouterAgain
+pub mod RouterRead
 pub mod Icmpv4Sums
 pub mod Icmpv4Again

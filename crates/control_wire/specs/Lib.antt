@@ -1,2 +1,9 @@
+pub mod Igmp
+pub mod Mld
+pub mod Icmpv6
+pub mod Ndisc
+pub mod NdiscOption
+pub mod PrefixInformation
+pub mod Router
 pub mod Icmp
 pub mod Icmpv4

@@ -3,8 +3,8 @@ ghost use Rattle.std.specs.Prelude.{◌≡◌, ◌+◌, ◌%◌, ◌<◌, ◌≤
 ghost use Rattle.std.specs.Option.{SomeIff, option_map};
 ghost use Rattle.std.specs.Cmp.Rules.{comparing};
 ghost use Rattle.std.proofs.Common.{rules};
-ghost use Rattle.wire_base.specs.Checksum.{checksum_of};
-ghost use Rattle.wire_base.specs.Octets.{u16_at};
+ghost use Rattle.ip_wire.specs.Checksum.{checksum_of};
+ghost use Rattle.ip_wire.specs.Octets.{u16_at};
 ghost use Rattle.control_wire.specs.Icmpv4.{IsEchoRequest};
 ghost use Rattle.control_wire.specs.Icmpv4 as spec;
 

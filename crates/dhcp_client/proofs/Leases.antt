@@ -7,10 +7,10 @@ use Rattle.ip_address.specs.declared.ipv4.Ipv4Address.{Ipv4Address}
 use Rattle.ip_address.specs.Ipv4.{is_unicast}
 use Rattle.ip_address.specs.declared.ethernet_address.EthernetAddress.{EthernetAddress}
 use Rattle.ip_address.specs.EthernetAddress.{is_same}
-use Rattle.dhcp_wire.specs.declared.message.DhcpRepr.{DhcpRepr}
-use Rattle.dhcp_wire.specs.declared.message.DhcpMessageType.{DhcpMessageType}
-use Rattle.dhcp_wire.specs.declared.message.DhcpMessageType.TheVariants.{Discover, Offer, Request, Decline, Ack, Nak, Release, Inform}
-use Rattle.dhcp_wire.specs.declared.options.DhcpOptions.{DhcpOptions}
+use Rattle.dhcp_client.specs.declared.message.DhcpRepr.{DhcpRepr}
+use Rattle.dhcp_client.specs.declared.message.DhcpMessageType.{DhcpMessageType}
+use Rattle.dhcp_client.specs.declared.message.DhcpMessageType.TheVariants.{Discover, Offer, Request, Decline, Ack, Nak, Release, Inform}
+use Rattle.dhcp_client.specs.declared.options.DhcpOptions.{DhcpOptions}
 use Rattle.dhcp_client.specs.declared.client.Asked.{Asked}
 use Rattle.dhcp_client.specs.declared.client.DhcpClient.{DhcpClient}
 use Rattle.dhcp_client.specs.declared.client.DhcpPhase.{DhcpPhase}

@@ -1,3 +1,7 @@
+pub mod MessageAgain
+pub mod OptionsAgain
+pub mod Reading
+pub mod Texts
 pub mod Ends
 pub mod Leases
 pub mod Spacing

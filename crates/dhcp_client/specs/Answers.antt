@@ -3,9 +3,9 @@ use Rattle.std.specs.Prelude.{ℕ, ◌==◌, ◌&&◌, Bool, true, false, Option
 use Rattle.ip_address.specs.declared.ipv4.Ipv4Address.{Ipv4Address}
 use Rattle.ip_address.specs.Ipv4.{is_unicast}
 use Rattle.ip_address.specs.EthernetAddress.{is_same}
-use Rattle.dhcp_wire.specs.declared.message.DhcpRepr.{DhcpRepr}
-use Rattle.dhcp_wire.specs.declared.message.DhcpMessageType.{DhcpMessageType}
-use Rattle.dhcp_wire.specs.declared.message.DhcpMessageType.TheVariants.{Discover, Offer, Request, Decline, Ack, Nak, Release, Inform}
+use Rattle.dhcp_client.specs.declared.message.DhcpRepr.{DhcpRepr}
+use Rattle.dhcp_client.specs.declared.message.DhcpMessageType.{DhcpMessageType}
+use Rattle.dhcp_client.specs.declared.message.DhcpMessageType.TheVariants.{Discover, Offer, Request, Decline, Ack, Nak, Release, Inform}
 use Rattle.dhcp_client.specs.declared.client.Asked.{Asked}
 use Rattle.dhcp_client.specs.declared.client.DhcpClient.{DhcpClient}
 use Rattle.dhcp_client.specs.declared.client.DhcpPhase.{DhcpPhase}

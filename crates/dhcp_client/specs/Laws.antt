@@ -5,9 +5,9 @@ use Rattle.ip_address.specs.declared.ipv4.Ipv4Address.{Ipv4Address}
 use Rattle.ip_address.specs.Ipv4.{is_unicast}
 use Rattle.ip_address.specs.declared.ethernet_address.EthernetAddress.{EthernetAddress}
 use Rattle.ip_address.specs.EthernetAddress.{is_same}
-use Rattle.dhcp_wire.specs.declared.message.DhcpRepr.{DhcpRepr}
-use Rattle.dhcp_wire.specs.declared.message.DhcpMessageType.{DhcpMessageType}
-use Rattle.dhcp_wire.specs.declared.message.DhcpMessageType.TheVariants.{Discover, Offer, Request, Ack}
+use Rattle.dhcp_client.specs.declared.message.DhcpRepr.{DhcpRepr}
+use Rattle.dhcp_client.specs.declared.message.DhcpMessageType.{DhcpMessageType}
+use Rattle.dhcp_client.specs.declared.message.DhcpMessageType.TheVariants.{Discover, Offer, Request, Ack}
 use Rattle.dhcp_client.specs.declared.client.DhcpClient.{DhcpClient}
 use Rattle.dhcp_client.specs.declared.lease.DhcpLease.{DhcpLease}
 use Rattle.dhcp_client.specs.declared.lease.LeaseTimes.{LeaseTimes}

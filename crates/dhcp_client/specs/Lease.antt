@@ -2,8 +2,8 @@
 use Rattle.std.specs.Prelude.{ℕ, ◌+◌, ◌*◌, ◌==◌, ◌&&◌, nat_lt, nat_le, Bool, true, false, Option, Some, None, if◌then◌else◌}
 use Rattle.ip_address.specs.declared.ipv4.Ipv4Address.{Ipv4Address}
 use Rattle.ip_address.specs.Ipv4.{is_unicast}
-use Rattle.dhcp_wire.specs.declared.message.DhcpRepr.{DhcpRepr}
-use Rattle.dhcp_wire.specs.declared.options.DhcpOptions.{DhcpOptions}
+use Rattle.dhcp_client.specs.declared.message.DhcpRepr.{DhcpRepr}
+use Rattle.dhcp_client.specs.declared.options.DhcpOptions.{DhcpOptions}
 use Rattle.dhcp_client.specs.declared.lease.DhcpLease.{DhcpLease}
 use Rattle.dhcp_client.specs.declared.lease.LeaseTimes.{LeaseTimes}
 

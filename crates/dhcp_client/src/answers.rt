@@ -4,7 +4,7 @@ ghost use Rattle.dhcp_client.specs.Answers as spec;
 
 use crate::client::{DhcpClient, DhcpPhase};
 use crate::lease::DhcpLease;
-use dhcp_wire::{DhcpMessageType, DhcpRepr};
+use crate::{DhcpMessageType, DhcpRepr};
 
 impl DhcpClient {
     /// Receives a message. It counts only if it has the number of the exchange, the client's hardware address, a server's

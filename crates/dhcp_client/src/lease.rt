@@ -2,7 +2,7 @@
 ghost use Rattle.std.specs.Prelude.{◌≡◌, ◌+◌, ◌*◌, ◌<◌, ◌^◌};
 ghost use Rattle.dhcp_client.specs.Lease as spec;
 
-use dhcp_wire::{DhcpOptions, DhcpRepr};
+use crate::{DhcpOptions, DhcpRepr};
 use ip_address::Ipv4Address;
 
 /// The duration of a lease without end (RFC 2131 3.3).

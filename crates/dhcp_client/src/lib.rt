@@ -1,12 +1,20 @@
-//! A client of DHCP for IPv4: what it sends, and what it makes of the answers. It has no socket.
+//! DHCP for IPv4: messages, a client, and the same over sockets.
 #![tactic(auto)]
 
 pub mod answers;
 pub mod client;
+pub mod datagrams;
 pub mod laws;
 pub mod lease;
+pub mod message;
 pub mod messages;
+pub mod options;
+pub mod packets;
 
 pub use client::{DhcpClient, DhcpPhase};
+pub use datagrams::{receive, receive_datagram, send_by_raw, send_by_udp, server_of};
 pub use lease::{DhcpEvent, DhcpLease, LeaseTimes};
+pub use message::{DhcpMessageType, DhcpRepr};
 pub use messages::DhcpMessage;
+pub use options::DhcpOptions;
+pub use packets::DhcpRoom;

@@ -5,7 +5,7 @@ ghost use Rattle.dhcp_client.specs.Messages as spec;
 
 use crate::client::{Asked, DhcpClient, DhcpPhase, SILENCE};
 use crate::lease::{DhcpLease, LeaseTimes};
-use dhcp_wire::{DhcpMessageType, DhcpOptions, DhcpRepr};
+use crate::{DhcpMessageType, DhcpOptions, DhcpRepr};
 use ip_address::Ipv4Address;
 
 /// The longest message that a client takes, in octets: 1,500 without the headers of IPv4 and UDP.

@@ -1,6 +1,6 @@
-pub mod Asking
-pub mod Ends
+pub mod MessageAgain
 pub mod Reading
-pub mod Spacing
-pub mod Standing
-pub mod Taking
+pub mod TextAgain
+pub mod Writing
+pub mod DnsClient
+pub mod Alone

@@ -2,8 +2,8 @@
 use Rattle.std.specs.Prelude.{ℕ, ◌==◌, ◌&&◌, not, nat_le, nat_lt, Bool, false, Option, Some, None, List, length, slice_index_or, if◌then◌else◌}
 use Rattle.ip_address.specs.declared.ip.IpAddress.{IpAddress}
 use Rattle.ip_address.specs.declared.ip.IpAddress.TheVariants.{Ipv4, Ipv6}
-use Rattle.dns_wire.specs.Names.{is_same_name}
-use Rattle.dns_wire.specs.Message.{header_in, is_question, question_in, number_of}
+use Rattle.dns_client.specs.Names.{is_same_name}
+use Rattle.dns_client.specs.Message.{header_in, is_question, question_in, number_of}
 use Rattle.dns_client.specs.declared.query.DnsFailure.TheVariants.{NoSuchName, ServerFailure, Truncated}
 use Rattle.dns_client.specs.declared.query.DnsQuery.{DnsQuery}
 use Rattle.dns_client.specs.declared.query.DnsResult.{DnsResult}

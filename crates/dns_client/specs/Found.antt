@@ -2,12 +2,12 @@
 use Rattle.std.specs.Prelude.{ℕ, zero, suc, ◌+◌, ◌==◌, nat_lt, Bool, true, false, Option, Some, None, List, [], ◌∷◌, set, if◌then◌else◌}
 use Rattle.ip_address.specs.declared.ip.IpAddress.{IpAddress}
 use Rattle.ip_address.specs.declared.ip.IpAddress.TheVariants.{Ipv4, Ipv6}
-use Rattle.dns_wire.specs.declared.message.DnsType.{DnsType}
-use Rattle.dns_wire.specs.declared.message.DnsType.TheVariants as type
-use Rattle.dns_wire.specs.declared.record.DnsData.{DnsData}
-use Rattle.dns_wire.specs.declared.record.DnsData.TheVariants.{A, Aaaa, Cname, Other}
-use Rattle.dns_wire.specs.Names.{is_same_name}
-use Rattle.dns_wire.specs.Record.{is_record, record_in}
+use Rattle.dns_client.specs.declared.message.DnsType.{DnsType}
+use Rattle.dns_client.specs.declared.message.DnsType.TheVariants as type
+use Rattle.dns_client.specs.declared.record.DnsData.{DnsData}
+use Rattle.dns_client.specs.declared.record.DnsData.TheVariants.{A, Aaaa, Cname, Other}
+use Rattle.dns_client.specs.Names.{is_same_name}
+use Rattle.dns_client.specs.Record.{is_record, record_in}
 use Rattle.dns_client.specs.declared.found.Found.{Found}
 use Rattle.dns_client.specs.declared.query.DnsFailure.TheVariants.{NoAddress, TooManyAliases}
 use Rattle.dns_client.specs.declared.query.DnsResult.{DnsResult}

@@ -1,14 +1,14 @@
 -- What a query promises, whatever happens to it.
 use Rattle.std.specs.Prelude.{◌≡◌, ℕ, ◌+◌, ◌*◌, ◌≤◌, ◌<◌, ◌⊎◌, true, false, List, length, get_or, Option, Some, None, IfSome, slice_index, slice_index_or}
-use Rattle.wire_base.specs.Octets.{u16_at}
+use Rattle.ip_wire.specs.Octets.{u16_at}
 use Rattle.ip_address.specs.declared.ip.IpAddress.{IpAddress}
 use Rattle.ip_address.specs.declared.ip.IpAddress.TheVariants.{Ipv4, Ipv6}
-use Rattle.dns_wire.specs.declared.message.DnsType.{DnsType}
-use Rattle.dns_wire.specs.declared.record.DnsData.{DnsData}
-use Rattle.dns_wire.specs.declared.record.DnsData.TheVariants.{A, Aaaa, Cname}
-use Rattle.dns_wire.specs.Names.{is_same_name, end_of}
-use Rattle.dns_wire.specs.Message.{number_of}
-use Rattle.dns_wire.specs.Record.{is_record, record_in}
+use Rattle.dns_client.specs.declared.message.DnsType.{DnsType}
+use Rattle.dns_client.specs.declared.record.DnsData.{DnsData}
+use Rattle.dns_client.specs.declared.record.DnsData.TheVariants.{A, Aaaa, Cname}
+use Rattle.dns_client.specs.Names.{is_same_name, end_of}
+use Rattle.dns_client.specs.Message.{number_of}
+use Rattle.dns_client.specs.Record.{is_record, record_in}
 use Rattle.dns_client.specs.declared.query.DnsFailure.TheVariants.{TimedOut}
 use Rattle.dns_client.specs.declared.query.DnsQuery.{DnsQuery}
 use Rattle.dns_client.specs.declared.query.DnsResult.{DnsResult}

@@ -1,6 +1,6 @@
 -- One query: whom it asks, and when (RFC 1035 4.2.1, 7.2). Instants are in microseconds.
 use Rattle.std.specs.Prelude.{ℕ, ◌+◌, ◌-◌, ◌*◌, ◌/◌, ◌%◌, ◌==◌, ◌&&◌, nat_le, nat_lt, min, max, Bool, true, false, Option, Some, None, if◌then◌else◌}
-use Rattle.dns_wire.specs.declared.message.DnsType.{DnsType}
+use Rattle.dns_client.specs.declared.message.DnsType.{DnsType}
 use Rattle.dns_client.specs.declared.query.DnsFailure.TheVariants.{TimedOut}
 use Rattle.dns_client.specs.declared.query.DnsQuery.{DnsQuery}
 use Rattle.dns_client.specs.declared.query.DnsResult.{DnsResult}

@@ -1,13 +1,13 @@
 //! What a query makes of the messages that come (RFC 1035 7.3, RFC 5452 3, 9.1).
 ghost use Rattle.std.specs.Prelude.{◌≡◌, ◌+◌, ◌≤◌, ◌&&◌, ◌==◌, nat_le, length, IsTrue};
 ghost use Rattle.dns_client.specs.Answers as spec;
-ghost use Rattle.dns_wire.specs.Message.{is_question};
+ghost use Rattle.dns_client.specs.Message.{is_question};
 
 use crate::found::found_in;
 use crate::query::{DnsFailure, DnsQuery, DnsResult};
-use dns_wire::message::{HEADER_LEN, SERVER_PORT};
-use dns_wire::name::is_same_name;
-use dns_wire::{DnsHeader, DnsQuestion};
+use crate::message::{HEADER_LEN, SERVER_PORT};
+use crate::name::is_same_name;
+use crate::{DnsHeader, DnsQuestion};
 use ip_address::IpAddress;
 
 impl DnsQuery {

@@ -3,8 +3,8 @@ ghost use Rattle.std.specs.Prelude.{◌≡◌, ◌+◌, ◌<◌, ◌≤◌, leng
 ghost use Rattle.dns_client.specs.Found as spec;
 
 use crate::query::{DnsFailure, DnsResult, MAX_ADDRESSES};
-use dns_wire::name::is_same_name;
-use dns_wire::{DnsData, DnsRecord, DnsType};
+use crate::name::is_same_name;
+use crate::{DnsData, DnsRecord, DnsType};
 use ip_address::IpAddress;
 
 /// The most aliases that are followed.

@@ -2,7 +2,7 @@
 ghost use Rattle.std.specs.Prelude.{◌≡◌, ◌+◌, ◌*◌, ◌-◌, ◌/◌, ◌<◌, ◌≤◌, ◌^◌, ◌%◌, min, max};
 ghost use Rattle.dns_client.specs.Query as spec;
 
-use dns_wire::DnsType;
+use crate::DnsType;
 use ip_address::IpAddress;
 
 /// How long each server is asked, in microseconds, before it is the next one's turn.

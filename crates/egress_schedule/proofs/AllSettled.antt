@@ -8,7 +8,7 @@ use Rattle.std.proofs.lemmas.Bool.{and_parts, cases_lt, eqb-true, le-ltb}
 use Rattle.std.proofs.lemmas.Bool.Decides.{Decides-int_eq}
 use Rattle.ip_address.specs.declared.ip.IpAddress.{IpAddress}
 use Rattle.ip_address.specs.declared.ip.IpAddress.TheVariants.{Ipv4, Ipv6}
-use Rattle.socket_base.specs.Source.{is_same}
+use Rattle.sockets.specs.Source.{is_same}
 use Rattle.sockets.specs.declared.socket.SocketOf.{SocketOf}
 use Rattle.socket_set.specs.SocketMeta.{Wait}
 use Rattle.socket_set.specs.SocketSet.{socket_at, wait_at, wait_of, with_wait}

@@ -13,7 +13,7 @@ use Rattle.std.proofs.lemmas.Bool.{cases_eq, cases_lt, le-ltb, lt-ltb, ne_eqb, o
 use Rattle.std.proofs.lemmas.Int.{ints}
 use Rattle.net_base.specs.Time.{silence_from}
 use Rattle.ip_address.specs.declared.ip.IpAddress.{IpAddress}
-use Rattle.socket_base.specs.Queue.{first_of}
+use Rattle.sockets.specs.Queue.{first_of}
 use Rattle.sockets.specs.declared.socket.SocketOf.{SocketOf}
 use Rattle.sockets.specs.declared.socket.SocketOf.TheVariants.{Raw, Icmp, Udp, Tcp}
 use Rattle.socket_set.specs.SocketMeta.{Wait}

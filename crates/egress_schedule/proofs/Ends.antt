@@ -3,7 +3,7 @@ use Rattle.std.specs.Prelude.{ℕ, zero, suc, ◌≡◌, ◌≢◌, ◌<◌, ◌
 use Rattle.std.specs.Prelude.{List, [], ◌∷◌, length, get_or, slice_get, slice_set, Option, Some, None, IfSome, refl, if◌then◌else◌}
 use Rattle.std.specs.Option.{option_and_then}
 use Rattle.std.proofs.Common.{inl, inr, sym, ap, ◌∙◌, subst, arith}
-use Rattle.socket_base.specs.Source.{is_same}
+use Rattle.sockets.specs.Source.{is_same}
 use Rattle.std.proofs.lemmas.Bool.{cases_eq, cases_lt, or_parts}
 use Rattle.ip_address.specs.declared.ip.IpAddress.{IpAddress}
 use Rattle.sockets.specs.Kinds.{socket_after_told}

@@ -4,7 +4,7 @@ use Rattle.std.specs.Ordering.{int_eq}
 use Rattle.std.proofs.Common.{sym, ap, ◌∙◌}
 use Rattle.std.proofs.lemmas.Bool.{and_parts}
 use Rattle.ip_address.specs.declared.ip.IpAddress.{IpAddress}
-use Rattle.socket_base.specs.Source.{is_same}
+use Rattle.sockets.specs.Source.{is_same}
 use Rattle.socket_set.specs.SocketMeta.{Wait, is_wait}
 use Rattle.socket_set.specs.SocketSet.{socket_at, wait_of}
 use Rattle.egress_schedule.specs.declared.watch.Waiting.{Waiting}

@@ -9,7 +9,7 @@ use Rattle.std.proofs.lemmas.Option.{slice_get_past}
 use Rattle.std.proofs.lemmas.Bool.Decides.{nat_tests}
 use Rattle.std.proofs.lemmas.List.{get_or-set_other}
 use Rattle.sockets.specs.Kinds.{poll_at}
-use Rattle.socket_base.specs.declared.poll_at.PollAt.TheVariants.{Ingress}
+use Rattle.sockets.specs.declared.poll_at.PollAt.TheVariants.{Ingress}
 use Rattle.sockets.specs.declared.socket.SocketOf.{SocketOf}
 use Rattle.socket_set.specs.Busy.{IsIdle}
 use Rattle.socket_set.specs.SocketMeta.{Wait}

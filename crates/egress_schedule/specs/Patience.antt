@@ -7,7 +7,7 @@ use Rattle.std.specs.Ordering.{int_cmp, is_gt, is_le}
 use Rattle.ip_address.specs.declared.ip.IpAddress.{IpAddress}
 use Rattle.sockets.specs.Kinds.{socket_after_told}
 use Rattle.sockets.specs.declared.socket.SocketOf.{SocketOf}
-use Rattle.socket_base.specs.Source.{is_same}
+use Rattle.sockets.specs.Source.{is_same}
 use Rattle.socket_set.specs.SocketMeta.{Wait}
 use Rattle.socket_set.specs.SocketSet.{Sockets, socket_at, wait_of, with_place, with_wait}
 use Rattle.egress_schedule.specs.declared.watch.Waiting.{Waiting}

@@ -1,6 +1,6 @@
 -- What a socket has to send: how many packets, and how long they are.
 use Rattle.std.specs.Prelude.{ℕ, ◌+◌, nat_lt, not, Bool, false, List, length, map, Option, Some, None}
-use Rattle.socket_base.specs.Queue.{Queued, first_of, is_room}
+use Rattle.sockets.specs.Queue.{Queued, first_of, is_room}
 use Rattle.sockets.specs.declared.socket.SocketOf.{SocketOf}
 use Rattle.sockets.specs.declared.socket.SocketOf.TheVariants.{Raw, Icmp, Udp, Tcp}
 

@@ -6,7 +6,7 @@ use Rattle.std.specs.Option.{option_map}
 use Rattle.std.specs.Ordering.{int_cmp, is_gt, is_le}
 use Rattle.net_base.specs.Time.{silence_from}
 use Rattle.ip_address.specs.declared.ip.IpAddress.{IpAddress}
-use Rattle.socket_base.specs.Source.{is_same}
+use Rattle.sockets.specs.Source.{is_same}
 use Rattle.sockets.specs.Kinds.{socket_after_told}
 use Rattle.socket_set.specs.SocketSet.{Sockets, socket_at, wait_of}
 use Rattle.egress_schedule.specs.declared.watch.Waiting.{Waiting}

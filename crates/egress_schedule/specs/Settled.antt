@@ -3,7 +3,7 @@
 use Rattle.std.specs.Prelude.{ℕ, ◌&&◌, not, Bool, false, is_none, is_some, List, get_or, ℤ, Option, Some, None}
 use Rattle.std.specs.Ordering.{int_eq, int_cmp, is_le}
 use Rattle.ip_address.specs.declared.ip.IpAddress.{IpAddress}
-use Rattle.socket_base.specs.Source.{is_same}
+use Rattle.sockets.specs.Source.{is_same}
 use Rattle.socket_set.specs.SocketMeta.{Wait}
 use Rattle.socket_set.specs.SocketSet.{wait_of}
 use Rattle.egress_schedule.specs.declared.watch.Waiting.{Waiting}

@@ -1,6 +1,6 @@
 //! What a socket has to send: how many packets, and how long the first one is.
 ghost use Rattle.std.specs.Prelude.{◌≡◌, ◌≤◌, Some};
-ghost use Rattle.socket_base.specs.Queue.{first_of};
+ghost use Rattle.sockets.specs.Queue.{first_of};
 ghost use Rattle.egress_schedule.specs.Queues as spec;
 ghost use Rattle.egress_schedule.specs.Queues.{len_behind};
 

@@ -1,6 +1,6 @@
 -- What a gateway forwards, and as what.
 use Rattle.std.specs.Prelude.{ℕ, ◌-◌, ◌/◌, ◌%◌, ◌*◌, List, slice_index, slice_set, take}
-use Rattle.wire_base.specs.Checksum.{checksum_of}
+use Rattle.ip_wire.specs.Checksum.{checksum_of}
 
 -- RFC 791 3.1: how long a header is, in octets
 abbrev pub header_len : List ℕ → ℕ

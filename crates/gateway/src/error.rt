@@ -2,8 +2,8 @@
 
 use crate::transit::Packet;
 use ip_wire::{IpProtocol, Ipv4Address, Ipv4Fragment, Ipv4Repr};
-use wire_base::checksum::sum_with;
-use wire_base::emit::FrameBuffer;
+use ip_wire::checksum::sum_with;
+use ip_wire::emit::FrameBuffer;
 
 /// How many octets of a packet an error has at most, so that it isn't longer than 576 (RFC 1812 4.3.2.3).
 const QUOTED_LEN: usize = 548;

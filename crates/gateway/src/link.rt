@@ -18,7 +18,7 @@ use net_base::time::{Duration, Instant};
 use sockets::{Queue, icmp, raw};
 use std::alloc::Global;
 use std::mem;
-use token_bucket::bucket::Bucket;
+use net_base::bucket::Bucket;
 
 /// A link: Ethernet, with packets of at most 1500 octets.
 const CAPABILITIES: DeviceCapabilities = DeviceCapabilities {

@@ -5,8 +5,8 @@ ghost use Rattle.gateway.specs.Transit as spec;
 use anyhow::Result;
 use ip_wire::{IpProtocol, Ipv4Address, Ipv4Cidr, Ipv4Fragment, Ipv4Repr};
 use std::alloc::Global;
-use wire_base::checksum::checksum;
-use wire_base::octets::u16_at;
+use ip_wire::checksum::checksum;
+use ip_wire::octets::u16_at;
 
 /// The length of a header without options, in octets.
 const HEADER_LEN: usize = 20;

@@ -2,8 +2,8 @@
 use Rattle.std.proofs.Common.{◌≡◌, ◌≤◌, ◌+◌, ◌-◌, ◌*◌, ℕ, suc, Bool, true, false, refl, subst, arith, List, [], ◌∷◌, length}
 use Rattle.std.specs.Prelude.{◌≢◌, max, is_none, not, ◌||◌, ◌&&◌, ◌==◌, nat_lt, Some, None, if◌then◌else◌, Option}
 use Rattle.std.proofs.lemmas.Bool.Decides.{nat_tests}
-use Rattle.token_bucket.specs.declared.bucket.Bucket.{Bucket}
-use Rattle.token_bucket.specs.Bucket.{has_token}
+use Rattle.net_base.specs.declared.bucket.Bucket.{Bucket}
+use Rattle.net_base.specs.Bucket.{has_token}
 use Rattle.guard.specs.declared.answers.Answer.{Answer}
 use Rattle.guard.specs.declared.answers.Answer.TheVariants.{EchoReply, Error, Reset}
 use Rattle.guard.specs.declared.answers.Answers.{Answers}

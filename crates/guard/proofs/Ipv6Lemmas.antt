@@ -5,9 +5,9 @@ use Rattle.std.specs.FinMap as map
 use Rattle.std.specs.List.{list_any}
 use Rattle.std.proofs.lemmas.Bool.Decides.{nat_tests}
 use Rattle.std.proofs.lemmas.Slice.Eq.{bytes_eq-Decides}
-use Rattle.wire_base.specs.Octets.{u16_at}
-use Rattle.ipv6_wire.specs.Ipv6Packet.{address_at}
-use Rattle.token_bucket.specs.declared.bucket.Bucket.{Bucket}
+use Rattle.ip_wire.specs.Octets.{u16_at}
+use Rattle.ip_wire.specs.Ipv6Packet.{address_at}
+use Rattle.net_base.specs.declared.bucket.Bucket.{Bucket}
 use Rattle.ip_address.specs.Cidr.{address_of}
 use Rattle.ip_address.specs.Ip.{is_unicast, is_unspecified}
 use Rattle.ip_address.specs.EthernetAddress.{is_same as is_same_hardware}
@@ -16,7 +16,7 @@ use Rattle.ip_address.specs.declared.ethernet_address.EthernetAddress.{EthernetA
 use Rattle.ip_address.specs.declared.hardware.HardwareAddress.TheVariants.{Ethernet}
 use Rattle.ip_address.specs.declared.ip.IpAddress.{IpAddress}
 use Rattle.ip_address.specs.declared.ip.IpAddress.TheVariants.{Ipv4, Ipv6}
-use Rattle.socket_base.specs.Source.{is_same}
+use Rattle.sockets.specs.Source.{is_same}
 use Rattle.iface_tables.specs.Neighbor.{answer_of, is_before, is_found}
 use Rattle.iface_tables.specs.declared.neighbor.Neighbor.{Neighbor as Entry}
 use Rattle.guard.specs.declared.guard.Guard.{Guard}

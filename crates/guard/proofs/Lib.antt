@@ -3,3 +3,4 @@ pub mod RateLemmas
 pub mod RuleLemmas
 pub mod AnswerLemmas
 pub mod Ipv6Lemmas
+pub mod SightLemmas

@@ -3,9 +3,9 @@ use Rattle.std.proofs.Common.{◌≡◌, ◌≤◌, ◌+◌, ◌*◌, ◌%◌, �
 use Rattle.std.specs.Prelude.{◌⊎◌, ◌≢◌, is_none, is_some, Option, not, ◌||◌, ◌&&◌, ◌==◌, nat_lt, slice_get, Some, None, if◌then◌else◌}
 use Rattle.std.specs.List.{list_any}
 use Rattle.std.proofs.lemmas.Bool.Decides.{nat_tests}
-use Rattle.wire_base.specs.Octets.{u16_at}
-use Rattle.ipv6_wire.specs.Ipv6Packet.{address_at}
-use Rattle.token_bucket.specs.declared.bucket.Bucket.{Bucket}
+use Rattle.ip_wire.specs.Octets.{u16_at}
+use Rattle.ip_wire.specs.Ipv6Packet.{address_at}
+use Rattle.net_base.specs.declared.bucket.Bucket.{Bucket}
 use Rattle.ip_address.specs.Ip.{is_unspecified}
 use Rattle.ip_address.specs.EthernetAddress.{is_same as is_same_hardware}
 use Rattle.ip_address.specs.declared.cidr.IpCidr.{IpCidr}
@@ -13,7 +13,7 @@ use Rattle.ip_address.specs.declared.ethernet_address.EthernetAddress.{EthernetA
 use Rattle.ip_address.specs.declared.hardware.HardwareAddress.{HardwareAddress}
 use Rattle.ip_address.specs.declared.ip.IpAddress.{IpAddress}
 use Rattle.ip_address.specs.declared.ip.IpAddress.TheVariants.{Ipv4, Ipv6}
-use Rattle.socket_base.specs.Source.{is_same}
+use Rattle.sockets.specs.Source.{is_same}
 use Rattle.iface_tables.specs.Neighbor.{Neighbors}
 use Rattle.guard.specs.declared.guard.Guard.{Guard}
 use Rattle.guard.specs.declared.queries.Waits.{Waits}

@@ -2,8 +2,8 @@
 use Rattle.std.proofs.Common.{◌≡◌, ◌≤◌, ◌+◌, ◌-◌, ◌*◌, ℕ, suc, Bool, true, false, refl, subst, arith, List, [], ◌∷◌, pos, ℤ}
 use Rattle.std.specs.Prelude.{max, is_none, is_some, not, ◌||◌, ◌&&◌, ◌==◌, Some, None, if◌then◌else◌, Option}
 use Rattle.std.proofs.lemmas.Bool.Decides.{nat_tests}
-use Rattle.token_bucket.specs.declared.bucket.Bucket.{Bucket}
-use Rattle.token_bucket.specs.Bucket.{has_token, after_take}
+use Rattle.net_base.specs.declared.bucket.Bucket.{Bucket}
+use Rattle.net_base.specs.Bucket.{has_token, after_take}
 use Rattle.guard.specs.declared.guard.Guard.{Guard}
 use Rattle.guard.specs.declared.guard.Noted.{Noted}
 use Rattle.ip_address.specs.declared.ip.IpAddress.{IpAddress}

@@ -2,8 +2,8 @@
 use Rattle.std.proofs.Common.{◌≡◌, ◌≤◌, ◌<◌, ◌+◌, ◌-◌, ap, sym, ℕ, suc, ℤ, Bool, true, false, refl, arith, List, [], ◌∷◌, pos}
 use Rattle.std.specs.Prelude.{◌≢◌, is_none, is_some, not, ◌||◌, ◌&&◌, ◌==◌, nat_le, nat_lt, Some, None, if◌then◌else◌, Option}
 use Rattle.std.proofs.lemmas.Bool.Decides.{nat_tests}
-use Rattle.token_bucket.specs.declared.bucket.Bucket.{Bucket}
-use Rattle.token_bucket.specs.Bucket.{after_take, has_token}
+use Rattle.net_base.specs.declared.bucket.Bucket.{Bucket}
+use Rattle.net_base.specs.Bucket.{after_take, has_token}
 use Rattle.ip_address.specs.declared.ip.IpAddress.{IpAddress}
 use Rattle.ip_address.specs.declared.ipv4.Ipv4Address.{Ipv4Address}
 use Rattle.ip_address.specs.declared.protocol.IpVersion.{IpVersion}

@@ -1,6 +1,6 @@
 -- What a guard promises of answers to strangers' frames.
 use Rattle.std.specs.Prelude.{◌≡◌, ◌≢◌, ◌≤◌, ◌+◌, ◌-◌, ◌*◌, ◌&&◌, ℕ, suc, Bool, true, false, List, [], ◌∷◌, is_none, length, Option, Some, None, if◌then◌else◌}
-use Rattle.token_bucket.specs.declared.bucket.Bucket.{Bucket}
+use Rattle.net_base.specs.declared.bucket.Bucket.{Bucket}
 use Rattle.guard.specs.declared.answers.Answer.{Answer}
 use Rattle.guard.specs.declared.answers.Answer.TheVariants.{EchoReply, Error, Reset}
 use Rattle.guard.specs.declared.answers.Answers.{Answers}

@@ -1,6 +1,6 @@
 -- Which answers to strangers' frames a host may send.
 use Rattle.std.specs.Prelude.{ℕ, ◌+◌, ◌*◌, ◌/◌, ◌%◌, nat_lt, ◌==◌, ◌||◌, ◌&&◌, not, Bool, List, length, Option, Some, None, if◌then◌else◌}
-use Rattle.wire_base.specs.Octets.{u16_at}
+use Rattle.ip_wire.specs.Octets.{u16_at}
 use Rattle.guard.specs.declared.answers.Answer.{Answer}
 use Rattle.guard.specs.declared.answers.Answer.TheVariants.{EchoReply, Error, Reset}
 use Rattle.guard.specs.declared.answers.Answers.{Answers}

@@ -6,10 +6,10 @@ use Rattle.ip_address.specs.Ip.{is_unicast, is_unspecified}
 use Rattle.ip_address.specs.declared.ip.IpAddress.{IpAddress}
 use Rattle.ip_address.specs.declared.cidr.IpCidr.{IpCidr}
 use Rattle.ip_address.specs.declared.hardware.HardwareAddress.{HardwareAddress}
-use Rattle.socket_base.specs.Source.{is_same}
+use Rattle.sockets.specs.Source.{is_same}
 use Rattle.iface_tables.specs.Neighbor.{Neighbors, answer_of, is_found}
-use Rattle.token_bucket.specs.Bucket.{has_token, after_take}
-use Rattle.token_bucket.specs.declared.bucket.Bucket.{Bucket}
+use Rattle.net_base.specs.Bucket.{has_token, after_take}
+use Rattle.net_base.specs.declared.bucket.Bucket.{Bucket}
 use Rattle.guard.specs.declared.kind.Kind.{Kind}
 use Rattle.guard.specs.declared.kind.Kind.TheVariants.{Arp, Neighbor, Query, Router, Packet, Other}
 use Rattle.guard.specs.declared.kind.Sort.{Sort}
@@ -20,8 +20,8 @@ use Rattle.guard.specs.declared.guard.Reason.{Reason}
 use Rattle.guard.specs.declared.guard.Reason.TheVariants as reason
 use Rattle.guard.specs.Claim.{comes_back, is_from_host}
 use Rattle.guard.specs.Kind.{ipv4_at, kind_of, sort_of_ipv4, sort_of_ipv6}
-use Rattle.wire_base.specs.Octets.{u16_at}
-use Rattle.ipv6_wire.specs.Ipv6Packet.{address_at}
+use Rattle.ip_wire.specs.Octets.{u16_at}
+use Rattle.ip_wire.specs.Ipv6Packet.{address_at}
 use Rattle.ip_address.specs.declared.ip.IpAddress.TheVariants.{Ipv6}
 use Rattle.guard.specs.Pins.{is_forbidden, no_pins}
 use Rattle.guard.specs.Queries as queries

@@ -1,12 +1,12 @@
 -- Frames with packets of IPv6, by their octets: 14 of Ethernet, 40 of the header (RFC 8200 3), then the payload.
 use Rattle.std.specs.Prelude.{◌≡◌, ◌≢◌, ◌≤◌, ◌<◌, ◌⊎◌, ◌+◌, ◌*◌, ℕ, true, List, length, slice_get, Some}
-use Rattle.wire_base.specs.Octets.{u16_at}
+use Rattle.ip_wire.specs.Octets.{u16_at}
 use Rattle.ip_address.specs.Cidr.{address_of}
 use Rattle.ip_address.specs.declared.cidr.IpCidr.{IpCidr}
 use Rattle.ip_address.specs.declared.ethernet_address.EthernetAddress.{EthernetAddress}
 use Rattle.ip_address.specs.declared.ip.IpAddress.{IpAddress}
 use Rattle.ip_address.specs.declared.ip.IpAddress.TheVariants.{Ipv6}
-use Rattle.ipv6_wire.specs.Ipv6Packet.{address_at}
+use Rattle.ip_wire.specs.Ipv6Packet.{address_at}
 use Rattle.guard.specs.Kind.{octet_at}
 use Rattle.guard.specs.Claim.{hardware_at}
 

@@ -1,10 +1,10 @@
 -- What a frame is to a guard, by its octets: 14 of Ethernet, then ARP (RFC 826), IPv4 (RFC 791 3.1) or IPv6 (RFC 8200 3).
 use Rattle.std.specs.Prelude.{ℕ, ◌+◌, ◌*◌, ◌%◌, nat_lt, ◌==◌, ◌&&◌, ◌||◌, not, Bool, false, List, length, get_or, Option, Some, None, if◌then◌else◌}
-use Rattle.wire_base.specs.Octets.{u16_at, u32_at}
+use Rattle.ip_wire.specs.Octets.{u16_at, u32_at}
 use Rattle.ip_address.specs.declared.ip.IpAddress.{IpAddress}
 use Rattle.ip_address.specs.declared.ip.IpAddress.TheVariants.{Ipv4, Ipv6}
 use Rattle.ip_address.specs.declared.protocol.IpVersion.TheVariants as version
-use Rattle.ipv6_wire.specs.Ipv6Packet.{address_at}
+use Rattle.ip_wire.specs.Ipv6Packet.{address_at}
 use Rattle.guard.specs.declared.kind.Kind.{Kind}
 use Rattle.guard.specs.declared.kind.Kind.TheVariants.{Arp, Neighbor, Query, Router, Packet, Other}
 use Rattle.guard.specs.declared.kind.Sort.{Sort}

@@ -16,9 +16,9 @@ use Rattle.ip_address.specs.declared.protocol.IpVersion.TheVariants.{Ipv4, Ipv6}
 use Rattle.guard.specs.declared.kind.Kind.{Kind}
 use Rattle.guard.specs.declared.kind.Kind.TheVariants.{Arp, Neighbor, Query, Router, Packet, Other}
 use Rattle.guard.specs.declared.kind.Sort.TheVariants.{Loop}
-use Rattle.wire_base.specs.Octets.{u16_at}
+use Rattle.ip_wire.specs.Octets.{u16_at}
 use Rattle.ip_address.specs.declared.ip.IpAddress.{IpAddress}
-use Rattle.socket_base.specs.Source.{is_same}
+use Rattle.sockets.specs.Source.{is_same}
 use Rattle.guard.specs.declared.guard.Reason.TheVariants as reason
 use Rattle.guard.specs.Kind.{kind_of, octet_at, ipv4_at, sort_of_ipv4}
 use Rattle.guard.specs.Claim.{comes_back, hardware_at, is_from_host}

@@ -10,3 +10,4 @@ pub mod Ipv6
 pub mod Ipv6Laws
 pub mod AnswerLaws
 pub mod Watch
+pub mod GuardedDevice

@@ -3,7 +3,7 @@ use Rattle.std.specs.Prelude.{ℕ, nat_lt, ◌&&◌, not, Bool, true, false, is_
 use Rattle.std.specs.List.{list_any, position_or_len}
 use Rattle.ip_address.specs.declared.ethernet_address.EthernetAddress.{EthernetAddress}
 use Rattle.ip_address.specs.declared.ip.IpAddress.{IpAddress}
-use Rattle.socket_base.specs.Source.{is_same}
+use Rattle.sockets.specs.Source.{is_same}
 use Rattle.guard.specs.declared.pins.Pinned.{Pinned}
 use Rattle.guard.specs.declared.pins.Pins.{Pins}
 use Rattle.guard.specs.Claim.{tells_only}

@@ -6,8 +6,8 @@ ghost use Rattle.guard.specs.Guard.{micros};
 use crate::guard::take;
 use crate::kind::{message_of, octet_at};
 use net_base::time::Instant;
-use token_bucket::bucket::Bucket;
-use wire_base::octets::u16_at;
+use net_base::bucket::Bucket;
+use ip_wire::octets::u16_at;
 
 /// What a frame in response is.
 #[derive(Clone, Copy, Debug, PartialEq, Eq)]

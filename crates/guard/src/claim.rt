@@ -4,7 +4,7 @@ ghost use Rattle.guard.specs.Claim as spec;
 
 use crate::kind::{message_of, octet_at};
 use ip_address::{EthernetAddress, HardwareAddress};
-use wire_base::octets::u16_at;
+use ip_wire::octets::u16_at;
 
 /// The hardware address in six octets at an offset.
 pub(crate) fn hardware_at(frame: &[u8], at: usize) -> EthernetAddress

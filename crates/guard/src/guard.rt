@@ -2,7 +2,7 @@
 ghost use Rattle.std.specs.Prelude.{◌≡◌, None};
 ghost use Rattle.net_base.specs.Time.{IsMoment};
 ghost use Rattle.ip_address.specs.Cidr.{address_of};
-ghost use Rattle.socket_base.specs.Source.{is_same};
+ghost use Rattle.sockets.specs.Source.{is_same};
 ghost use Rattle.guard.specs.Guard as spec;
 ghost use Rattle.guard.specs.Kind as kind;
 
@@ -12,10 +12,10 @@ use crate::pins::Pins;
 use crate::queries::{Delays, Waits};
 use iface_tables::neighbor::Cache;
 use ip_address::{HardwareAddress, IpAddress, IpCidr, IpVersion, Ipv6Address};
-use ipv6_wire::ipv6_packet::address_at;
+use ip_wire::ipv6_packet::address_at;
 use net_base::time::Instant;
-use token_bucket::bucket::Bucket;
-use wire_base::octets::{u16_at, u32_at};
+use net_base::bucket::Bucket;
+use ip_wire::octets::{u16_at, u32_at};
 
 /// How long an answer to a request for a hardware address is expected, in microseconds.
 const ANSWER_TIME: u64 = 3_000_000;

@@ -3,8 +3,8 @@ ghost use Rattle.std.specs.Prelude.{◌≡◌, ◌+◌, ◌≤◌, length};
 ghost use Rattle.guard.specs.Kind as spec;
 
 use ip_address::{IpAddress, IpVersion, Ipv4Address};
-use ipv6_wire::ipv6_packet::address_at;
-use wire_base::octets::{u16_at, u32_at};
+use ip_wire::ipv6_packet::address_at;
+use ip_wire::octets::{u16_at, u32_at};
 
 /// The number of ff02::1 (RFC 4291 2.7.1).
 const ALL_NODES: u128 = 0xff02_0000_0000_0000_0000_0000_0000_0001;

@@ -1,14 +1,11 @@
-//! A guard in front of a host on Ethernet: which frames the host gets to see. It bounds how fast strangers on the link fill the
-//! entries for neighbours, use up discovery, and postpone reports.
-//!
-//! A [`Guard`] stands before the call that takes a frame, and changes no frame. Whatever it lets through, the host's rules and
-//! laws hold as they are.
+//! Which frames a host gets to see, and which answers it sends; a device behind a guard.
 #![tactic(auto)]
 
 pub mod answers;
 pub mod claim;
 pub mod defence;
 pub mod guard;
+pub mod guarded_device;
 pub mod kind;
 pub mod laws;
 pub mod pins;

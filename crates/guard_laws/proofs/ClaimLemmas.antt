@@ -4,7 +4,7 @@ use Rattle.std.specs.Prelude.{◌&&◌, ◌==◌, get_or, slice_get, Some, if◌
 use Rattle.std.proofs.lemmas.Bool.Decides.{nat_tests}
 use Rattle.std.proofs.lemmas.Slice.Eq.{bytes_eq-Decides}
 use Rattle.std.proofs.lemmas.List.{drop-drop, get_or-drop, length-drop}
-use Rattle.wire_base.specs.Octets.{u16_at}
+use Rattle.ip_wire.specs.Octets.{u16_at}
 use Rattle.ip_address.specs.EthernetAddress.{is_same}
 use Rattle.ip_address.specs.declared.ethernet_address.EthernetAddress.{EthernetAddress}
 use Rattle.ip_address.specs.declared.hardware.HardwareAddress.TheVariants.{Ethernet}
@@ -17,8 +17,8 @@ use Rattle.ip_wire.specs.declared.ethernet.EthernetProtocol.TheVariants as proto
 use Rattle.iface_tables.specs.declared.neighbor.Neighbor.{Neighbor}
 use Rattle.host_machine.specs.Interface.Config.{if_ethernet}
 use Rattle.host_machine.specs.Context.Host.{Host}
-use Rattle.machine_laws.specs.Laws.Restraint.Neighbors.{CameToBeKnown, TellsByArp, TellsByMessage, WasKnown, WasRenewed, WasTold}
-use Rattle.machine_laws.proofs.Discovery.LearntNeighbors.{neighbors_came}
+use Rattle.host_laws.specs.Laws.Restraint.Neighbors.{CameToBeKnown, TellsByArp, TellsByMessage, WasKnown, WasRenewed, WasTold}
+use Rattle.host_laws.proofs.Discovery.LearntNeighbors.{neighbors_came}
 use Rattle.guard.proofs.PassLemmas.{own_addresses_stay, pinned_stay, tells_by_arp}
 use Rattle.guard.specs.Claim.{hardware_at, is_from, is_from_host, tells_only}
 use Rattle.guard.specs.Guard.{is_own}

@@ -4,7 +4,7 @@ use Rattle.std.specs.Prelude.{◌==◌, ◌⊎◌, get_or, slice_get, slice_inde
 use Rattle.std.specs.Int.{from_be_bytes, w128}
 use Rattle.std.proofs.lemmas.Bool.Decides.{nat_tests}
 use Rattle.std.proofs.lemmas.List.{drop-drop, get_or-drop, length-drop}
-use Rattle.wire_base.specs.Octets.{u16_at}
+use Rattle.ip_wire.specs.Octets.{u16_at}
 use Rattle.ip_address.specs.Protocol.{protocol_of}
 use Rattle.ip_address.specs.declared.ethernet_address.EthernetAddress.{EthernetAddress}
 use Rattle.ip_address.specs.declared.hardware.HardwareAddress.{HardwareAddress}
@@ -15,23 +15,23 @@ use Rattle.ip_address.specs.declared.ipv6.Ipv6Address.{Ipv6Address}
 use Rattle.ip_address.specs.declared.protocol.IpProtocol.TheVariants as ip_protocol
 use Rattle.ip_wire.specs.Ethernet.{header_in}
 use Rattle.ip_wire.specs.declared.ethernet.EthernetProtocol.TheVariants as protocol
-use Rattle.ipv6_wire.specs.Ipv6Packet.{address_at, end, ipv6_in}
-use Rattle.ipv6_wire.specs.HopByHop.{header_len}
-use Rattle.icmpv6_wire.specs.Icmpv6.{Error, IsBody, Listener, Neighbor, OfRouters, Reply, Request, type_in}
-use Rattle.icmpv6_wire.specs.Ndisc.{IsNdisc, ndisc_in, flags_in}
-use Rattle.icmpv6_wire.specs.NdiscOption.{AreOptions, lladdr_in}
-use Rattle.icmpv6_wire.specs.Router.{Advertisement, IsRouter, Solicitation}
-use Rattle.icmpv6_wire.specs.declared.ndisc.NdiscNeighborFlags.{NdiscNeighborFlags}
-use Rattle.icmpv6_wire.specs.declared.ndisc.NdiscRepr.{NdiscRepr}
-use Rattle.icmpv6_wire.specs.declared.ndisc.NdiscRepr.TheVariants.{NeighborAdvert, NeighborSolicit}
-use Rattle.group_wire.specs.Mld.{IsMld, IsQuery, IsReport}
+use Rattle.ip_wire.specs.Ipv6Packet.{address_at, end, ipv6_in}
+use Rattle.ip_wire.specs.HopByHop.{header_len}
+use Rattle.control_wire.specs.Icmpv6.{Error, IsBody, Listener, Neighbor, OfRouters, Reply, Request, type_in}
+use Rattle.control_wire.specs.Ndisc.{IsNdisc, ndisc_in, flags_in}
+use Rattle.control_wire.specs.NdiscOption.{AreOptions, lladdr_in}
+use Rattle.control_wire.specs.Router.{Advertisement, IsRouter, Solicitation}
+use Rattle.control_wire.specs.declared.ndisc.NdiscNeighborFlags.{NdiscNeighborFlags}
+use Rattle.control_wire.specs.declared.ndisc.NdiscRepr.{NdiscRepr}
+use Rattle.control_wire.specs.declared.ndisc.NdiscRepr.TheVariants.{NeighborAdvert, NeighborSolicit}
+use Rattle.control_wire.specs.Mld.{IsMld, IsQuery, IsReport}
 use Rattle.iface_tables.specs.declared.neighbor.Neighbor.{Neighbor as Entry}
 use Rattle.host_machine.specs.Interface.Config.{if_ethernet}
 use Rattle.host_machine.specs.Context.Host.{Host}
-use Rattle.machine_laws.specs.Laws.Restraint.Neighbors.{AfterHeader, AfterOptions, CameToBeKnown, Gives, HasMessage as Carries, TellsByArp}
-use Rattle.machine_laws.specs.Laws.Restraint.Neighbors.{TellsByMessage, WasKnown, WasRenewed, WasTold}
-use Rattle.machine_laws.specs.Laws.Restraint.Readings.{CarriesV6}
-use Rattle.machine_laws.proofs.Discovery.LearntNeighbors.{neighbors_came}
+use Rattle.host_laws.specs.Laws.Restraint.Neighbors.{AfterHeader, AfterOptions, CameToBeKnown, Gives, HasMessage as Carries, TellsByArp}
+use Rattle.host_laws.specs.Laws.Restraint.Neighbors.{TellsByMessage, WasKnown, WasRenewed, WasTold}
+use Rattle.host_laws.specs.Laws.Restraint.Readings.{CarriesV6}
+use Rattle.host_laws.proofs.Discovery.LearntNeighbors.{neighbors_came}
 use Rattle.guard.proofs.Ipv6Lemmas.{among_if, own_messages_stay, pinned_messages_stay}
 use Rattle.guard.specs.Guard.{is_own}
 use Rattle.guard.specs.Ipv6.{AsSource, Behind, BehindOptions, HasMessage, IsIpv6, IsNeighborMessage, TellsNoOther, source_of}

@@ -11,7 +11,7 @@ use Rattle.iface_tables.specs.declared.neighbor.Neighbor.{Neighbor}
 use Rattle.host_machine.specs.Interface.Config.{if_ethernet}
 use Rattle.host_machine.specs.Context.Host.{Host}
 use Rattle.host_machine.specs.Context.Note.{Note}
-use Rattle.machine_laws.specs.Laws.Restraint.Readings.{Receives}
+use Rattle.host_laws.specs.Laws.Restraint.Readings.{Receives}
 use Rattle.guard.specs.Guard.{is_own}
 use Rattle.guard.specs.Watch.{admits}
 use Rattle.guard.specs.declared.queries.Waits.{Waits}

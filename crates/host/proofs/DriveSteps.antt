@@ -17,8 +17,8 @@ use Rattle.host_machine.specs.Interface.Polling.{Polls}
 use Rattle.host_machine.specs.Interface.Step.{Step, PolledIngressSingle, PolledEgress, Polled, OwnerActed}
 use Rattle.host_machine.specs.Interface.Run.{Ends, Then, NoAct, ThenAct}
 use Rattle.host_machine.specs.Context.Real.{IsRegular}
-use Rattle.machine_laws.specs.Laws.Ran.{Ran}
-use Rattle.machine_laws.proofs.Interface.RunConcatenation.{run_laws, ran_on}
+use Rattle.host_laws.specs.Laws.Ran.{Ran}
+use Rattle.host_laws.proofs.Interface.RunConcatenation.{run_laws, ran_on}
 use Rattle.interface.specs.declared.interface.Interface.{Interface}
 use Rattle.interface.specs.Stands.{StandsFor, Refinement}
 use Rattle.interface.specs.Refines.{RefinementTelling}

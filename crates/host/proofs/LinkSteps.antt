@@ -16,11 +16,11 @@ use Rattle.host_machine.specs.declared.command.Answer.{Answer}
 use Rattle.host_machine.specs.Context.Host.{Host}
 use Rattle.host_machine.specs.Interface.Step.{Step}
 use Rattle.host_machine.specs.Interface.Run.{Transition, Run, Ends, Then, events_in}
-use Rattle.machine_laws.proofs.Runs.Walk.{sent_frames-append}
-use Rattle.machine_laws.proofs.Receive.SlotEffects.{handed_frames-append}
+use Rattle.host_laws.proofs.Runs.Walk.{sent_frames-append}
+use Rattle.host_laws.proofs.Receive.SlotEffects.{handed_frames-append}
 use Rattle.host_machine.proofs.Receive.Pieces.{IsIn, contains_in, in_left, in_right, in_either}
-use Rattle.machine_laws.proofs.Interface.RunConcatenation.{run_laws}
-use Rattle.machine_laws.proofs.Runs.TwoHosts.{run_rebuilds}
+use Rattle.host_laws.proofs.Interface.RunConcatenation.{run_laws}
+use Rattle.host_laws.proofs.Runs.TwoHosts.{run_rebuilds}
 use Rattle.host_laws.proofs.LessWork.{runs_rest}
 use Rattle.host_laws.proofs.PingsBack.{runs_return}
 use Rattle.host_laws.proofs.RunTraffic.{runs_keep_datagrams}
@@ -32,7 +32,7 @@ use Rattle.host.specs.declared.link.LinkStep.TheVariants as step
 use Rattle.host.specs.declared.link.LinkError.{LinkError}
 use Rattle.host.specs.Commands.{HostRefinesCommand}
 use Rattle.host_machine.specs.Context.Real.{IsRegular}
-use Rattle.machine_laws.specs.Laws.TwoHosts.{WereSent}
+use Rattle.host_laws.specs.Laws.TwoHosts.{WereSent}
 use Rattle.host.specs.Link.{End, Owns, Acts, sent_since, Links, Stops, OnA, OnB, ToA, ToB, NoneToA, NoneToB, IsDone, end_of}
 use Rattle.host.specs.Link.{HandsOver, NoFrame, OneFrame, RebuildsCuts, RebuildsFew, GetsDatagrams, Brings, Went, Goes, LinkGoes}
 

@@ -7,7 +7,7 @@ use Rattle.host_machine.specs.declared.command.Command.{Command}
 use Rattle.host_machine.specs.declared.command.Answer.{Answer}
 use Rattle.host_machine.specs.Context.Host.{Host, SocketSet}
 use Rattle.host_machine.specs.Interface.Run.{Transition, events_in, acts_in}
-use Rattle.machine_laws.specs.Laws.Determined.{TransitionsDiffer, receptions}
+use Rattle.host_laws.specs.Laws.Determined.{TransitionsDiffer, receptions}
 use Rattle.interface.specs.declared.interface.Interface.{Interface}
 use Rattle.interface.specs.Stands.{StandsFor}
 use Rattle.host.specs.Driven.{Driven}

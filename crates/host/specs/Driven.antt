@@ -5,7 +5,7 @@ use Rattle.host_machine.specs.declared.command.Command.{Command}
 use Rattle.host_machine.specs.declared.command.Answer.{Answer}
 use Rattle.host_machine.specs.Context.Host.{Host, SocketSet}
 use Rattle.host_machine.specs.Context.Real.{IsRegular}
-use Rattle.machine_laws.specs.Laws.Ran.{Ran}
+use Rattle.host_laws.specs.Laws.Ran.{Ran}
 use Rattle.host_laws.specs.Datagrams.{KeepsDatagrams}
 use Rattle.host_laws.specs.Progress.{ComeToRest, IsSound}
 

@@ -11,8 +11,8 @@ use Rattle.host_machine.specs.Interface.Step.{Step, IsTimely}
 use Rattle.host_machine.specs.Context.Note.{identifications}
 use Rattle.host_machine.specs.Interface.Run.{Transition, Run, Did, notes_in}
 use Rattle.host_machine.specs.Context.Real.{IsRegular}
-use Rattle.machine_laws.specs.Laws.TwoHosts.{HaveOwnKeys, RebuildsThese, WereSent, cuts_in, key_of_cut}
-use Rattle.machine_laws.specs.Laws.Ran.{Laws}
+use Rattle.host_laws.specs.Laws.TwoHosts.{HaveOwnKeys, RebuildsThese, WereSent, cuts_in, key_of_cut}
+use Rattle.host_laws.specs.Laws.Ran.{Laws}
 use Rattle.host_machine.specs.declared.command.Answer.{Answer}
 use Rattle.host_laws.specs.Datagrams.{KeepsDatagrams}
 use Rattle.host_laws.specs.EndToEnd.{GetWhatWasSent}

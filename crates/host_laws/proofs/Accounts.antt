@@ -13,8 +13,8 @@ use Rattle.ip_address.specs.declared.hardware.HardwareAddress.{HardwareAddress}
 use Rattle.ip_address.specs.declared.ip.IpAddress.{IpAddress}
 use Rattle.ip_address.specs.Hardware.{IsOf}
 use Rattle.ip_address.specs.Protocol.{number_of}
-use Rattle.group_table.specs.declared.groups.Group.{Group}
-use Rattle.group_table.specs.declared.groups.GroupState.{GroupState}
+use Rattle.iface_tables.specs.declared.groups.Group.{Group}
+use Rattle.iface_tables.specs.declared.groups.GroupState.{GroupState}
 use Rattle.fragmentation.specs.Fragments.{Fragment}
 use Rattle.fragmentation.specs.Cuts.{Datagram, Piece, HasForm, cut, count, pieces_of, piece_of}
 use Rattle.host_machine.specs.declared.results.PollIngressSingleResult.{PollIngressSingleResult}
@@ -30,8 +30,8 @@ use Rattle.host_machine.specs.Context.Real.{IsReal, IsPart, IsRegular}
 use Rattle.host_machine.specs.Receive.Reply.{Reply, Arp, Ip}
 use Rattle.host_machine.specs.Receive.Response.{Responds}
 use Rattle.host_machine.specs.Interface.Ingress.{Takes, Ingress}
-use Rattle.machine_laws.specs.Laws.Steps.{SendsOneThing, ThePacket, ItsFirstPiece, ARequest}
-use Rattle.machine_laws.specs.Laws.Steps as laws
+use Rattle.host_laws.specs.Laws.Steps.{SendsOneThing, ThePacket, ItsFirstPiece, ARequest}
+use Rattle.host_laws.specs.Laws.Steps as laws
 use Rattle.host_machine.specs.Multicast.Joins as multicast
 use Rattle.host_machine.specs.Multicast.Igmp.{IgmpEgress}
 use Rattle.host_machine.specs.Multicast.Mld.{MldEgress}
@@ -41,22 +41,22 @@ use Rattle.host_machine.specs.Discovery.RouterSolicitation.{NdiscRsEgress}
 use Rattle.host_machine.specs.Discovery.RouterSolicitation as slaac
 use Rattle.host_machine.specs.Send.Fragments.{Ipv4Egress}
 use Rattle.host_machine.specs.Send.Fragments as egress
-use Rattle.machine_laws.specs.Laws.TwoHosts.{cuts}
-use Rattle.machine_laws.proofs.Context.NotesBySubject.{cut_notes-append, cut_notes-slots}
-use Rattle.machine_laws.proofs.Context.UnchangedFields.{Keeps}
-use Rattle.machine_laws.proofs.Receive.Malformed.{sent_frames-sends}
+use Rattle.host_laws.specs.Laws.TwoHosts.{cuts}
+use Rattle.host_laws.proofs.Context.NotesBySubject.{cut_notes-append, cut_notes-slots}
+use Rattle.host_laws.proofs.Context.UnchangedFields.{Keeps}
+use Rattle.host_laws.proofs.Receive.Malformed.{sent_frames-sends}
 use Rattle.host_machine.proofs.Receive.Pieces.{is_in, contains_in, in_left, in_right, count_below, length-pieces_from}
-use Rattle.machine_laws.proofs.Runs.TwoHosts.{in_map, cuts-append}
+use Rattle.host_laws.proofs.Runs.TwoHosts.{in_map, cuts-append}
 use Rattle.host_machine.proofs.Receive.Parts.{size_positive}
 use Rattle.host_machine.proofs.Context.PendingParts.{pieces_are}
 use Rattle.host_machine.proofs.Send.Reached.{Reached}
-use Rattle.machine_laws.proofs.Runs.Walk.{dispatched, taken, sent_frames-append}
-use Rattle.machine_laws.proofs.Runs.SentPieces.{GoodReply, takes_good, takes_real}
+use Rattle.host_laws.proofs.Runs.Walk.{dispatched, taken, sent_frames-append}
+use Rattle.host_laws.proofs.Runs.SentPieces.{GoodReply, takes_good, takes_real}
 use Rattle.host_machine.proofs.Send.Reached.{reached_of}
-use Rattle.machine_laws.proofs.Discovery.NotedRequests.{sends_one}
-use Rattle.machine_laws.proofs.Runs.RunRequests.{takes_attends}
-use Rattle.machine_laws.proofs.Interface.Turns.{dispatched_sockets, report_is, solicitation_is}
-use Rattle.machine_laws.proofs.Interface.OwnMessages.{is_own}
+use Rattle.host_laws.proofs.Discovery.NotedRequests.{sends_one}
+use Rattle.host_laws.proofs.Runs.RunRequests.{takes_attends}
+use Rattle.host_laws.proofs.Interface.Turns.{dispatched_sockets, report_is, solicitation_is}
+use Rattle.host_laws.proofs.Interface.OwnMessages.{is_own}
 use Rattle.host_laws.specs.Departures.{Departure}
 use Rattle.host_laws.specs.Senders.{NoSocketWritesUdp, CarriesNoUdp, CarryOnly, WentIn, may_be_udp, ways}
 use Rattle.host_laws.proofs.IngressDeliveries.{all-append}

@@ -3,10 +3,10 @@ use Rattle.std.proofs.Common.{◌≡◌, ℕ, ◌==◌, Bool, true, false, List,
 use Rattle.std.proofs.Common.{Option, Some, None, option_map, option_and_then, slice_get, slice_set, if◌then◌else◌}
 use Rattle.std.specs.Prelude.{ℤ}
 use Rattle.net_base.specs.Device.{Event, sent_frames}
-use Rattle.socket_base.specs.declared.endpoint.IpEndpoint.{IpEndpoint}
+use Rattle.sockets.specs.declared.endpoint.IpEndpoint.{IpEndpoint}
 use Rattle.sockets.specs.Kinds.{down_udp}
 use Rattle.sockets.specs.declared.socket.SocketOf.TheVariants.{Raw, Icmp, Udp, Tcp}
-use Rattle.transport_sockets.specs.Udp.{UdpSocket, without_first_to_send}
+use Rattle.sockets.specs.Udp.{UdpSocket, without_first_to_send}
 use Rattle.host_machine.specs.declared.results.PollResult.{PollResult}
 use Rattle.host_machine.specs.declared.results.Turn.{Turn}
 use Rattle.host_machine.specs.Context.Note.{Note, cut_notes}
@@ -14,24 +14,24 @@ use Rattle.host_machine.specs.Context.Host.{Host, Socket, Storage, SocketSet}
 use Rattle.host_machine.specs.Sockets.Turns.{SocketTurn, Serves, Walks, SocketEgress, with_socket}
 use Rattle.host_machine.specs.Interface.Egress.{Round, Egress}
 use Rattle.host_machine.specs.Sockets.Turns as egress
-use Rattle.machine_laws.specs.Laws.Order.{IsBeginning}
-use Rattle.machine_laws.specs.Laws.TwoHosts.{cuts}
-use Rattle.machine_laws.proofs.Interface.PollCalls.{both}
+use Rattle.host_laws.specs.Laws.Order.{IsBeginning}
+use Rattle.host_laws.specs.Laws.TwoHosts.{cuts}
+use Rattle.host_laws.proofs.Interface.PollCalls.{both}
 use Rattle.host_machine.specs.Context.Real.{IsRegular}
 use Rattle.host_laws.specs.Deliveries.{udp_at}
 use Rattle.host_laws.specs.Departures.{Departure, entries, from_index, without}
 use Rattle.host_laws.proofs.Places.{set_other, set_same, udp_of}
-use Rattle.socket_base.specs.Queue.{first_of}
+use Rattle.sockets.specs.Queue.{first_of}
 use Rattle.socket_set.specs.SocketMeta.{Wait}
-use Rattle.network_sockets.specs.Icmp as icmp_socket
-use Rattle.transport_sockets.specs.Tcp as tcp_socket
+use Rattle.sockets.specs.Icmp as icmp_socket
+use Rattle.sockets.specs.Tcp as tcp_socket
 use Rattle.host_machine.specs.Context.Addresses.{source_for}
 use Rattle.host_machine.specs.Context.Host.{at}
 use Rattle.host_machine.specs.Packet.Packet.{Packet, payload_of}
 use Rattle.host_machine.specs.Sockets.Offers.{packet_from}
-use Rattle.machine_laws.proofs.Receive.Malformed.{sent_frames-sends}
-use Rattle.machine_laws.proofs.Sockets.RawProtocols.{get_speaks}
-use Rattle.machine_laws.proofs.Interface.Turns.{first_is, icmp_is, tcp_is, join_is, leave_is, served_speaks, turn_sockets}
+use Rattle.host_laws.proofs.Receive.Malformed.{sent_frames-sends}
+use Rattle.host_laws.proofs.Sockets.RawProtocols.{get_speaks}
+use Rattle.host_laws.proofs.Interface.Turns.{first_is, icmp_is, tcp_is, join_is, leave_is, served_speaks, turn_sockets}
 use Rattle.host_laws.specs.Senders.{CarryOnly, NoSocketWritesUdp, may_be_udp}
 use Rattle.host_laws.proofs.FramesWithoutUdp.{has_udp, own_has_none}
 use Rattle.host_laws.proofs.Accounts.{AccountsFor, Follows, accounts_after, accounts_same, all_account, dispatch_follows, igmp_accounts}

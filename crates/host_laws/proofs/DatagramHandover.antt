@@ -17,25 +17,25 @@ use Rattle.ip_wire.specs.declared.tcp.TcpRepr.{TcpRepr}
 use Rattle.ip_wire.specs.IpPacket.{src_addr, dst_addr}
 use Rattle.ip_wire.specs.Tcp.{tcp_in}
 use Rattle.ip_wire.specs.Udp.{IsUdp, udp_in}
-use Rattle.ipv6_wire.specs.declared.ipv6_packet.Ipv6Repr.{Ipv6Repr}
-use Rattle.icmpv6_wire.specs.declared.icmpv6.Icmpv6Repr.{Icmpv6Repr}
-use Rattle.icmpv6_wire.specs.declared.icmpv6.Icmpv6Repr.TheVariants as icmpv6_message
-use Rattle.icmpv6_wire.specs.declared.ndisc.NdiscRepr.{NdiscRepr}
-use Rattle.icmpv6_wire.specs.Icmpv6.{icmpv6_in}
-use Rattle.group_wire.specs.declared.igmp.IgmpRepr.{IgmpRepr}
-use Rattle.group_wire.specs.declared.igmp.IgmpRepr.TheVariants.{MembershipQuery, MembershipReport, LeaveGroup}
-use Rattle.group_wire.specs.Igmp.{igmp_in}
-use Rattle.group_wire.specs.declared.mld.MldRepr.{MldRepr}
-use Rattle.group_wire.specs.declared.mld.MldRepr.TheVariants.{Query, Report}
-use Rattle.group_table.specs.declared.report.IgmpReportState.TheVariants as igmp_state
-use Rattle.group_table.specs.declared.report.MldReportState.TheVariants as mld_state
+use Rattle.ip_wire.specs.declared.ipv6_packet.Ipv6Repr.{Ipv6Repr}
+use Rattle.control_wire.specs.declared.icmpv6.Icmpv6Repr.{Icmpv6Repr}
+use Rattle.control_wire.specs.declared.icmpv6.Icmpv6Repr.TheVariants as icmpv6_message
+use Rattle.control_wire.specs.declared.ndisc.NdiscRepr.{NdiscRepr}
+use Rattle.control_wire.specs.Icmpv6.{icmpv6_in}
+use Rattle.control_wire.specs.declared.igmp.IgmpRepr.{IgmpRepr}
+use Rattle.control_wire.specs.declared.igmp.IgmpRepr.TheVariants.{MembershipQuery, MembershipReport, LeaveGroup}
+use Rattle.control_wire.specs.Igmp.{igmp_in}
+use Rattle.control_wire.specs.declared.mld.MldRepr.{MldRepr}
+use Rattle.control_wire.specs.declared.mld.MldRepr.TheVariants.{Query, Report}
+use Rattle.iface_tables.specs.declared.report.IgmpReportState.TheVariants as igmp_state
+use Rattle.iface_tables.specs.declared.report.MldReportState.TheVariants as mld_state
 use Rattle.control_wire.specs.declared.icmp.IcmpRepr.{IcmpRepr}
 use Rattle.iface_tables.specs.Neighbor.{first_neighbors, after_renewal, expiry_from}
-use Rattle.slaac.specs.Slaac.{initial_state}
+use Rattle.iface_tables.specs.Slaac.{initial_state}
 use Rattle.sockets.specs.declared.socket.SocketOf.TheVariants.{Raw, Icmp, Udp, Tcp}
 use Rattle.sockets.specs.Kinds.{down_udp}
-use Rattle.transport_sockets.specs.Udp as udp_socket
-use Rattle.transport_sockets.specs.Udp.{UdpSocket}
+use Rattle.sockets.specs.Udp as udp_socket
+use Rattle.sockets.specs.Udp.{UdpSocket}
 use Rattle.fragmentation.specs.Slots.{free_slots}
 use Rattle.host_machine.specs.Context.Note.{Note}
 use Rattle.host_machine.specs.Context.Host.{Host, Storage, no_sockets, with_places, with_neighbors}

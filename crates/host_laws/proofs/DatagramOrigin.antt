@@ -18,8 +18,8 @@ use Rattle.ip_wire.specs.declared.udp.UdpRepr.{UdpRepr}
 use Rattle.ip_wire.specs.IpPacket.{src_addr, dst_addr}
 use Rattle.ip_wire.specs.Ipv4Packet.{IsIpv4, ipv4_in, is_fragment}
 use Rattle.ip_wire.specs.Udp.{udp_in}
-use Rattle.socket_base.specs.declared.endpoint.IpEndpoint.{IpEndpoint}
-use Rattle.slaac.specs.Slaac.{sync_required}
+use Rattle.sockets.specs.declared.endpoint.IpEndpoint.{IpEndpoint}
+use Rattle.iface_tables.specs.Slaac.{sync_required}
 use Rattle.fragmentation.specs.declared.key.FragKey.{FragKey}
 use Rattle.fragmentation.specs.Keys.{same_key}
 use Rattle.fragmentation.specs.Cuts.{Datagram}
@@ -34,21 +34,21 @@ use Rattle.host_machine.specs.Sockets.Offers.{packet_between}
 use Rattle.host_machine.specs.Packet.Packet.{IpPayload, PacketV4, Udp}
 use Rattle.host_machine.specs.Packet.Packet as packet
 use Rattle.host_machine.specs.Packet.Frame.{ip_frame}
-use Rattle.machine_laws.specs.Laws.Frames.{Carries}
+use Rattle.host_laws.specs.Laws.Frames.{Carries}
 use Rattle.host_machine.specs.Context.Pieces.{datagram_of}
 use Rattle.host_machine.specs.Receive.Ipv4.{key_in, fragment_in, datagram_header}
-use Rattle.machine_laws.specs.Laws.Arrivals.{rebuilt, slot_notes_in}
+use Rattle.host_laws.specs.Laws.Arrivals.{rebuilt, slot_notes_in}
 use Rattle.host_machine.specs.Context.Real.{IsReal, IsRegular}
 use Rattle.host_machine.specs.Interface.Run.{Transition, Run, Ends, Then, events_in, notes_in}
-use Rattle.machine_laws.specs.Laws.TwoHosts.{WereSent, cuts, cuts_in, key_of_cut}
-use Rattle.machine_laws.proofs.Context.NotesBySubject.{cut_notes-append, slot_notes-append}
+use Rattle.host_laws.specs.Laws.TwoHosts.{WereSent, cuts, cuts_in, key_of_cut}
+use Rattle.host_laws.proofs.Context.NotesBySubject.{cut_notes-append, slot_notes-append}
 use Rattle.host_machine.proofs.Receive.Pieces.{IsIn, is_in, contains_in, in_left, in_right, in_either}
-use Rattle.machine_laws.proofs.Runs.ReassemblyOrigin.{test_same}
-use Rattle.machine_laws.proofs.Runs.SentPieces as shown
-use Rattle.machine_laws.proofs.Interface.Turns.{between_is}
-use Rattle.machine_laws.proofs.Runs.TwoHosts.{cuts-append, frame_is_cut, run_rebuilds}
-use Rattle.machine_laws.proofs.Receive.SlotEffects.{handed_frames-append}
-use Rattle.machine_laws.proofs.Runs.Walk.{sent_frames-append}
+use Rattle.host_laws.proofs.Runs.ReassemblyOrigin.{test_same}
+use Rattle.host_laws.proofs.Runs.SentPieces as shown
+use Rattle.host_laws.proofs.Interface.Turns.{between_is}
+use Rattle.host_laws.proofs.Runs.TwoHosts.{cuts-append, frame_is_cut, run_rebuilds}
+use Rattle.host_laws.proofs.Receive.SlotEffects.{handed_frames-append}
+use Rattle.host_laws.proofs.Runs.Walk.{sent_frames-append}
 use Rattle.host_laws.specs.Deliveries.{Delivery, Deliver, NoFrame, OneGets, NoSocketGets, BringsPacket, BringsUdp, AtOnce, InFragments}
 use Rattle.host_laws.specs.Departures.{Departure, Way, Dropped, InOneFrame, InPieces, HasDeparted, Departs, cuts_by, cuts_of, departs_from}
 use Rattle.host_laws.specs.Departures as spec

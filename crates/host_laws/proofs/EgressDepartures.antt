@@ -4,9 +4,9 @@ use Rattle.std.specs.List.{AllByRecursion}
 use Rattle.std.proofs.lemmas.List.{append_assoc}
 use Rattle.net_base.specs.Device.{Event, sent_frames}
 use Rattle.ip_address.specs.declared.ip.IpAddress.{IpAddress}
-use Rattle.socket_base.specs.declared.endpoint.IpEndpoint.{IpEndpoint}
-use Rattle.socket_base.specs.declared.endpoint.IpListenEndpoint.{IpListenEndpoint}
-use Rattle.transport_sockets.specs.Udp.{UdpSocket, without_first_to_send}
+use Rattle.sockets.specs.declared.endpoint.IpEndpoint.{IpEndpoint}
+use Rattle.sockets.specs.declared.endpoint.IpListenEndpoint.{IpListenEndpoint}
+use Rattle.sockets.specs.Udp.{UdpSocket, without_first_to_send}
 use Rattle.fragmentation.specs.Cuts.{Datagram, pieces_of}
 use Rattle.host_machine.specs.Context.Note.{Note, cut_notes}
 use Rattle.host_machine.specs.Context.Host.{Host, SocketSet}
@@ -15,16 +15,16 @@ use Rattle.host_machine.specs.Context.Pieces.{datagram_of}
 use Rattle.host_machine.specs.Packet.Packet.{total_len}
 use Rattle.host_machine.specs.Packet.Packet as packet
 use Rattle.net_base.specs.Checksum.{ip_mtu_of}
-use Rattle.machine_laws.specs.Laws.Order.{IsAmong, IsBeginning}
+use Rattle.host_laws.specs.Laws.Order.{IsAmong, IsBeginning}
 use Rattle.host_machine.specs.Interface.Parts.{Part}
-use Rattle.machine_laws.specs.Laws.TwoHosts.{cuts}
-use Rattle.machine_laws.proofs.Context.NotesBySubject.{cut_notes-append}
-use Rattle.machine_laws.proofs.Runs.Walk.{sent_frames-append}
+use Rattle.host_laws.specs.Laws.TwoHosts.{cuts}
+use Rattle.host_laws.proofs.Context.NotesBySubject.{cut_notes-append}
+use Rattle.host_laws.proofs.Runs.Walk.{sent_frames-append}
 use Rattle.host_laws.specs.Deliveries.{udp_at}
 use Rattle.host_laws.specs.Departures.{Departure, HasDeparted, Departs, InOneFrame, InPieces, cuts_of}
 use Rattle.host_laws.specs.Departures.{departs_from, entries, frames_of, from_index, packet_of, without}
 use Rattle.host_laws.specs.Departures as spec
-use Rattle.machine_laws.proofs.Runs.TwoHosts.{cuts-append}
+use Rattle.host_laws.proofs.Runs.TwoHosts.{cuts-append}
 use Rattle.host_laws.proofs.Accounts.{AccountsFor, accounts_on}
 use Rattle.host_laws.proofs.IdleParts.{Idle, base}
 use Rattle.host_laws.proofs.IngressDeliveries.{all-append}

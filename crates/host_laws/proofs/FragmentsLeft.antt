@@ -16,11 +16,11 @@ use Rattle.ip_address.specs.declared.ip.IpAddress.{IpAddress}
 use Rattle.ip_address.specs.declared.ip.IpAddress.TheVariants.{Ipv4, Ipv6}
 use Rattle.ip_address.specs.declared.ipv4.Ipv4Address.{Ipv4Address}
 use Rattle.ip_address.specs.declared.ipv6.Ipv6Address.{Ipv6Address}
-use Rattle.group_wire.specs.declared.igmp.IgmpRepr.{IgmpRepr}
-use Rattle.group_wire.specs.declared.igmp.IgmpVersion.{IgmpVersion}
-use Rattle.group_wire.specs.declared.mld.MldRecordType.TheVariants.{ChangeToInclude, ChangeToExclude}
-use Rattle.group_table.specs.declared.groups.Group.{Group}
-use Rattle.group_table.specs.declared.groups.GroupState.{GroupState}
+use Rattle.control_wire.specs.declared.igmp.IgmpRepr.{IgmpRepr}
+use Rattle.control_wire.specs.declared.igmp.IgmpVersion.{IgmpVersion}
+use Rattle.control_wire.specs.declared.mld.MldRecordType.TheVariants.{ChangeToInclude, ChangeToExclude}
+use Rattle.iface_tables.specs.declared.groups.Group.{Group}
+use Rattle.iface_tables.specs.declared.groups.GroupState.{GroupState}
 use Rattle.fragmentation.specs.Cuts.{Datagram, Piece, HasForm, count, cut, pieces_of, piece_of}
 use Rattle.host_machine.proofs.Receive.Pieces.{length-pieces_from}
 use Rattle.host_machine.specs.Context.Note.{Note}
@@ -44,8 +44,8 @@ use Rattle.host_machine.specs.Multicast.Igmp as igmp_rules
 use Rattle.host_machine.specs.Multicast.Mld as mld_rules
 use Rattle.host_machine.specs.Discovery.RouterSolicitation.{NdiscRsEgress, due_solicitation, solicitation_by, solicitation_from}
 use Rattle.host_machine.specs.Discovery.RouterSolicitation as slaac
-use Rattle.slaac.specs.Slaac.{rs_required}
-use Rattle.machine_laws.proofs.Interface.GrantedEgress.{tells_way}
+use Rattle.iface_tables.specs.Slaac.{rs_required}
+use Rattle.host_laws.proofs.Interface.GrantedEgress.{tells_way}
 
 -- the device of a host takes packets of 576 octets
 abbrev pub IsWide : Host → Type 0

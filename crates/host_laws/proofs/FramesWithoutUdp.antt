@@ -2,7 +2,7 @@
 use Rattle.std.proofs.Common.{◌≡◌, ℕ, zero, suc, Bool, true, false, List, [], ◌∷◌, ◌++◌, take, drop, refl, sym, ◌∙◌, ap, subst, arith, get_or-drop}
 use Rattle.std.specs.Prelude.{◌==◌, ◌||◌, ◌&&◌, ◌-◌, slice_index}
 use Rattle.std.proofs.lemmas.Bool.Decides.{nat_tests}
-use Rattle.wire_base.specs.Octets.{u16_at}
+use Rattle.ip_wire.specs.Octets.{u16_at}
 use Rattle.net_base.specs.Checksum.{is_tx}
 use Rattle.net_base.specs.declared.phy.Medium.{Medium}
 use Rattle.net_base.specs.declared.phy.Medium.TheVariants as medium
@@ -26,21 +26,21 @@ use Rattle.ip_wire.specs.Ipv4Packet as ipv4
 use Rattle.ip_wire.proofs.EthernetAgain as ethernet_again
 use Rattle.ip_wire.proofs.Ipv4Again as ipv4_again
 use Rattle.std.proofs.lemmas.List.{append-nil}
-use Rattle.ipv6_wire.specs.declared.ipv6_packet.Ipv6Repr.{Ipv6Repr}
-use Rattle.ipv6_wire.specs.Ipv6Packet.{ipv6_in, end}
-use Rattle.ipv6_wire.specs.Ipv6Packet as ipv6
-use Rattle.ipv6_wire.specs.HopByHop.{IsHopByHop, hop_by_hop_in}
+use Rattle.ip_wire.specs.declared.ipv6_packet.Ipv6Repr.{Ipv6Repr}
+use Rattle.ip_wire.specs.Ipv6Packet.{ipv6_in, end}
+use Rattle.ip_wire.specs.Ipv6Packet as ipv6
+use Rattle.ip_wire.specs.HopByHop.{IsHopByHop, hop_by_hop_in}
 use Rattle.fragmentation.specs.Cuts.{Piece, piece_header, piece_fragment}
 use Rattle.host_machine.specs.Context.Host.{Host}
 use Rattle.host_machine.specs.Packet.Packet.{Packet, IpPayload, Icmpv4, Icmpv6, Udp, Tcp, Raw, Igmp, Mld, payload_of}
 use Rattle.host_machine.specs.Packet.Packet as packet
 use Rattle.host_machine.specs.Packet.Frame.{arp_frame, ip_frame, piece_frame, piece_text, link_header}
-use Rattle.machine_laws.specs.Laws.Frames.{Carries}
-use Rattle.machine_laws.specs.Laws.Frames as frames
+use Rattle.host_laws.specs.Laws.Frames.{Carries}
+use Rattle.host_laws.specs.Laws.Frames as frames
 use Rattle.host_machine.specs.Receive.Ethernet.{version_in}
-use Rattle.machine_laws.specs.Laws.Requests.{is_request, is_arp_request, is_solicitation}
-use Rattle.machine_laws.proofs.Interface.OwnMessages.{is_own}
-use Rattle.machine_laws.proofs.Receive.FrameReading.{number_again, same_packet, other_packet, version_six}
+use Rattle.host_laws.specs.Laws.Requests.{is_request, is_arp_request, is_solicitation}
+use Rattle.host_laws.proofs.Interface.OwnMessages.{is_own}
+use Rattle.host_laws.proofs.Receive.FrameReading.{number_again, same_packet, other_packet, version_six}
 use Rattle.host_machine.specs.Context.Real.{IsPart}
 use Rattle.host_laws.specs.Deliveries.{CarriesIpv6}
 use Rattle.host_laws.specs.Deliveries as spec

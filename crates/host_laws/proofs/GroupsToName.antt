@@ -15,17 +15,17 @@ use Rattle.ip_address.specs.declared.ip.IpAddress.{IpAddress}
 use Rattle.ip_address.specs.declared.ip.IpAddress.TheVariants.{Ipv4, Ipv6}
 use Rattle.ip_address.specs.declared.ipv4.Ipv4Address.{Ipv4Address}
 use Rattle.ip_address.specs.Ipv6.{solicited_node}
-use Rattle.group_wire.specs.declared.igmp.IgmpVersion.{IgmpVersion}
-use Rattle.group_table.specs.declared.groups.Group.{Group}
-use Rattle.group_table.specs.declared.groups.GroupState.{GroupState}
-use Rattle.group_table.specs.declared.groups.GroupState.TheVariants.{Joining, Joined, Leaving}
-use Rattle.group_table.specs.declared.report.IgmpReportState.{IgmpReportState}
-use Rattle.group_table.specs.declared.report.IgmpReportState.TheVariants as igmp
-use Rattle.group_table.specs.Groups.{groups_after_join, groups_after_leave, index_of, ipv4_groups, is_full}
-use Rattle.group_table.specs.Groups.{join_reported, joined_from}
-use Rattle.group_table.specs.Groups.{join_reported_from, leave_reported, leave_reported_from, left_from, new_group}
-use Rattle.group_table.specs.Groups.{of_ipv4, state_of, taken_out, with_new, with_state}
-use Rattle.group_table.proofs.GroupsLemmas.{addr_at_index, place_within}
+use Rattle.control_wire.specs.declared.igmp.IgmpVersion.{IgmpVersion}
+use Rattle.iface_tables.specs.declared.groups.Group.{Group}
+use Rattle.iface_tables.specs.declared.groups.GroupState.{GroupState}
+use Rattle.iface_tables.specs.declared.groups.GroupState.TheVariants.{Joining, Joined, Leaving}
+use Rattle.iface_tables.specs.declared.report.IgmpReportState.{IgmpReportState}
+use Rattle.iface_tables.specs.declared.report.IgmpReportState.TheVariants as igmp
+use Rattle.iface_tables.specs.Groups.{groups_after_join, groups_after_leave, index_of, ipv4_groups, is_full}
+use Rattle.iface_tables.specs.Groups.{join_reported, joined_from}
+use Rattle.iface_tables.specs.Groups.{join_reported_from, leave_reported, leave_reported_from, left_from, new_group}
+use Rattle.iface_tables.specs.Groups.{of_ipv4, state_of, taken_out, with_new, with_state}
+use Rattle.iface_tables.proofs.GroupsLemmas.{addr_at_index, place_within}
 use Rattle.host_machine.specs.Context.Note.{Note}
 use Rattle.host_machine.specs.Context.Host.{Host}
 use Rattle.host_machine.specs.Context.Addresses.{ipv4_addr}
@@ -36,10 +36,10 @@ use Rattle.host_machine.specs.Multicast.Igmp.{igmp_report, IgmpEgress, igmp_poll
 use Rattle.host_machine.specs.Multicast.Joins as multicast
 use Rattle.host_machine.specs.Multicast.Timeout.{has_passed}
 use Rattle.host_machine.specs.Multicast.Igmp as reports
-use Rattle.machine_laws.specs.Laws.Service.{all_granted}
-use Rattle.machine_laws.proofs.Receive.FrameReplies.{clash}
-use Rattle.machine_laws.proofs.Interface.DueWork.{has_come_by}
-use Rattle.machine_laws.proofs.Interface.GrantedEgress.{dispatched_gone}
+use Rattle.host_laws.specs.Laws.Service.{all_granted}
+use Rattle.host_laws.proofs.Receive.FrameReplies.{clash}
+use Rattle.host_laws.proofs.Interface.DueWork.{has_come_by}
+use Rattle.host_laws.proofs.Interface.GrantedEgress.{dispatched_gone}
 use Rattle.host_laws.specs.Progress.{to_name}
 
 -- The number of IPv4 groups

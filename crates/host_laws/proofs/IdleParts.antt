@@ -4,8 +4,8 @@ use Rattle.std.specs.Prelude.{pos}
 use Rattle.net_base.specs.Device.{Event}
 use Rattle.ip_address.specs.declared.cidr.IpCidr.{IpCidr}
 use Rattle.ip_address.specs.declared.ip.IpAddress.{IpAddress}
-use Rattle.group_table.specs.declared.groups.Group.{Group}
-use Rattle.group_table.specs.declared.groups.GroupState.{GroupState}
+use Rattle.iface_tables.specs.declared.groups.Group.{Group}
+use Rattle.iface_tables.specs.declared.groups.GroupState.{GroupState}
 use Rattle.host_machine.specs.Context.Note.{Note}
 use Rattle.host_machine.specs.Context.Host.{Host}
 use Rattle.host_machine.specs.Packet.Packet.{Packet}

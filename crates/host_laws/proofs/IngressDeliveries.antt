@@ -8,8 +8,8 @@ use Rattle.net_base.specs.Device.{Event, Reception, Received, handed_frames}
 use Rattle.ip_wire.specs.declared.ip_packet.IpRepr.{IpRepr}
 use Rattle.ip_wire.specs.IpPacket.{src_addr, dst_addr}
 use Rattle.ip_wire.specs.Udp.{udp_in}
-use Rattle.socket_base.specs.declared.endpoint.IpListenEndpoint.{IpListenEndpoint}
-use Rattle.transport_sockets.specs.Udp.{UdpSocket, accepts, socket_after_delivery, is_accepted_at}
+use Rattle.sockets.specs.declared.endpoint.IpListenEndpoint.{IpListenEndpoint}
+use Rattle.sockets.specs.Udp.{UdpSocket, accepts, socket_after_delivery, is_accepted_at}
 use Rattle.fragmentation.specs.Reassembly.{SlotNote}
 use Rattle.host_machine.specs.declared.results.PollIngressSingleResult.{PollIngressSingleResult}
 use Rattle.host_machine.specs.Context.Note.{Note, slot_notes}
@@ -28,9 +28,9 @@ use Rattle.host_machine.specs.Packet.Packet.{Packet}
 use Rattle.host_machine.specs.Receive.Response.{Responds}
 use Rattle.host_machine.specs.Interface.Ingress.{Ingress}
 use Rattle.host_machine.specs.Interface.Parts.{Part}
-use Rattle.machine_laws.proofs.Context.NotesBySubject.{slot_notes-append}
-use Rattle.machine_laws.proofs.Receive.Malformed.{handed_frames-sends}
-use Rattle.machine_laws.proofs.Receive.SlotEffects.{handed_frames-append}
+use Rattle.host_laws.proofs.Context.NotesBySubject.{slot_notes-append}
+use Rattle.host_laws.proofs.Receive.Malformed.{handed_frames-sends}
+use Rattle.host_laws.proofs.Receive.SlotEffects.{handed_frames-append}
 use Rattle.host_laws.specs.Deliveries.{BringsPacket, BringsUdp, Delivery, Deliver, Gets, IsAccepted}
 use Rattle.host_laws.specs.Deliveries.{NoFrame, NoSocketGets, OneGets, to_index, udp_at, with_deliveries}
 use Rattle.host_laws.specs.Deliveries as spec

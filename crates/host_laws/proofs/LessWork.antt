@@ -10,11 +10,11 @@ use Rattle.std.specs.declared.cmp.Ordering.{Ordering}
 use Rattle.std.specs.declared.cmp.Ordering.TheVariants.{Less, Equal, Greater}
 use Rattle.net_base.specs.Checksum.{ip_mtu_of}
 use Rattle.net_base.specs.Device.{Event, Received, Asked, Sent, Reception, Frame, Nothing, Withheld, handed_frames}
-use Rattle.group_table.specs.declared.groups.GroupState.TheVariants.{Joining, Leaving}
-use Rattle.group_table.specs.Groups.{join_reported, leave_reported}
-use Rattle.slaac.specs.declared.slaac.Prefix.{Prefix}
-use Rattle.slaac.specs.declared.slaac.Route.{Route}
-use Rattle.slaac.specs.Slaac.{is_before, sync_required}
+use Rattle.iface_tables.specs.declared.groups.GroupState.TheVariants.{Joining, Leaving}
+use Rattle.iface_tables.specs.Groups.{join_reported, leave_reported}
+use Rattle.iface_tables.specs.declared.slaac.Prefix.{Prefix}
+use Rattle.iface_tables.specs.declared.slaac.Route.{Route}
+use Rattle.iface_tables.specs.Slaac.{is_before, sync_required}
 use Rattle.host_machine.specs.declared.results.PollIngressSingleResult.{PollIngressSingleResult}
 use Rattle.host_machine.specs.declared.results.PollIngressSingleResult.TheVariants as ingress
 use Rattle.host_machine.specs.declared.results.PollResult.{PollResult}
@@ -43,12 +43,12 @@ use Rattle.host_machine.specs.Interface.Polling as polling
 use Rattle.host_machine.specs.Interface.Run.{Transition, Run, Ends, Then}
 use Rattle.host_machine.specs.Interface.Step.{Act, Step}
 use Rattle.host_machine.specs.Interface.Step as step
-use Rattle.machine_laws.specs.Laws.Service.{IsDone, IsLater, all_granted}
-use Rattle.machine_laws.proofs.Receive.Malformed.{nothing_responded}
-use Rattle.machine_laws.proofs.Interface.SlaacPolls.{polls_sync_slaac}
-use Rattle.machine_laws.proofs.Interface.GrantedEgress.{all_untouched, dispatched_gone, given_parts, groups_way}
-use Rattle.machine_laws.proofs.Interface.GrantedEgress.{routers_way, to_sockets}
-use Rattle.machine_laws.proofs.Interface.DueWork.{all_kept, due_done, groups_kept, igmp_kept, mld_kept, piece_gone}
+use Rattle.host_laws.specs.Laws.Service.{IsDone, IsLater, all_granted}
+use Rattle.host_laws.proofs.Receive.Malformed.{nothing_responded}
+use Rattle.host_laws.proofs.Interface.SlaacPolls.{polls_sync_slaac}
+use Rattle.host_laws.proofs.Interface.GrantedEgress.{all_untouched, dispatched_gone, given_parts, groups_way}
+use Rattle.host_laws.proofs.Interface.GrantedEgress.{routers_way, to_sockets}
+use Rattle.host_laws.proofs.Interface.DueWork.{all_kept, due_done, groups_kept, igmp_kept, mld_kept, piece_gone}
 use Rattle.host_laws.specs.Progress.{ComeToRest, PollsComeToRest, RunsComeToRest, PollsMakeProgress, LeavesWorkDue, IsSound, to_name, work}
 use Rattle.host_laws.proofs.QueuesAfterTurns.{CallLoads, NoLoad, LessLoad, call_loads, call_works}
 use Rattle.host_laws.proofs.QueuesAfterTurns.{one_less_apart}

@@ -5,9 +5,9 @@ use Rattle.std.proofs.lemmas.Bool.Decides.{nat_tests}
 use Rattle.std.proofs.lemmas.List.{append_assoc}
 use Rattle.fragmentation.specs.Cuts.{Datagram}
 use Rattle.fragmentation.specs.Reassembly.{SlotNote}
-use Rattle.transport_sockets.specs.Udp.{UdpSocket, socket_after_delivery, without_first_to_send}
+use Rattle.sockets.specs.Udp.{UdpSocket, socket_after_delivery, without_first_to_send}
 use Rattle.host_machine.specs.Context.Host.{Host}
-use Rattle.machine_laws.specs.Laws.Order.{IsAmong, NoneOfNone, OneOf, NotThis}
+use Rattle.host_laws.specs.Laws.Order.{IsAmong, NoneOfNone, OneOf, NotThis}
 use Rattle.host_laws.specs.Deliveries.{Delivery, Deliver, NoFrame, OneGets, NoSocketGets, to_index, with_deliveries}
 use Rattle.host_laws.specs.Departures.{Departure, Way, Dropped, InOneFrame, InPieces, frames_by}
 use Rattle.host_laws.specs.Departures.{frames_of, cuts_by, cuts_of, from_index, entries, without}

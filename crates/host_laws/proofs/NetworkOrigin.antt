@@ -13,8 +13,8 @@ use Rattle.host_machine.specs.Context.Host.{Host}
 use Rattle.host_machine.specs.Context.Real.{IsReal}
 use Rattle.host_machine.specs.Interface.Run.{Transition, Run, Ends, Then, events_in}
 use Rattle.host_machine.proofs.Receive.Pieces.{is_in}
-use Rattle.machine_laws.proofs.Receive.SlotEffects.{handed_frames-append}
-use Rattle.machine_laws.proofs.Runs.SentPieces as shown
+use Rattle.host_laws.proofs.Receive.SlotEffects.{handed_frames-append}
+use Rattle.host_laws.proofs.Runs.SentPieces as shown
 use Rattle.host_laws.specs.Deliveries.{Delivery, Deliver, NoFrame, OneGets, NoSocketGets, BringsPacket, BringsUdp, AtOnce, InFragments}
 use Rattle.host_laws.specs.Datagrams.{host_at_command}
 use Rattle.host_laws.specs.EndToEnd.{WasSent}

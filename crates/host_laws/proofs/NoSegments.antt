@@ -11,12 +11,12 @@ use Rattle.ip_address.specs.declared.ipv6.Ipv6Address.{Ipv6Address}
 use Rattle.control_wire.specs.declared.icmp.IcmpRepr.{IcmpRepr}
 use Rattle.control_wire.specs.declared.icmp.IcmpRepr.TheVariants as icmp
 use Rattle.control_wire.specs.declared.icmpv4.Icmpv4Repr.TheVariants as v4
-use Rattle.icmpv6_wire.specs.declared.icmpv6.Icmpv6Repr.TheVariants as v6
-use Rattle.group_wire.specs.declared.igmp.IgmpRepr.{IgmpRepr}
-use Rattle.group_wire.specs.declared.igmp.IgmpVersion.{IgmpVersion}
-use Rattle.network_sockets.specs.Icmp as icmp_socket
+use Rattle.control_wire.specs.declared.icmpv6.Icmpv6Repr.TheVariants as v6
+use Rattle.control_wire.specs.declared.igmp.IgmpRepr.{IgmpRepr}
+use Rattle.control_wire.specs.declared.igmp.IgmpVersion.{IgmpVersion}
+use Rattle.sockets.specs.Icmp as icmp_socket
 use Rattle.sockets.specs.Kinds.{IcmpOffer}
-use Rattle.slaac.specs.Slaac.{rs_required}
+use Rattle.iface_tables.specs.Slaac.{rs_required}
 use Rattle.host_machine.specs.Context.Addresses.{ipv4_addr, link_local_addr}
 use Rattle.host_machine.specs.Context.Host.{Host}
 use Rattle.host_machine.specs.Packet.Packet.{Packet, IpPayload, payload_of}
@@ -27,7 +27,7 @@ use Rattle.host_machine.specs.Multicast.Joins.{join_packet, leave_packet}
 use Rattle.host_machine.specs.Discovery.RouterSolicitation.{due_solicitation, router_solicitation, solicitation_by, solicitation_from}
 use Rattle.host_machine.specs.Sockets.Icmp.{echo_payload}
 use Rattle.host_machine.specs.Sockets.Offers.{packet_between, packet_of}
-use Rattle.machine_laws.proofs.Interface.Turns.{between_is}
+use Rattle.host_laws.proofs.Interface.Turns.{between_is}
 use Rattle.host_laws.proofs.RawReplies.{is_segment}
 
 -- what ICMP sockets offer

@@ -28,7 +28,7 @@ use Rattle.control_wire.specs.declared.icmpv4.Icmpv4Repr.TheVariants.{EchoReques
 use Rattle.control_wire.specs.Icmpv4.{IsIcmpv4, icmpv4_in, header_len}
 use Rattle.control_wire.specs.Icmpv4 as icmpv4
 use Rattle.control_wire.proofs.Icmpv4Again as icmpv4_again
-use Rattle.socket_base.specs.Queue.{is_room}
+use Rattle.sockets.specs.Queue.{is_room}
 use Rattle.host_machine.specs.declared.command.Command.TheVariants.{PollEgress, PollIngressSingle}
 use Rattle.host_machine.specs.Context.Host.{Host, at, is_assigned}
 use Rattle.host_machine.specs.Context.Addresses.{is_unicast_v4}
@@ -37,11 +37,11 @@ use Rattle.host_machine.specs.Packet.Packet.{IpPayload, PacketV4, Icmpv4, header
 use Rattle.host_machine.specs.Packet.Packet as packet
 use Rattle.host_machine.specs.Packet.Frame.{link_header, packet_text, payload_text}
 use Rattle.host_machine.specs.Interface.Run.{Transition}
-use Rattle.machine_laws.specs.Laws.Calls.{IsCallOf, IsEgress, IsIngress, KeepsCallLaws}
-use Rattle.machine_laws.specs.Laws.Service.{HasPacketV4, IsOfLink, IsToItself, Pings as AsksByEcho, HasEchoReply, Takes}
-use Rattle.machine_laws.proofs.Receive.FrameReplies.{pings_served}
-use Rattle.machine_laws.proofs.Icmp.EchoReplies.{replies_queued}
-use Rattle.machine_laws.proofs.Sockets.FirstPackets.{first_echoes_go}
+use Rattle.host_laws.specs.Laws.Calls.{IsCallOf, IsEgress, IsIngress, KeepsCallLaws}
+use Rattle.host_laws.specs.Laws.Service.{HasPacketV4, IsOfLink, IsToItself, Pings as AsksByEcho, HasEchoReply, Takes}
+use Rattle.host_laws.proofs.Receive.FrameReplies.{pings_served}
+use Rattle.host_laws.proofs.Icmp.EchoReplies.{replies_queued}
+use Rattle.host_laws.proofs.Sockets.FirstPackets.{first_echoes_go}
 use Rattle.host_laws.specs.Pings.{Echo, End, FitsBoth, Knows, PingsComeBack, frame_to, reply_packet, request_packet}
 use Rattle.host_laws.specs.PingsInRuns.{PingsReturn, RunsReturnPings, call_at}
 

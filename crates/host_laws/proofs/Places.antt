@@ -4,7 +4,7 @@ use Rattle.std.proofs.Common.{ap, Option, Some, None, arith, slice_get, slice_se
 use Rattle.std.specs.Prelude.{map}
 use Rattle.std.proofs.lemmas.Bool.Decides.{nat_tests}
 use Rattle.sockets.specs.Kinds.{down_udp}
-use Rattle.transport_sockets.specs.Udp.{UdpSocket}
+use Rattle.sockets.specs.Udp.{UdpSocket}
 use Rattle.host_machine.specs.Context.Host.{Socket, Storage}
 use Rattle.host_machine.specs.Sockets.Delivery.{to_each, to_this}
 

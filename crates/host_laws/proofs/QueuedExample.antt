@@ -4,8 +4,8 @@ use Rattle.std.specs.Prelude.{ℤ, pos}
 use Rattle.std.specs.FinMap as map
 use Rattle.std.specs.FinMap.{get-insert, get-empty, same_map}
 use Rattle.net_base.specs.Device.{Received, Nothing, Asked, Sent}
-use Rattle.wire_base.specs.Checksum.{word_sum}
-use Rattle.wire_base.specs.Pseudo.{pseudo}
+use Rattle.ip_wire.specs.Checksum.{word_sum}
+use Rattle.ip_wire.specs.Pseudo.{pseudo}
 use Rattle.ip_wire.specs.Udp as udp
 use Rattle.ip_wire.specs.Ipv4Packet as ipv4
 use Rattle.iface_tables.specs.declared.neighbor.Answer.TheVariants.{Found}
@@ -13,7 +13,7 @@ use Rattle.iface_tables.specs.declared.neighbor.Neighbor.{Neighbor}
 use Rattle.iface_tables.specs.Neighbor.{answer_of}
 use Rattle.iface_tables.proofs.NeighborLemmas.{address_total}
 use Rattle.fragmentation.specs.Slots.{free_slots, held_at, live_at}
-use Rattle.socket_base.specs.declared.endpoint.IpEndpoint.{IpEndpoint}
+use Rattle.sockets.specs.declared.endpoint.IpEndpoint.{IpEndpoint}
 use Rattle.sockets.specs.declared.socket.SocketOf.TheVariants as kind
 use Rattle.host_machine.specs.declared.results.PollIngressSingleResult.TheVariants as ingress
 use Rattle.host_machine.specs.declared.results.PollResult.TheVariants as poll

@@ -6,8 +6,8 @@ use Rattle.std.specs.Prelude.{ℤ, map, is_ok, slice_get, slice_set, drop, Ok, E
 use Rattle.std.specs.Option.{option_map}
 use Rattle.net_base.specs.Checksum.{ip_mtu_of}
 use Rattle.net_base.specs.Device.{Event}
-use Rattle.group_table.specs.declared.groups.GroupState.TheVariants.{Joining, Leaving}
-use Rattle.group_table.specs.Groups.{join_reported, leave_reported}
+use Rattle.iface_tables.specs.declared.groups.GroupState.TheVariants.{Joining, Leaving}
+use Rattle.iface_tables.specs.Groups.{join_reported, leave_reported}
 use Rattle.sockets.specs.Kinds.{socket_after_told}
 use Rattle.fragmentation.specs.Cuts.{Piece}
 use Rattle.host_machine.specs.declared.results.PollResult.{PollResult}
@@ -24,11 +24,11 @@ use Rattle.host_machine.specs.Interface.Egress.{Egress}
 use Rattle.host_machine.specs.Sockets.Offers.{packet_from, socket_after_asking}
 use Rattle.host_machine.specs.Sockets.Turns as turns_rules
 use Rattle.host_machine.specs.Send.Fragments as fragments_rules
-use Rattle.machine_laws.specs.Laws.Service.{all_granted, waiting_in}
-use Rattle.machine_laws.proofs.Receive.FrameReplies.{clash}
-use Rattle.machine_laws.proofs.Interface.GrantedEgress.{given_parts, groups_way, igmp_way, mld_way, routers_way, there}
-use Rattle.machine_laws.proofs.Interface.GrantedEgress.{turn_way, untouched}
-use Rattle.machine_laws.proofs.Interface.DueWork.{piece_gone}
+use Rattle.host_laws.specs.Laws.Service.{all_granted, waiting_in}
+use Rattle.host_laws.proofs.Receive.FrameReplies.{clash}
+use Rattle.host_laws.proofs.Interface.GrantedEgress.{given_parts, groups_way, igmp_way, mld_way, routers_way, there}
+use Rattle.host_laws.proofs.Interface.GrantedEgress.{turn_way, untouched}
+use Rattle.host_laws.proofs.Interface.DueWork.{piece_gone}
 use Rattle.host_laws.specs.Progress.{OnlyShrinks, QueuesOnlyShrink, queued, queued_at, queued_if, queued_in}
 use Rattle.host_laws.proofs.WaitingPackets.{IsSameOrLess, asked, sent_less, untold}
 use Rattle.host_laws.proofs.FragmentsLeft.{IsWide, LeavesFew, SameLeft, FewLeft, dispatched_left, groups_left}

@@ -4,8 +4,8 @@ use Rattle.std.specs.Prelude.{pos}
 use Rattle.std.specs.FinMap as map
 use Rattle.std.specs.FinMap.{get-insert}
 use Rattle.net_base.specs.Device.{Received, Frame, Asked, Sent}
-use Rattle.wire_base.specs.Checksum.{word_sum}
-use Rattle.wire_base.specs.Pseudo.{pseudo}
+use Rattle.ip_wire.specs.Checksum.{word_sum}
+use Rattle.ip_wire.specs.Pseudo.{pseudo}
 use Rattle.ip_address.specs.declared.hardware.HardwareAddress.TheVariants as hardware
 use Rattle.ip_address.specs.declared.ethernet_address.EthernetAddress.{EthernetAddress}
 use Rattle.ip_address.specs.declared.protocol.IpProtocol.TheVariants as protocol
@@ -36,7 +36,7 @@ use Rattle.host_machine.specs.Interface.Egress.{Egress}
 use Rattle.host_machine.specs.Sockets.Turns as egress
 use Rattle.host_machine.proofs.Interface.RoundWithoutPieces.{no_piece}
 use Rattle.host_machine.specs.Interface.Ingress.{Ingress}
-use Rattle.machine_laws.specs.Laws.Frames as frames
+use Rattle.host_laws.specs.Laws.Frames as frames
 use Rattle.host_machine.specs.Examples.ArpAndEcho as example
 use Rattle.host_machine.specs.Examples.Sockets.{datagram, port_unreachable, unknown_protocol_frame, with_raw}
 use Rattle.host_laws.specs.Deliveries as spec

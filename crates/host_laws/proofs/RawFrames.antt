@@ -23,19 +23,19 @@ use Rattle.ip_wire.specs.IpPacket.{next_header, payload_len}
 use Rattle.ip_wire.specs.Ipv4Packet.{ipv4_in, is_fragment, whole, front, back, header_with}
 use Rattle.ip_wire.specs.Ipv4Packet as ipv4
 use Rattle.ip_wire.proofs.Ipv4Again as ipv4_again
-use Rattle.ipv6_wire.specs.declared.ipv6_packet.Ipv6Repr.{Ipv6Repr}
-use Rattle.ipv6_wire.specs.Ipv6Packet.{ipv6_in}
-use Rattle.ipv6_wire.specs.Ipv6Packet as ipv6
-use Rattle.network_sockets.specs.Raw.{RawSocket, Sent}
-use Rattle.network_sockets.specs.Raw as raw
+use Rattle.ip_wire.specs.declared.ipv6_packet.Ipv6Repr.{Ipv6Repr}
+use Rattle.ip_wire.specs.Ipv6Packet.{ipv6_in}
+use Rattle.ip_wire.specs.Ipv6Packet as ipv6
+use Rattle.sockets.specs.Raw.{RawSocket, Sent}
+use Rattle.sockets.specs.Raw as raw
 use Rattle.fragmentation.specs.Cuts.{Datagram, Piece, HasForm, cut, pieces_of, piece_of, piece_header, piece_fragment}
 use Rattle.fragmentation.specs.Fragments.{Fragment}
 use Rattle.host_machine.specs.Context.Host.{Host}
 use Rattle.host_machine.specs.Packet.Packet.{Packet, IsFormed, payload_of, packet_with, header_v4, header_v6}
 use Rattle.host_machine.specs.Packet.Packet as packet
 use Rattle.host_machine.specs.Packet.Frame.{ip_frame, piece_frame, piece_text, link_header}
-use Rattle.machine_laws.specs.Laws.Frames.{Carries}
-use Rattle.machine_laws.proofs.Receive.FrameReading.{number_again, same_packet, other_packet, version_six}
+use Rattle.host_laws.specs.Laws.Frames.{Carries}
+use Rattle.host_laws.proofs.Receive.FrameReading.{number_again, same_packet, other_packet, version_six}
 use Rattle.host_machine.proofs.Receive.Pieces.{IsIn, contains_in, IsPiece, piece_in, part_of}
 use Rattle.host_machine.proofs.Receive.Parts.{is_part}
 use Rattle.host_laws.specs.Deliveries.{CarriesIpv6}

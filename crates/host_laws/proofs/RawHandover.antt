@@ -18,19 +18,19 @@ use Rattle.ip_wire.specs.declared.udp.UdpRepr.{UdpRepr}
 use Rattle.ip_wire.specs.IpPacket.{src_addr, dst_addr, next_header, version_of}
 use Rattle.ip_wire.specs.Tcp.{tcp_in}
 use Rattle.ip_wire.specs.Udp.{udp_in}
-use Rattle.ipv6_wire.specs.declared.ipv6_packet.Ipv6Repr.{Ipv6Repr}
-use Rattle.icmpv6_wire.specs.declared.icmpv6.Icmpv6Repr.{Icmpv6Repr}
-use Rattle.icmpv6_wire.specs.declared.icmpv6.Icmpv6Repr.TheVariants as icmpv6_message
-use Rattle.icmpv6_wire.specs.declared.ndisc.NdiscRepr.{NdiscRepr}
-use Rattle.icmpv6_wire.specs.Icmpv6.{icmpv6_in}
-use Rattle.group_wire.specs.declared.igmp.IgmpRepr.{IgmpRepr}
-use Rattle.group_wire.specs.declared.igmp.IgmpRepr.TheVariants.{MembershipQuery, MembershipReport, LeaveGroup}
-use Rattle.group_wire.specs.Igmp.{igmp_in}
-use Rattle.group_wire.specs.declared.mld.MldRepr.{MldRepr}
-use Rattle.group_wire.specs.declared.mld.MldRepr.TheVariants.{Query, Report}
+use Rattle.ip_wire.specs.declared.ipv6_packet.Ipv6Repr.{Ipv6Repr}
+use Rattle.control_wire.specs.declared.icmpv6.Icmpv6Repr.{Icmpv6Repr}
+use Rattle.control_wire.specs.declared.icmpv6.Icmpv6Repr.TheVariants as icmpv6_message
+use Rattle.control_wire.specs.declared.ndisc.NdiscRepr.{NdiscRepr}
+use Rattle.control_wire.specs.Icmpv6.{icmpv6_in}
+use Rattle.control_wire.specs.declared.igmp.IgmpRepr.{IgmpRepr}
+use Rattle.control_wire.specs.declared.igmp.IgmpRepr.TheVariants.{MembershipQuery, MembershipReport, LeaveGroup}
+use Rattle.control_wire.specs.Igmp.{igmp_in}
+use Rattle.control_wire.specs.declared.mld.MldRepr.{MldRepr}
+use Rattle.control_wire.specs.declared.mld.MldRepr.TheVariants.{Query, Report}
 use Rattle.control_wire.specs.declared.icmp.IcmpRepr.{IcmpRepr}
 use Rattle.iface_tables.specs.Neighbor.{after_renewal, expiry_from}
-use Rattle.network_sockets.specs.Raw.{RawSocket, accepts, socket_after_delivery}
+use Rattle.sockets.specs.Raw.{RawSocket, accepts, socket_after_delivery}
 use Rattle.sockets.specs.declared.socket.SocketOf.TheVariants.{Raw, Icmp, Udp, Tcp}
 use Rattle.sockets.specs.Kinds.{down_raw, down_tcp}
 use Rattle.host_machine.specs.Context.Note.{Note}

@@ -14,8 +14,8 @@ use Rattle.host_machine.specs.Context.Host.{Host}
 use Rattle.host_machine.specs.Context.Real.{IsReal, IsRegular}
 use Rattle.host_machine.specs.Interface.Run.{Transition, Run, Ends, Then, events_in}
 use Rattle.host_machine.proofs.Receive.Pieces.{IsIn, contains_in, is_in}
-use Rattle.machine_laws.proofs.Receive.SlotEffects.{handed_frames-append}
-use Rattle.machine_laws.proofs.Runs.SentPieces as shown
+use Rattle.host_laws.proofs.Receive.SlotEffects.{handed_frames-append}
+use Rattle.host_laws.proofs.Runs.SentPieces as shown
 use Rattle.host_laws.specs.Datagrams.{host_at_command}
 use Rattle.host_laws.specs.Network.{Runs, SentBySome}
 use Rattle.host_laws.specs.RawArrivals.{RawArrival, Arrive, BringsRaw, OverIpv4, InFragments, OverIpv6, AfterOptions, NoFrame, OneBrings, NoneBrings}

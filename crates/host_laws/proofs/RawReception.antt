@@ -17,10 +17,10 @@ use Rattle.ip_wire.specs.declared.ip_packet.IpRepr.TheVariants as repr
 use Rattle.ip_wire.specs.Ethernet.{header_in}
 use Rattle.ip_wire.specs.IpPacket.{next_header, version_of}
 use Rattle.ip_wire.specs.Ipv4Packet.{IsIpv4, ipv4_in, is_fragment}
-use Rattle.ipv6_wire.specs.Ipv6Packet.{IsIpv6, ipv6_in}
-use Rattle.ipv6_wire.specs.HopByHop.{IsHopByHop, hop_by_hop_in, first_failure}
-use Rattle.ipv6_wire.specs.declared.hop_by_hop.Ipv6OptionFailureType.TheVariants.{Skip}
-use Rattle.network_sockets.specs.Raw.{RawSocket, accepts, socket_after_delivery}
+use Rattle.ip_wire.specs.Ipv6Packet.{IsIpv6, ipv6_in}
+use Rattle.ip_wire.specs.HopByHop.{IsHopByHop, hop_by_hop_in, first_failure}
+use Rattle.ip_wire.specs.declared.hop_by_hop.Ipv6OptionFailureType.TheVariants.{Skip}
+use Rattle.sockets.specs.Raw.{RawSocket, accepts, socket_after_delivery}
 use Rattle.fragmentation.specs.declared.key.FragKey.{FragKey}
 use Rattle.fragmentation.specs.Fragments.{Fragment}
 use Rattle.fragmentation.specs.Reassembly.{SlotNote}
@@ -37,15 +37,15 @@ use Rattle.host_machine.specs.Receive.Ipv4 as ipv4
 use Rattle.host_machine.specs.Receive.Ipv6 as ipv6
 use Rattle.host_machine.specs.Receive.Ethernet.{ProcessesEthertype, ProcessesFrame, is_for}
 use Rattle.host_machine.specs.Receive.Ethernet as ethernet
-use Rattle.machine_laws.specs.Laws.Frames.{Carries}
-use Rattle.machine_laws.specs.Laws.Frames as frames
+use Rattle.host_laws.specs.Laws.Frames.{Carries}
+use Rattle.host_laws.specs.Laws.Frames as frames
 use Rattle.host_machine.specs.Interface.Ingress.{Takes, Ingress}
 use Rattle.host_machine.specs.Packet.Frame.{sends}
 use Rattle.host_machine.specs.Interface.Parts.{Part}
-use Rattle.machine_laws.proofs.Context.NotesBySubject.{slot_notes-append, slot_notes-slots}
-use Rattle.machine_laws.proofs.Receive.PacketEffects.{whole_plain}
-use Rattle.machine_laws.proofs.Receive.Malformed.{handed_frames-sends}
-use Rattle.machine_laws.proofs.Receive.SlotEffects.{handed_frames-append}
+use Rattle.host_laws.proofs.Context.NotesBySubject.{slot_notes-append, slot_notes-slots}
+use Rattle.host_laws.proofs.Receive.PacketEffects.{whole_plain}
+use Rattle.host_laws.proofs.Receive.Malformed.{handed_frames-sends}
+use Rattle.host_laws.proofs.Receive.SlotEffects.{handed_frames-append}
 use Rattle.host_laws.specs.Deliveries.{CarriesIpv6}
 use Rattle.host_laws.specs.Deliveries as spec
 use Rattle.host_laws.specs.RawArrivals.{RawArrival, Arrive, BringsRaw, socket_after_arrival, with_arrivals, without_sending}

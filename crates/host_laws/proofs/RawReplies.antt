@@ -31,25 +31,25 @@ use Rattle.ip_wire.specs.declared.ipv4_packet.Ipv4Repr.{Ipv4Repr}
 use Rattle.ip_wire.specs.declared.ipv4_packet.Ipv4Fragment.{Ipv4Fragment}
 use Rattle.ip_wire.specs.IpPacket.{next_header, version_of}
 use Rattle.ip_wire.specs.Tcp.{tcp_in}
-use Rattle.ipv6_wire.specs.declared.hop_by_hop.Ipv6OptionFailureType.{Ipv6OptionFailureType}
-use Rattle.ipv6_wire.specs.declared.hop_by_hop.Ipv6OptionFailureType.TheVariants.{Skip, Discard, DiscardSendAll, DiscardSendUnicast}
-use Rattle.ipv6_wire.specs.declared.ipv6_packet.Ipv6Repr.{Ipv6Repr}
-use Rattle.ipv6_wire.specs.HopByHop.{hop_by_hop_in}
-use Rattle.ipv6_wire.specs.Ipv6Packet.{ipv6_in}
-use Rattle.icmpv6_wire.specs.declared.icmpv6.Icmpv6ParamProblem.TheVariants.{UnrecognizedOption}
-use Rattle.icmpv6_wire.specs.declared.icmpv6.Icmpv6Repr.{Icmpv6Repr}
-use Rattle.icmpv6_wire.specs.declared.icmpv6.Icmpv6Repr.TheVariants as icmpv6_message
-use Rattle.icmpv6_wire.specs.declared.ndisc.NdiscRepr.{NdiscRepr}
-use Rattle.icmpv6_wire.specs.Icmpv6.{icmpv6_in}
-use Rattle.group_wire.specs.declared.mld.MldRepr.{MldRepr}
-use Rattle.group_wire.specs.declared.mld.MldRepr.TheVariants.{Query, Report}
+use Rattle.ip_wire.specs.declared.hop_by_hop.Ipv6OptionFailureType.{Ipv6OptionFailureType}
+use Rattle.ip_wire.specs.declared.hop_by_hop.Ipv6OptionFailureType.TheVariants.{Skip, Discard, DiscardSendAll, DiscardSendUnicast}
+use Rattle.ip_wire.specs.declared.ipv6_packet.Ipv6Repr.{Ipv6Repr}
+use Rattle.ip_wire.specs.HopByHop.{hop_by_hop_in}
+use Rattle.ip_wire.specs.Ipv6Packet.{ipv6_in}
+use Rattle.control_wire.specs.declared.icmpv6.Icmpv6ParamProblem.TheVariants.{UnrecognizedOption}
+use Rattle.control_wire.specs.declared.icmpv6.Icmpv6Repr.{Icmpv6Repr}
+use Rattle.control_wire.specs.declared.icmpv6.Icmpv6Repr.TheVariants as icmpv6_message
+use Rattle.control_wire.specs.declared.ndisc.NdiscRepr.{NdiscRepr}
+use Rattle.control_wire.specs.Icmpv6.{icmpv6_in}
+use Rattle.control_wire.specs.declared.mld.MldRepr.{MldRepr}
+use Rattle.control_wire.specs.declared.mld.MldRepr.TheVariants.{Query, Report}
 use Rattle.control_wire.specs.declared.icmpv4.Icmpv4DstUnreachable.{Icmpv4DstUnreachable}
 use Rattle.control_wire.specs.declared.icmpv4.Icmpv4DstUnreachable.TheVariants.{PortUnreachable}
 use Rattle.control_wire.specs.declared.icmpv4.Icmpv4Repr.{Icmpv4Repr}
 use Rattle.control_wire.specs.declared.icmpv4.Icmpv4Repr.TheVariants.{EchoRequest, EchoReply, DstUnreachable, TimeExceeded}
 use Rattle.control_wire.specs.Icmpv4.{icmpv4_in}
-use Rattle.network_sockets.specs.Raw.{RawSocket}
-use Rattle.network_sockets.specs.Raw as raw_socket
+use Rattle.sockets.specs.Raw.{RawSocket}
+use Rattle.sockets.specs.Raw as raw_socket
 use Rattle.sockets.specs.Kinds.{down_raw}
 use Rattle.sockets.specs.declared.socket.SocketOf.TheVariants.{Raw, Icmp, Udp, Tcp}
 use Rattle.host_machine.specs.Context.Note.{Note}

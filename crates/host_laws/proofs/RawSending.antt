@@ -12,11 +12,11 @@ use Rattle.ip_address.specs.Hardware.{IsOf}
 use Rattle.ip_wire.specs.declared.ip_packet.IpRepr.{IpRepr}
 use Rattle.ip_wire.specs.declared.ip_packet.IpRepr.TheVariants as repr
 use Rattle.ip_wire.specs.IpPacket.{next_header}
-use Rattle.socket_base.specs.Queue.{first_of}
-use Rattle.network_sockets.specs.Raw.{RawSocket, Sent, packet_to_send, offered_packet, socket_after_offer, socket_after_told, without_first_to_send}
-use Rattle.network_sockets.specs.Icmp as icmp_socket
-use Rattle.transport_sockets.specs.Udp as udp_socket
-use Rattle.transport_sockets.specs.Tcp as tcp_socket
+use Rattle.sockets.specs.Queue.{first_of}
+use Rattle.sockets.specs.Raw.{RawSocket, Sent, packet_to_send, offered_packet, socket_after_offer, socket_after_told, without_first_to_send}
+use Rattle.sockets.specs.Icmp as icmp_socket
+use Rattle.sockets.specs.Udp as udp_socket
+use Rattle.sockets.specs.Tcp as tcp_socket
 use Rattle.sockets.specs.declared.socket.SocketOf.TheVariants.{Raw, Icmp, Udp, Tcp}
 use Rattle.sockets.specs.Kinds.{RawOffer, IcmpOffer, UdpOffer}
 use Rattle.fragmentation.specs.Fragments.{Fragment}
@@ -33,16 +33,16 @@ use Rattle.host_machine.specs.Send.Dispatch.{Dispatches}
 use Rattle.host_machine.specs.Context.Pieces.{datagram_of, piece_size}
 use Rattle.host_machine.specs.Sockets.Offers.{packet_from, packet_of}
 use Rattle.host_machine.specs.Context.Real.{IsRegular}
-use Rattle.machine_laws.specs.Laws.Steps.{SendsOneThing, ThePacket, ItsFirstPiece, ARequest}
-use Rattle.machine_laws.specs.Laws.Steps as laws
+use Rattle.host_laws.specs.Laws.Steps.{SendsOneThing, ThePacket, ItsFirstPiece, ARequest}
+use Rattle.host_laws.specs.Laws.Steps as laws
 use Rattle.host_machine.proofs.Receive.Pieces.{IsIn, count_below, in_left, in_right, length-pieces_from}
-use Rattle.machine_laws.proofs.Runs.TwoHosts.{in_map}
+use Rattle.host_laws.proofs.Runs.TwoHosts.{in_map}
 use Rattle.host_machine.proofs.Receive.Parts.{size_positive}
 use Rattle.host_machine.proofs.Send.Reached.{Reached}
-use Rattle.machine_laws.proofs.Runs.Walk.{dispatched}
-use Rattle.machine_laws.proofs.Discovery.NotedRequests.{sends_one}
-use Rattle.machine_laws.proofs.Interface.OwnMessages.{is_own}
-use Rattle.machine_laws.proofs.Interface.Turns.{between_is, icmp_is, tcp_is}
+use Rattle.host_laws.proofs.Runs.Walk.{dispatched}
+use Rattle.host_laws.proofs.Discovery.NotedRequests.{sends_one}
+use Rattle.host_laws.proofs.Interface.OwnMessages.{is_own}
+use Rattle.host_laws.proofs.Interface.Turns.{between_is, icmp_is, tcp_is}
 use Rattle.host_laws.proofs.Accounts.{cuts_follow, dispatch_follows, follows}
 use Rattle.host_laws.proofs.FramesWithoutUdp.{request_at_most}
 use Rattle.host_laws.proofs.RawFrames.{packet_for}

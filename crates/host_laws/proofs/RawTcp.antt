@@ -11,15 +11,15 @@ use Rattle.ip_address.specs.Hardware.{IsOf}
 use Rattle.ip_address.specs.declared.protocol.IpVersion.TheVariants as version
 use Rattle.ip_address.specs.Protocol.{number_of}
 use Rattle.ip_wire.specs.IpPacket.{next_header}
-use Rattle.network_sockets.specs.Raw.{RawSocket, Sent, if_spoken, packet_in}
+use Rattle.sockets.specs.Raw.{RawSocket, Sent, if_spoken, packet_in}
 use Rattle.host_machine.specs.Context.Host.{Host, SocketSet}
 use Rattle.host_machine.specs.Context.Real.{IsReal}
 use Rattle.host_machine.specs.Interface.Run.{Transition, Run, Ends, Then, events_in}
 use Rattle.host_machine.specs.Packet.Packet.{payload_of}
 use Rattle.host_machine.specs.Packet.Packet as packet
 use Rattle.host_machine.proofs.Receive.Pieces.{is_in}
-use Rattle.machine_laws.proofs.Receive.SlotEffects.{handed_frames-append}
-use Rattle.machine_laws.proofs.Runs.SentPieces as shown
+use Rattle.host_laws.proofs.Receive.SlotEffects.{handed_frames-append}
+use Rattle.host_laws.proofs.Runs.SentPieces as shown
 use Rattle.host_laws.specs.Network.{Runs, SentBySome}
 use Rattle.host_laws.specs.RawArrivals.{raw_at}
 use Rattle.host_laws.specs.RawPackets.{HasNoSegmentAfterOptions, HasRaw, LeavesSegments, OnlyRawSpeak, TakesSegments}

@@ -12,9 +12,9 @@ use Rattle.ip_address.specs.declared.protocol.IpVersion.TheVariants as version
 use Rattle.ip_address.specs.Protocol.{number_of}
 use Rattle.ip_wire.specs.declared.ip_packet.IpRepr.{IpRepr}
 use Rattle.ip_wire.specs.IpPacket.{next_header, version_of}
-use Rattle.socket_base.specs.Queue.{Queued}
-use Rattle.network_sockets.specs.Raw.{RawSocket, accepts, socket_after_delivery}
-use Rattle.slaac.specs.Slaac.{sync_required}
+use Rattle.sockets.specs.Queue.{Queued}
+use Rattle.sockets.specs.Raw.{RawSocket, accepts, socket_after_delivery}
+use Rattle.iface_tables.specs.Slaac.{sync_required}
 use Rattle.sockets.specs.Kinds.{down_tcp}
 use Rattle.sockets.specs.declared.socket.SocketOf.TheVariants.{Raw, Icmp, Udp, Tcp}
 use Rattle.host_machine.specs.declared.command.Command.{Command}
@@ -36,12 +36,12 @@ use Rattle.host_machine.specs.Interface.Polling.{Polls, after_maintenance}
 use Rattle.host_machine.specs.Interface.Step.{Act, Step, Accepted, Refused, Taken, NotTaken, WithinDay, OverDay}
 use Rattle.host_machine.specs.Interface.Step as step
 use Rattle.host_machine.specs.Context.Real.{IsReal, IsRegular}
-use Rattle.machine_laws.proofs.Context.NotesBySubject.{slot_notes-append}
-use Rattle.machine_laws.proofs.Interface.PollCalls.{until}
-use Rattle.machine_laws.proofs.Receive.Malformed.{handed_frames-received, handed_frames-sends, sent_frames-sends}
-use Rattle.machine_laws.proofs.Receive.SlotEffects.{egress_hands_none, egress_still, handed_frames-append}
-use Rattle.machine_laws.proofs.Runs.SentPieces.{GoodReply, takes_good, takes_real}
-use Rattle.machine_laws.proofs.Runs.Walk.{sent_frames-append}
+use Rattle.host_laws.proofs.Context.NotesBySubject.{slot_notes-append}
+use Rattle.host_laws.proofs.Interface.PollCalls.{until}
+use Rattle.host_laws.proofs.Receive.Malformed.{handed_frames-received, handed_frames-sends, sent_frames-sends}
+use Rattle.host_laws.proofs.Receive.SlotEffects.{egress_hands_none, egress_still, handed_frames-append}
+use Rattle.host_laws.proofs.Runs.SentPieces.{GoodReply, takes_good, takes_real}
+use Rattle.host_laws.proofs.Runs.Walk.{sent_frames-append}
 use Rattle.host_laws.specs.Datagrams.{host_at_command}
 use Rattle.host_laws.specs.RawArrivals.{RawArrival, Arrive, NoFrame, raw_at, receiver_at, socket_after_arrival, with_arrivals}
 use Rattle.host_laws.specs.RawPackets.{HasRaw, HasNoSegmentAfterOptions, LeavesSegments, LosesFront, TakesSegments, tcp_at}

@@ -9,12 +9,12 @@ use Rattle.net_base.specs.Device.{Event, Asked, sent_frames}
 use Rattle.net_base.specs.declared.phy.DeviceCapabilities.{DeviceCapabilities}
 use Rattle.ip_address.specs.declared.cidr.IpCidr.{IpCidr}
 use Rattle.ip_address.specs.declared.ip.IpAddress.{IpAddress}
-use Rattle.group_table.specs.declared.groups.Group.{Group}
-use Rattle.group_table.specs.declared.groups.GroupState.{GroupState}
+use Rattle.iface_tables.specs.declared.groups.Group.{Group}
+use Rattle.iface_tables.specs.declared.groups.GroupState.{GroupState}
 use Rattle.sockets.specs.declared.socket.SocketOf.TheVariants.{Raw, Icmp, Udp, Tcp}
 use Rattle.sockets.specs.Kinds as kinds
-use Rattle.network_sockets.specs.Raw.{RawSocket, offered_packet, socket_after_offer, socket_after_told, without_first_to_send}
-use Rattle.transport_sockets.specs.Tcp.{TcpSocket}
+use Rattle.sockets.specs.Raw.{RawSocket, offered_packet, socket_after_offer, socket_after_told, without_first_to_send}
+use Rattle.sockets.specs.Tcp.{TcpSocket}
 use Rattle.host_machine.specs.declared.results.PollResult.{PollResult}
 use Rattle.host_machine.specs.declared.results.Turn.{Turn}
 use Rattle.host_machine.specs.Context.Note.{Note}
@@ -38,12 +38,12 @@ use Rattle.host_machine.specs.Discovery.RouterSolicitation.{NdiscRsEgress}
 use Rattle.host_machine.specs.Discovery.RouterSolicitation as slaac
 use Rattle.host_machine.specs.Interface.Parts.{Part}
 use Rattle.host_machine.specs.Context.Real.{IsPart, IsRegular}
-use Rattle.machine_laws.proofs.Interface.PollCalls.{both}
-use Rattle.machine_laws.proofs.Receive.Malformed.{sent_frames-sends}
-use Rattle.machine_laws.proofs.Discovery.NotedRequests.{sends_one}
-use Rattle.machine_laws.proofs.Runs.Walk.{sent_frames-append}
-use Rattle.machine_laws.proofs.Interface.OwnMessages.{is_own}
-use Rattle.machine_laws.proofs.Interface.Turns.{join_is, leave_is, report_is, solicitation_is, turn_sockets}
+use Rattle.host_laws.proofs.Interface.PollCalls.{both}
+use Rattle.host_laws.proofs.Receive.Malformed.{sent_frames-sends}
+use Rattle.host_laws.proofs.Discovery.NotedRequests.{sends_one}
+use Rattle.host_laws.proofs.Runs.Walk.{sent_frames-append}
+use Rattle.host_laws.proofs.Interface.OwnMessages.{is_own}
+use Rattle.host_laws.proofs.Interface.Turns.{join_is, leave_is, report_is, solicitation_is, turn_sockets}
 use Rattle.host_laws.specs.RawArrivals.{receiver_at, without_sending}
 use Rattle.host_laws.proofs.Accounts.{dispatch_follows, still}
 use Rattle.host_laws.proofs.IdleParts.{Idle, dispatch_idle}

@@ -22,17 +22,17 @@ use Rattle.ip_wire.specs.Ipv4Packet as ipv4
 use Rattle.ip_wire.specs.Udp.{udp_in, udp_len}
 use Rattle.ip_wire.specs.Udp as udp
 use Rattle.ip_wire.proofs.Ipv4Again as ipv4_again
-use Rattle.ipv6_wire.specs.declared.ipv6_packet.Ipv6Repr.{Ipv6Repr}
-use Rattle.ipv6_wire.specs.Ipv6Packet.{ipv6_in}
-use Rattle.ipv6_wire.specs.Ipv6Packet as ipv6
-use Rattle.ipv6_wire.proofs.Ipv6Again as ipv6_again
+use Rattle.ip_wire.specs.declared.ipv6_packet.Ipv6Repr.{Ipv6Repr}
+use Rattle.ip_wire.specs.Ipv6Packet.{ipv6_in}
+use Rattle.ip_wire.specs.Ipv6Packet as ipv6
+use Rattle.ip_wire.proofs.Ipv6Again as ipv6_again
 use Rattle.host_machine.specs.Context.Host.{Host}
 use Rattle.host_machine.specs.Packet.Packet.{Packet, PacketV4, PacketV6, IpPayload, Udp, IsFormed}
 use Rattle.host_machine.specs.Packet.Packet.{IsFormedV4, IsFormedV6, header_v4, header_v6, payload_len}
 use Rattle.host_machine.specs.Packet.Packet as packet
 use Rattle.host_machine.specs.Packet.Frame.{ip_frame, packet_text, payload_text}
 use Rattle.host_machine.specs.Sockets.Offers.{packet_between}
-use Rattle.machine_laws.proofs.Receive.FrameReading.{same_packet, other_packet, version_six}
+use Rattle.host_laws.proofs.Receive.FrameReading.{same_packet, other_packet, version_six}
 use Rattle.host_laws.specs.Deliveries.{BringsPacket}
 use Rattle.host_laws.specs.Deliveries as spec
 use Rattle.host_laws.proofs.TurnDepartures.{datagram_len}

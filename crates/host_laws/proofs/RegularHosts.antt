@@ -19,10 +19,10 @@ use Rattle.host_machine.specs.Receive.Response.{Responds}
 use Rattle.host_machine.specs.Interface.Run.{Transition, Run, Ends, Then}
 use Rattle.host_machine.specs.Interface.Step.{Act, Step}
 use Rattle.host_machine.specs.Interface.Step as step
-use Rattle.machine_laws.specs.Laws.TwoHosts.{cuts}
-use Rattle.machine_laws.proofs.Runs.SentPieces.{takes_real}
-use Rattle.machine_laws.proofs.Context.MediumAddresses.{none_of}
-use Rattle.machine_laws.proofs.Interface.Turns.{stepped}
+use Rattle.host_laws.specs.Laws.TwoHosts.{cuts}
+use Rattle.host_laws.proofs.Runs.SentPieces.{takes_real}
+use Rattle.host_laws.proofs.Context.MediumAddresses.{none_of}
+use Rattle.host_laws.proofs.Interface.Turns.{stepped}
 use Rattle.host_laws.specs.Departures.{Departure, HasDeparted}
 use Rattle.host_laws.specs.Datagrams.{host_at_command}
 use Rattle.host_laws.specs.EndToEnd.{LeaveQueues}

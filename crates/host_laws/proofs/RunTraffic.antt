@@ -1,16 +1,16 @@
 -- What moves over a run.
 use Rattle.std.proofs.Common.{◌≡◌, ℕ, List, [], ◌∷◌, ◌++◌, refl, sym, ◌∙◌, ap, subst, option_map}
 use Rattle.std.proofs.lemmas.List.{append_assoc}
-use Rattle.transport_sockets.specs.Udp.{UdpSocket, socket_after_delivery, without_first_to_send}
+use Rattle.sockets.specs.Udp.{UdpSocket, socket_after_delivery, without_first_to_send}
 use Rattle.host_machine.specs.Context.Host.{Host}
-use Rattle.machine_laws.specs.Laws.Order.{IsBeginning}
+use Rattle.host_laws.specs.Laws.Order.{IsBeginning}
 use Rattle.host_machine.specs.Interface.Run.{Transition, Run, Ends, Then, acts_in}
 use Rattle.host_laws.specs.Deliveries.{Delivery, to_index, udp_at, with_deliveries}
 use Rattle.host_laws.specs.Departures.{Departure, entries, from_index, without}
 use Rattle.host_laws.specs.Datagrams.{KeepsQueues, OneTransition, RunsKeepDatagrams, RunsKeepQueues, Still, socket_after_run}
 use Rattle.host_laws.proofs.StepTraffic.{step_moves}
 use Rattle.host_laws.proofs.EgressDepartures.{rest_stays}
-use Rattle.socket_base.specs.declared.endpoint.IpEndpoint.{IpEndpoint}
+use Rattle.sockets.specs.declared.endpoint.IpEndpoint.{IpEndpoint}
 use Rattle.host_laws.proofs.Lists.{entries-append, from_index-append, id_mapped, option_map_then}
 use Rattle.host_laws.proofs.Lists.{to_index-append, tx_stays, with_deliveries-append, without-append}
 

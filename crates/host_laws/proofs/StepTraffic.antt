@@ -4,8 +4,8 @@ use Rattle.std.specs.Prelude.{ℤ}
 use Rattle.std.specs.List.{AllByRecursion}
 use Rattle.std.proofs.lemmas.List.{append-nil}
 use Rattle.net_base.specs.Device.{Event, handed_frames, sent_frames}
-use Rattle.transport_sockets.specs.Udp.{UdpSocket}
-use Rattle.slaac.specs.Slaac.{sync_required}
+use Rattle.sockets.specs.Udp.{UdpSocket}
+use Rattle.iface_tables.specs.Slaac.{sync_required}
 use Rattle.host_machine.specs.declared.command.Command.{Command}
 use Rattle.host_machine.specs.declared.command.Answer.{Answer}
 use Rattle.host_machine.specs.declared.results.PollIngressSingleResult.{PollIngressSingleResult}
@@ -16,24 +16,24 @@ use Rattle.host_machine.specs.Context.Autoconfiguration.{with_slaac_applied}
 use Rattle.host_machine.specs.Interface.Ingress.{Ingress}
 use Rattle.host_machine.specs.Interface.Egress.{Egress}
 use Rattle.host_machine.specs.Multicast.Joins.{JoinsGroup, LeavesGroup, NoGroup, NoPlace, JoinTaken, NoGroupEither, LeaveTaken}
-use Rattle.machine_laws.specs.Laws.Order.{IsAmong, IsBeginning}
+use Rattle.host_laws.specs.Laws.Order.{IsAmong, IsBeginning}
 use Rattle.host_machine.specs.Interface.Parts.{Part}
 use Rattle.host_machine.specs.Interface.Polling.{Polls, after_maintenance}
 use Rattle.host_machine.specs.Interface.Step.{Act, Step, Accepted, Refused, Taken, NotTaken, WithinDay, OverDay}
 use Rattle.host_machine.specs.Interface.Step as step
-use Rattle.machine_laws.specs.Laws.TwoHosts.{cuts}
-use Rattle.machine_laws.proofs.Context.NotesBySubject.{slot_notes-append, cut_notes-append}
-use Rattle.machine_laws.proofs.Receive.SlotEffects.{handed_frames-append, egress_hands_none, egress_still}
-use Rattle.machine_laws.proofs.Runs.Walk.{sent_frames-append}
+use Rattle.host_laws.specs.Laws.TwoHosts.{cuts}
+use Rattle.host_laws.proofs.Context.NotesBySubject.{slot_notes-append, cut_notes-append}
+use Rattle.host_laws.proofs.Receive.SlotEffects.{handed_frames-append, egress_hands_none, egress_still}
+use Rattle.host_laws.proofs.Runs.Walk.{sent_frames-append}
 use Rattle.host_machine.specs.Context.Real.{IsRegular}
 use Rattle.host_laws.specs.Deliveries.{Delivery, Deliver, IsAccepted, NoFrame, to_index, udp_at, with_deliveries}
 use Rattle.host_laws.specs.Departures.{Departure, HasDeparted, cuts_of, entries, frames_of, from_index, without}
 use Rattle.host_laws.specs.Datagrams.{host_at_command, socket_after_run}
 use Rattle.host_laws.proofs.IdleParts.{base}
 use Rattle.host_laws.proofs.IngressDeliveries.{Gains, IsAt, gained_none, gained_on, ingress_gained, ingress_gains}
-use Rattle.machine_laws.proofs.Interface.PollCalls.{until}
-use Rattle.machine_laws.proofs.Runs.SentPieces.{maintains}
-use Rattle.machine_laws.proofs.Runs.TwoHosts.{cuts-append}
+use Rattle.host_laws.proofs.Interface.PollCalls.{until}
+use Rattle.host_laws.proofs.Runs.SentPieces.{maintains}
+use Rattle.host_laws.proofs.Runs.TwoHosts.{cuts-append}
 use Rattle.host_laws.specs.Senders.{CarryOnly, NoSocketWritesUdp}
 use Rattle.host_laws.proofs.Accounts.{AccountsFor, Follows, accounts_after, accounts_on, accounts_same, follows, ingress_accounts}
 use Rattle.host_laws.proofs.EgressDepartures.{LosesOver, all_left_as_before, departs_alike, lost_on}

@@ -4,14 +4,14 @@ use Rattle.std.proofs.Common.{Option, Some, None, Ok, Err, option_map, option_an
 use Rattle.net_base.specs.Device.{Event, sent_frames}
 use Rattle.ip_address.specs.declared.ip.IpAddress.{IpAddress}
 use Rattle.ip_address.specs.Ip.{is_unspecified}
-use Rattle.socket_base.specs.declared.endpoint.IpEndpoint.{IpEndpoint}
-use Rattle.socket_base.specs.Queue.{Queued, first_of, queue_after_pop}
-use Rattle.socket_base.specs.Source.{source_of}
+use Rattle.sockets.specs.declared.endpoint.IpEndpoint.{IpEndpoint}
+use Rattle.sockets.specs.Queue.{Queued, first_of, queue_after_pop}
+use Rattle.sockets.specs.Source.{source_of}
 use Rattle.sockets.specs.Kinds.{down_udp, offered_packet, UdpOffer}
 use Rattle.sockets.specs.Kinds as kinds
 use Rattle.sockets.specs.declared.socket.SocketOf.TheVariants.{Raw, Icmp, Udp, Tcp}
-use Rattle.transport_sockets.specs.Udp.{UdpSocket, without_first_to_send}
-use Rattle.transport_sockets.specs.Udp as udp
+use Rattle.sockets.specs.Udp.{UdpSocket, without_first_to_send}
+use Rattle.sockets.specs.Udp as udp
 use Rattle.host_machine.specs.declared.results.Turn.{Turn}
 use Rattle.host_machine.specs.Context.Note.{Note, cut_notes}
 use Rattle.host_machine.specs.Context.Host.{Host, Socket}
@@ -33,11 +33,11 @@ use Rattle.ip_wire.specs.Udp as udp_wire
 use Rattle.fragmentation.specs.Cuts.{Piece, HasForm, pieces_of}
 use Rattle.host_machine.specs.Packet.Frame.{payload_text}
 use Rattle.host_machine.specs.Context.Pieces.{piece_size, datagram_of}
-use Rattle.machine_laws.proofs.Discovery.NotedRequests.{sends_one}
+use Rattle.host_laws.proofs.Discovery.NotedRequests.{sends_one}
 use Rattle.host_machine.proofs.Receive.Pieces.{contains_in}
 use Rattle.host_machine.proofs.Receive.Parts.{size_positive}
 use Rattle.host_machine.proofs.Context.PendingParts.{pieces_are}
-use Rattle.machine_laws.proofs.Interface.Turns.{between_is}
+use Rattle.host_laws.proofs.Interface.Turns.{between_is}
 use Rattle.host_machine.specs.Context.Real.{IsPart, IsRegular}
 use Rattle.host_laws.specs.Senders.{CarryOnly}
 use Rattle.host_laws.proofs.Accounts.{nothing_carried, unsent_carry}
@@ -48,9 +48,9 @@ use Rattle.host_machine.specs.Sockets.Turns.{SocketTurn}
 use Rattle.host_machine.specs.Sockets.Offers.{packet_between, packet_from, socket_after_asking}
 use Rattle.host_machine.specs.Sockets.Offers as offers_rules
 use Rattle.host_machine.specs.Sockets.Turns as turns_rules
-use Rattle.machine_laws.specs.Laws.Order.{IsAmong, NoneOfNone, OneOf}
-use Rattle.machine_laws.specs.Laws.TwoHosts.{cuts}
-use Rattle.machine_laws.proofs.Receive.Malformed.{sent_frames-sends}
+use Rattle.host_laws.specs.Laws.Order.{IsAmong, NoneOfNone, OneOf}
+use Rattle.host_laws.specs.Laws.TwoHosts.{cuts}
+use Rattle.host_laws.proofs.Receive.Malformed.{sent_frames-sends}
 use Rattle.host_laws.specs.Departures.{Departure, Departs, Dropped, InOneFrame, InPieces, cuts_of}
 use Rattle.host_laws.specs.Departures.{frames_of, packet_of}
 use Rattle.host_laws.specs.Departures as spec

@@ -15,10 +15,10 @@ use Rattle.ip_wire.specs.declared.ipv4_packet.Ipv4Repr.{Ipv4Repr}
 use Rattle.ip_wire.specs.declared.ipv4_packet.Ipv4Fragment.{Ipv4Fragment}
 use Rattle.ip_wire.specs.Ipv4Packet.{whole}
 use Rattle.ip_wire.specs.Ipv4Packet as ipv4
-use Rattle.ipv6_wire.specs.declared.ipv6_packet.Ipv6Repr.{Ipv6Repr}
-use Rattle.ipv6_wire.specs.Ipv6Packet.{ipv6_in, end}
-use Rattle.ipv6_wire.specs.Ipv6Packet as ipv6
-use Rattle.ipv6_wire.specs.HopByHop.{hop_by_hop_in}
+use Rattle.ip_wire.specs.declared.ipv6_packet.Ipv6Repr.{Ipv6Repr}
+use Rattle.ip_wire.specs.Ipv6Packet.{ipv6_in, end}
+use Rattle.ip_wire.specs.Ipv6Packet as ipv6
+use Rattle.ip_wire.specs.HopByHop.{hop_by_hop_in}
 use Rattle.fragmentation.specs.Fragments.{Fragment}
 use Rattle.fragmentation.specs.Cuts.{Datagram, Piece, HasForm, pieces_of, piece_of, piece_header, piece_fragment}
 use Rattle.host_machine.specs.Context.Host.{Host}

@@ -3,19 +3,19 @@ use Rattle.std.proofs.Common.{◌≡◌, ◌⊎◌, inl, inr, ℕ, ◌+◌, Bool
 use Rattle.std.proofs.Common.{ap, Option, Some, None, arith}
 use Rattle.std.specs.Prelude.{cond, drop, is_none}
 use Rattle.std.specs.Option.{option_and_then, option_map}
-use Rattle.socket_base.specs.Queue.{first_of}
-use Rattle.socket_base.specs.Source.{source_of}
+use Rattle.sockets.specs.Queue.{first_of}
+use Rattle.sockets.specs.Source.{source_of}
 use Rattle.sockets.specs.declared.socket.SocketOf.TheVariants.{Raw, Icmp, Udp, Tcp}
 use Rattle.sockets.specs.Kinds.{RawOffer, IcmpOffer, UdpOffer, TcpOffer, socket_after_told}
-use Rattle.network_sockets.specs.Raw as raw
-use Rattle.network_sockets.specs.Icmp as icmp_socket
-use Rattle.transport_sockets.specs.Udp as udp
-use Rattle.transport_sockets.specs.Tcp as tcp
+use Rattle.sockets.specs.Raw as raw
+use Rattle.sockets.specs.Icmp as icmp_socket
+use Rattle.sockets.specs.Udp as udp
+use Rattle.sockets.specs.Tcp as tcp
 use Rattle.host_machine.specs.Context.Host.{Host, Socket}
 use Rattle.host_machine.specs.Context.Addresses.{source_for}
 use Rattle.host_machine.specs.Packet.Packet.{Packet}
 use Rattle.host_machine.specs.Sockets.Offers.{socket_after_asking, packet_from, packet_of}
-use Rattle.machine_laws.specs.Laws.Service.{waiting_in}
+use Rattle.host_laws.specs.Laws.Service.{waiting_in}
 
 -- the same number, or one less
 abbrev pub IsSameOrLess : ℕ → ℕ → Type 0

@@ -22,7 +22,7 @@ use Rattle.host_machine.specs.Context.Pieces.{datagram_of}
 use Rattle.host_machine.specs.Send.Dispatch as dispatch
 use Rattle.host_machine.specs.Send.Requests as requests
 use Rattle.host_machine.specs.Sockets.Offers.{packet_between}
-use Rattle.machine_laws.specs.Laws.TwoHosts.{cuts}
+use Rattle.host_laws.specs.Laws.TwoHosts.{cuts}
 use Rattle.host_machine.proofs.Send.Reached.{Reached, ByNeighbor, ByGroup, WithoutAddresses}
 use Rattle.host_machine.proofs.Send.Reached.{reached_of}
 

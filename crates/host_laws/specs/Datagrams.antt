@@ -9,10 +9,10 @@ use Rattle.host_machine.specs.Context.Note.{slot_notes, cut_notes}
 use Rattle.host_machine.specs.Context.Host.{Host, at, without_expired}
 use Rattle.host_machine.specs.Interface.Polling.{after_maintenance}
 use Rattle.host_machine.specs.Context.Real.{IsRegular}
-use Rattle.machine_laws.specs.Laws.Order.{IsAmong, IsBeginning}
+use Rattle.host_laws.specs.Laws.Order.{IsAmong, IsBeginning}
 use Rattle.host_machine.specs.Interface.Run.{Transition, Run, acts_in}
-use Rattle.machine_laws.specs.Laws.TwoHosts.{cuts}
-use Rattle.transport_sockets.specs.Udp.{UdpSocket}
+use Rattle.host_laws.specs.Laws.TwoHosts.{cuts}
+use Rattle.sockets.specs.Udp.{UdpSocket}
 use Rattle.host_laws.specs.Deliveries.{Delivery, Deliver, IsAccepted, to_index, udp_at, with_deliveries}
 use Rattle.host_laws.specs.Senders.{NoSocketWritesUdp, CarryOnly}
 use Rattle.host_laws.specs.Departures.{Departure, HasDeparted, cuts_of, entries, frames_of, from_index, without}

@@ -16,18 +16,18 @@ use Rattle.ip_wire.specs.Ethernet.{header_in}
 use Rattle.ip_wire.specs.IpPacket.{src_addr, dst_addr}
 use Rattle.ip_wire.specs.Ipv4Packet.{IsIpv4, ipv4_in, is_fragment}
 use Rattle.ip_wire.specs.Udp.{IsUdp, udp_in}
-use Rattle.ipv6_wire.specs.Ipv6Packet.{IsIpv6, ipv6_in}
-use Rattle.ipv6_wire.specs.HopByHop.{IsHopByHop, hop_by_hop_in, first_failure}
-use Rattle.ipv6_wire.specs.declared.hop_by_hop.Ipv6OptionFailureType.TheVariants.{Skip}
-use Rattle.socket_base.specs.declared.endpoint.IpEndpoint.{IpEndpoint}
+use Rattle.ip_wire.specs.Ipv6Packet.{IsIpv6, ipv6_in}
+use Rattle.ip_wire.specs.HopByHop.{IsHopByHop, hop_by_hop_in, first_failure}
+use Rattle.ip_wire.specs.declared.hop_by_hop.Ipv6OptionFailureType.TheVariants.{Skip}
+use Rattle.sockets.specs.declared.endpoint.IpEndpoint.{IpEndpoint}
 use Rattle.sockets.specs.Kinds.{down_udp}
-use Rattle.transport_sockets.specs.Udp.{UdpSocket, accepts, socket_after_delivery}
+use Rattle.sockets.specs.Udp.{UdpSocket, accepts, socket_after_delivery}
 use Rattle.fragmentation.specs.Reassembly.{SlotNote, Rebuild}
 use Rattle.socket_set.specs.SocketSet.{socket_at}
 use Rattle.host_machine.specs.Context.Host.{Host, SocketSet}
 use Rattle.host_machine.specs.Context.Addresses.{is_broadcast, is_for_host, may_be_source}
 use Rattle.host_machine.specs.Receive.Ethernet.{is_for, version_in}
-use Rattle.machine_laws.specs.Laws.Frames.{Carries}
+use Rattle.host_laws.specs.Laws.Frames.{Carries}
 use Rattle.host_machine.specs.Receive.Ipv4.{key_in, datagram_header}
 
 -- a datagram that was delivered to a socket: the socket's index, both endpoints, and the payload

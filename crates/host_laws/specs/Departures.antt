@@ -4,9 +4,9 @@ use Rattle.net_base.specs.Checksum.{ip_mtu_of}
 use Rattle.ip_address.specs.declared.ip.IpAddress.{IpAddress}
 use Rattle.ip_address.specs.declared.hardware.HardwareAddress.{HardwareAddress}
 use Rattle.ip_address.specs.Ip.{is_unspecified}
-use Rattle.socket_base.specs.declared.endpoint.IpEndpoint.{IpEndpoint}
-use Rattle.socket_base.specs.Source.{source_of}
-use Rattle.transport_sockets.specs.Udp.{UdpSocket, without_first_to_send}
+use Rattle.sockets.specs.declared.endpoint.IpEndpoint.{IpEndpoint}
+use Rattle.sockets.specs.Source.{source_of}
+use Rattle.sockets.specs.Udp.{UdpSocket, without_first_to_send}
 use Rattle.fragmentation.specs.Cuts.{Datagram, Piece, pieces_of}
 use Rattle.host_machine.specs.Context.Host.{Host}
 use Rattle.host_machine.specs.Context.Addresses.{source_for}

@@ -6,11 +6,11 @@ use Rattle.fragmentation.specs.Slots.{slot_of}
 use Rattle.fragmentation.specs.Reassembly.{SlotNote}
 use Rattle.net_base.specs.Device.{sent_frames}
 use Rattle.host_machine.specs.Context.Host.{Host}
-use Rattle.machine_laws.specs.Laws.Order.{IsAmong, IsBeginning}
+use Rattle.host_laws.specs.Laws.Order.{IsAmong, IsBeginning}
 use Rattle.host_machine.specs.Context.Real.{IsReal, IsRegular}
 use Rattle.host_machine.specs.Interface.Run.{Transition, Run}
-use Rattle.machine_laws.specs.Laws.TwoHosts.{HaveOwnKeys, WereSent, cuts_in, key_of_cut}
-use Rattle.transport_sockets.specs.Udp.{UdpSocket}
+use Rattle.host_laws.specs.Laws.TwoHosts.{HaveOwnKeys, WereSent, cuts_in, key_of_cut}
+use Rattle.sockets.specs.Udp.{UdpSocket}
 use Rattle.host_laws.specs.Deliveries.{Delivery, Deliver, NoFrame, OneGets}
 use Rattle.host_laws.specs.Deliveries.{NoSocketGets, BringsUdp, AtOnce, InFragments, udp_at}
 use Rattle.host_laws.specs.Departures.{Departure, Dropped, HasDeparted, departs_from, entries, frames_of, from_index}

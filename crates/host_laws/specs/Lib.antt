@@ -1,3 +1,4 @@
+pub mod Laws
 pub mod Deliveries
 pub mod Departures
 pub mod Senders

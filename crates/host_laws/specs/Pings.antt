@@ -10,9 +10,9 @@ use Rattle.ip_address.specs.declared.ipv4.Ipv4Address.{Ipv4Address}
 use Rattle.control_wire.specs.declared.icmpv4.Icmpv4Repr.{Icmpv4Repr}
 use Rattle.control_wire.specs.declared.icmpv4.Icmpv4Repr.TheVariants.{EchoRequest, EchoReply}
 use Rattle.control_wire.specs.Icmpv4.{icmpv4_in}
-use Rattle.socket_base.specs.Queue.{is_room}
-use Rattle.network_sockets.specs.Icmp.{IcmpSocket}
-use Rattle.network_sockets.specs.declared.icmp.Endpoint.TheVariants.{Ident}
+use Rattle.sockets.specs.Queue.{is_room}
+use Rattle.sockets.specs.Icmp.{IcmpSocket}
+use Rattle.sockets.specs.declared.icmp.Endpoint.TheVariants.{Ident}
 use Rattle.sockets.specs.declared.socket.SocketOf.TheVariants.{Icmp}
 use Rattle.host_machine.specs.declared.results.PollResult.{PollResult}
 use Rattle.host_machine.specs.Context.Note.{Note}
@@ -22,7 +22,7 @@ use Rattle.host_machine.specs.Packet.Packet.{PacketV4, Icmpv4}
 use Rattle.host_machine.specs.Packet.Packet as packet
 use Rattle.host_machine.specs.Packet.Frame.{ip_frame}
 use Rattle.host_machine.specs.Interface.Egress.{Egress}
-use Rattle.machine_laws.specs.Laws.Service.{HasFirstEcho, IsOfLink, IsReached, MayBeAsked, Takes, all_granted}
+use Rattle.host_laws.specs.Laws.Service.{HasFirstEcho, IsOfLink, IsReached, MayBeAsked, Takes, all_granted}
 
 -- a host, as another one on its Ethernet knows it
 pub record End : Type 0 where

@@ -2,12 +2,12 @@
 -- received, the reply is in the queue of a socket with the identifier.
 use Rattle.std.specs.Prelude.{◌≡◌, ℕ, ℤ, true, List, [], ◌∷◌, slice_get, Some}
 use Rattle.net_base.specs.Device.{handed_frames, sent_frames}
-use Rattle.network_sockets.specs.Icmp.{IcmpSocket}
+use Rattle.sockets.specs.Icmp.{IcmpSocket}
 use Rattle.host_machine.specs.declared.command.Command.TheVariants.{PollEgress, PollIngressSingle}
 use Rattle.host_machine.specs.Context.Host.{Host, at}
 use Rattle.host_machine.specs.Interface.Run.{Transition}
-use Rattle.machine_laws.specs.Laws.Service.{HasFirstEcho, MayBeAsked, all_granted}
-use Rattle.machine_laws.specs.Laws.Ran.{Laws}
+use Rattle.host_laws.specs.Laws.Service.{HasFirstEcho, MayBeAsked, all_granted}
+use Rattle.host_laws.specs.Laws.Ran.{Laws}
 use Rattle.host_laws.specs.Pings.{AwaitsReply, Call, ComesBack, Echo, End, FitsBoth, Knows, frame_to, request_packet}
 
 abbrev pub call_at : ℤ → Transition → Call

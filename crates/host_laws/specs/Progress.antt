@@ -5,10 +5,10 @@ use Rattle.std.specs.Prelude.{slice_get, Option, Some, None}
 use Rattle.std.specs.List.{AllByRecursion}
 use Rattle.net_base.specs.Checksum.{ip_mtu_of}
 use Rattle.net_base.specs.Device.{Event, handed_frames}
-use Rattle.group_table.specs.declared.groups.Group.{Group}
-use Rattle.group_table.specs.declared.report.IgmpReportState.{IgmpReportState}
-use Rattle.group_table.specs.declared.report.IgmpReportState.TheVariants as igmp
-use Rattle.group_table.specs.Groups.{ipv4_groups}
+use Rattle.iface_tables.specs.declared.groups.Group.{Group}
+use Rattle.iface_tables.specs.declared.report.IgmpReportState.{IgmpReportState}
+use Rattle.iface_tables.specs.declared.report.IgmpReportState.TheVariants as igmp
+use Rattle.iface_tables.specs.Groups.{ipv4_groups}
 use Rattle.host_machine.specs.declared.command.Command.TheVariants.{Poll}
 use Rattle.host_machine.specs.declared.results.PollResult.{PollResult}
 use Rattle.host_machine.specs.Context.Note.{Note}
@@ -17,7 +17,7 @@ use Rattle.host_machine.specs.Interface.Egress.{Egress}
 use Rattle.host_machine.specs.Interface.Due.{Due}
 use Rattle.host_machine.specs.Interface.Polling.{Polls}
 use Rattle.host_machine.specs.Interface.Run.{Transition, Run}
-use Rattle.machine_laws.specs.Laws.Service.{all_granted, waiting_in}
+use Rattle.host_laws.specs.Laws.Service.{all_granted, waiting_in}
 
 -- the number of packets that the entry of a socket set has to send
 abbrev pub queued_in : Storage → ℕ

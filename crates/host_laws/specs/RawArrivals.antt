@@ -9,17 +9,17 @@ use Rattle.ip_wire.specs.declared.ip_packet.IpRepr.{IpRepr}
 use Rattle.ip_wire.specs.declared.ip_packet.IpRepr.TheVariants as repr
 use Rattle.ip_wire.specs.IpPacket.{next_header, version_of}
 use Rattle.ip_wire.specs.Ipv4Packet.{IsIpv4, ipv4_in, is_fragment}
-use Rattle.ipv6_wire.specs.Ipv6Packet.{IsIpv6, ipv6_in}
-use Rattle.ipv6_wire.specs.HopByHop.{IsHopByHop, hop_by_hop_in, first_failure}
-use Rattle.ipv6_wire.specs.declared.hop_by_hop.Ipv6OptionFailureType.TheVariants.{Skip}
-use Rattle.network_sockets.specs.Raw.{RawSocket, accepts, socket_after_delivery}
+use Rattle.ip_wire.specs.Ipv6Packet.{IsIpv6, ipv6_in}
+use Rattle.ip_wire.specs.HopByHop.{IsHopByHop, hop_by_hop_in, first_failure}
+use Rattle.ip_wire.specs.declared.hop_by_hop.Ipv6OptionFailureType.TheVariants.{Skip}
+use Rattle.sockets.specs.Raw.{RawSocket, accepts, socket_after_delivery}
 use Rattle.sockets.specs.Kinds.{down_raw}
 use Rattle.socket_set.specs.SocketSet.{socket_at}
 use Rattle.fragmentation.specs.Reassembly.{SlotNote, Rebuild}
 use Rattle.host_machine.specs.Context.Host.{Host, SocketSet}
 use Rattle.host_machine.specs.Context.Addresses.{is_for_host, may_be_source}
 use Rattle.host_machine.specs.Receive.Ipv4.{key_in, datagram_header}
-use Rattle.machine_laws.specs.Laws.Frames.{Carries}
+use Rattle.host_laws.specs.Laws.Frames.{Carries}
 use Rattle.host_laws.specs.Deliveries.{CarriesIpv6}
 
 -- the raw socket at an index, if there is one

@@ -14,10 +14,10 @@ use Rattle.ip_address.specs.declared.protocol.IpVersion.TheVariants.{Ipv4, Ipv6}
 use Rattle.ip_address.specs.Protocol.{number_of, protocol_of}
 use Rattle.ip_wire.specs.IpPacket.{next_header, src_addr}
 use Rattle.ip_wire.specs.Ipv4Packet.{IsHeader, is_fragment}
-use Rattle.ipv6_wire.specs.Ipv6Packet.{ipv6_in}
-use Rattle.ipv6_wire.specs.HopByHop.{hop_by_hop_in}
-use Rattle.network_sockets.specs.Raw.{RawSocket, packet_to_send}
-use Rattle.transport_sockets.specs.Tcp.{TcpSocket}
+use Rattle.ip_wire.specs.Ipv6Packet.{ipv6_in}
+use Rattle.ip_wire.specs.HopByHop.{hop_by_hop_in}
+use Rattle.sockets.specs.Raw.{RawSocket, packet_to_send}
+use Rattle.sockets.specs.Tcp.{TcpSocket}
 use Rattle.sockets.specs.Kinds.{down_tcp}
 use Rattle.socket_set.specs.SocketSet.{socket_at}
 use Rattle.fragmentation.specs.Cuts.{Piece, piece_header, piece_fragment}

@@ -5,7 +5,7 @@ use Rattle.net_base.specs.Device.{handed_frames}
 use Rattle.net_base.specs.declared.phy.Medium.{Medium}
 use Rattle.ip_address.specs.declared.protocol.IpVersion.TheVariants.{Ipv4, Ipv6}
 use Rattle.ip_address.specs.Protocol.{number_of}
-use Rattle.network_sockets.specs.Raw.{RawSocket}
+use Rattle.sockets.specs.Raw.{RawSocket}
 use Rattle.host_machine.specs.Context.Host.{Host}
 use Rattle.host_machine.specs.Context.Real.{IsRegular}
 use Rattle.host_machine.specs.Interface.Run.{Transition, Run}

@@ -1,8 +1,8 @@
 -- A worked example: two datagrams that a socket has queued are sent in two polls, and then nothing is due.
 use Rattle.std.specs.Prelude.{◌≡◌, ℕ, pos, true, false, List, [], ◌∷◌, Some, None}
 use Rattle.net_base.specs.Device.{Received, Nothing, Asked, Sent}
-use Rattle.socket_base.specs.declared.endpoint.IpEndpoint.{IpEndpoint}
-use Rattle.transport_sockets.specs.Udp.{UdpSocket}
+use Rattle.sockets.specs.declared.endpoint.IpEndpoint.{IpEndpoint}
+use Rattle.sockets.specs.Udp.{UdpSocket}
 use Rattle.sockets.specs.declared.socket.SocketOf.TheVariants.{Udp}
 use Rattle.host_machine.specs.declared.results.PollResult.TheVariants as poll
 use Rattle.host_machine.specs.Context.Note.{OfIdentification, Identify}

@@ -1,7 +1,9 @@
-//! Laws that follow from runs of the host machine, each as the contract of an empty function.
+//! The laws of a host: what follows from the definitions of its machine alone.
 #![tactic(auto)]
 
 pub mod datagrams;
+pub mod laws;
 pub mod pings;
 pub mod progress;
 pub mod raw_packets;
+pub mod restraint;

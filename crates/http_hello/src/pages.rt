@@ -5,8 +5,8 @@ use line_host::connections::Connections;
 use line_host::limits::Limits;
 use std::alloc::{AllocError, Global};
 use tcp_machine::state::State;
-use tcp_streams::calls::Handle;
-use tcp_streams::host::TcpHost;
+use tcp_host::calls::Handle;
+use tcp_host::host::TcpHost;
 
 /// The port of the service.
 const PORT: u16 = 80;

@@ -1,9 +1,9 @@
 -- A connection that a program opens, and the code of the call.
 use Rattle.std.proofs.Common.{◌≡◌, ℕ, ℤ, Option, Some, None, Result, Ok, Err, refl, sym, subst}
-use Rattle.socket_base.specs.declared.endpoint.IpEndpoint.{IpEndpoint}
-use Rattle.socket_base.specs.declared.endpoint.IpListenEndpoint.{IpListenEndpoint}
-use Rattle.tcp_streams.specs.Host.{IsFreePlace}
-use Rattle.tcp_streams.specs.declared.calls.Handle.{Handle}
+use Rattle.sockets.specs.declared.endpoint.IpEndpoint.{IpEndpoint}
+use Rattle.sockets.specs.declared.endpoint.IpListenEndpoint.{IpListenEndpoint}
+use Rattle.tcp_host.specs.TcpStreams.Host.{IsFreePlace}
+use Rattle.tcp_host.specs.declared.calls.Handle.{Handle}
 use Rattle.iface_host.specs.declared.host.Host.{Host}
 use Rattle.iface_host.specs.declared.refusal.Refusal.{Refusal}
 use Rattle.iface_streams.specs.Connect.{Connects, IsInUse, connect_refusal}

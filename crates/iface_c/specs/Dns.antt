@@ -3,13 +3,13 @@ use Rattle.std.specs.Prelude.{ℕ, ℤ, ◌≡◌, ◌≢◌, ◌==◌, is_some,
 use Rattle.std.specs.Prelude.{Ok, Option, Some, None, IsSomeAnd, if◌then◌else◌}
 use Rattle.std.specs.Option.{option_and_then, option_map}
 use Rattle.ip_address.specs.declared.ip.IpAddress.{IpAddress}
-use Rattle.dns_wire.specs.declared.message.DnsType.{DnsType}
-use Rattle.dns_wire.specs.declared.message.DnsType.TheVariants.{A, Aaaa}
+use Rattle.dns_client.specs.declared.message.DnsType.{DnsType}
+use Rattle.dns_client.specs.declared.message.DnsType.TheVariants.{A, Aaaa}
 use Rattle.dns_client.specs.declared.query.DnsFailure.{DnsFailure}
 use Rattle.dns_client.specs.declared.query.DnsFailure.TheVariants.{NoSuchName, ServerFailure, Truncated, NoAddress, TooManyAliases, TimedOut}
 use Rattle.dns_client.specs.declared.query.DnsResult.{DnsResult}
 use Rattle.dns_client.specs.declared.query.DnsResult.TheVariants.{Pending, Addresses, Failed}
-use Rattle.dns_resolver.specs.Resolver.{at, result_at}
+use Rattle.dns_client.specs.DnsResolver.Resolver.{at, result_at}
 use Rattle.tcp_host.specs.declared.sip_hash.SipKey.{SipKey}
 use Rattle.iface_host.specs.declared.host.Host.{Host}
 use Rattle.iface_host.specs.declared.refusal.Refusal.{Refusal}

@@ -1,6 +1,6 @@
 -- The guard in front of a host, as C sets it and what C reads of it.
 use Rattle.std.specs.Prelude.{ℕ, ℤ, ◌≡◌, List, Option, None, Some}
-use Rattle.token_bucket.specs.declared.bucket.Bucket.{Bucket}
+use Rattle.net_base.specs.declared.bucket.Bucket.{Bucket}
 use Rattle.guard.specs.declared.watch.Conflict.{Conflict}
 use Rattle.guard.specs.declared.watch.Watch.{Watch}
 use Rattle.guard.specs.Pins.{no_pins}

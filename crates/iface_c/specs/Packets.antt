@@ -1,7 +1,7 @@
 -- What C reads of packets that came, and of the next instant.
 use Rattle.std.specs.Prelude.{ℕ, ℤ, ◌≡◌, ◌-◌, ◌^◌, pos, List, Option, Some, None}
 use Rattle.ip_address.specs.declared.ip.IpAddress.{IpAddress}
-use Rattle.socket_base.specs.declared.endpoint.IpEndpoint.{IpEndpoint}
+use Rattle.sockets.specs.declared.endpoint.IpEndpoint.{IpEndpoint}
 use Rattle.iface_host.specs.declared.host.Host.{Host}
 use Rattle.iface_host.specs.Frames.{IsDue}
 use Rattle.iface_host.specs.Sockets as sockets

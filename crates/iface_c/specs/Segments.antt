@@ -4,9 +4,9 @@ use Rattle.std.specs.Option.{option_and_then, option_map}
 use Rattle.ip_wire.specs.declared.tcp.TcpControl.{TcpControl}
 use Rattle.ip_wire.specs.declared.tcp.TcpControl.TheVariants as control
 use Rattle.ip_wire.specs.declared.tcp.TcpSeqNumber.{TcpSeqNumber}
-use Rattle.socket_base.specs.declared.endpoint.IpEndpoint.{IpEndpoint}
-use Rattle.socket_base.specs.declared.endpoint.IpListenEndpoint.{IpListenEndpoint}
-use Rattle.transport_sockets.specs.declared.tcp.Segment.{Segment}
+use Rattle.sockets.specs.declared.endpoint.IpEndpoint.{IpEndpoint}
+use Rattle.sockets.specs.declared.endpoint.IpListenEndpoint.{IpListenEndpoint}
+use Rattle.sockets.specs.declared.tcp.Segment.{Segment}
 use Rattle.iface_host.specs.Segments as segments
 use Rattle.iface_host.specs.declared.host.Host.{Host}
 use Rattle.iface_c.specs.Addresses.{end_in, listen_end_in, written_end}

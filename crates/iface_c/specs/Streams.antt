@@ -1,16 +1,16 @@
 -- Connections of TCP: what their calls do, and what C writes and reads of them.
 use Rattle.std.specs.Prelude.{ℕ, ℤ, ◌≡◌, ◌≢◌, ◌==◌, ◌^◌, ◌-◌, pos, not, List, [], ◌∷◌, replicate, slice_index, Option, Some, None, if◌then◌else◌}
-use Rattle.socket_base.specs.declared.endpoint.IpEndpoint.{IpEndpoint}
-use Rattle.socket_base.specs.declared.endpoint.IpListenEndpoint.{IpListenEndpoint}
+use Rattle.sockets.specs.declared.endpoint.IpEndpoint.{IpEndpoint}
+use Rattle.sockets.specs.declared.endpoint.IpListenEndpoint.{IpListenEndpoint}
 use Rattle.tcp_host.specs.declared.iss.Endpoints.{Endpoints}
 use Rattle.tcp_machine.specs.declared.settings.Settings.{Settings}
 use Rattle.tcp_machine.specs.declared.state.State.{State}
 use Rattle.tcp_machine.specs.declared.state.State.TheVariants as state
 use Rattle.tcp_machine.specs.declared.timers.Ending.{Ending}
 use Rattle.tcp_machine.specs.declared.timers.Ending.TheVariants as ending
-use Rattle.tcp_streams.specs.Handles.{accepting}
-use Rattle.tcp_streams.specs.Host.{IsFreePlace}
-use Rattle.tcp_streams.specs.declared.calls.Handle.{Handle}
+use Rattle.tcp_host.specs.TcpStreams.Handles.{accepting}
+use Rattle.tcp_host.specs.TcpStreams.Host.{IsFreePlace}
+use Rattle.tcp_host.specs.declared.calls.Handle.{Handle}
 use Rattle.iface_host.specs.declared.host.Host.{Host}
 use Rattle.iface_host.specs.declared.refusal.Refusal.{Refusal}
 use Rattle.iface_streams.specs.Calls as calls

@@ -17,8 +17,8 @@ use crate::status::{
 };
 use arrayvec::ArrayVec;
 use dns_client::{DnsFailure, DnsResult};
-use dns_resolver::QueryHandle;
-use dns_wire::DnsType;
+use dns_client::dns_resolver::QueryHandle;
+use dns_client::DnsType;
 use iface_dns::{Dns, StartRefusal};
 use ip_wire::IpAddress;
 use std::alloc::Global;

@@ -15,7 +15,7 @@ use crate::status::{BAD_ARGUMENT, NO_HOST, NOT_THERE, OK, code};
 use guard::{Answers, Counts, Defence, Delays, Guard, Pins, Watch};
 use ip_wire::EthernetAddress;
 use std::alloc::Global;
-use token_bucket::bucket::Bucket;
+use net_base::bucket::Bucket;
 
 /// A rate: one in each interval, and so many at once.
 #[repr(C)]

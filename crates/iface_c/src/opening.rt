@@ -9,7 +9,7 @@ ghost use Rattle.iface_host.specs.Refusals.{close_refusal};
 ghost use Rattle.iface_host.specs.Sockets.{Closes, Opens, icmp, raw, udp};
 ghost use Rattle.iface_host.specs.TableRefusals.{opening_refusal, udp_opening_refusal};
 ghost use Rattle.ip_address.specs.Protocol.{protocol_of};
-ghost use Rattle.network_sockets.specs.declared.icmp.Endpoint.TheVariants as endpoint;
+ghost use Rattle.sockets.specs.declared.icmp.Endpoint.TheVariants as endpoint;
 
 use crate::addresses::IfaceEndpoint;
 use crate::handle::Iface;

@@ -18,7 +18,7 @@ use iface_streams::{ConnectRefusal, StreamSettings, Streams};
 use std::alloc::Global;
 use tcp_host::sip_hash::SipKey;
 use tcp_machine::settings::Settings;
-use tcp_streams::calls::Handle;
+use tcp_host::calls::Handle;
 
 /// How connections are to be made.
 #[repr(C)]

@@ -2,8 +2,8 @@
 use Rattle.std.proofs.Common.{◌≡◌, ℕ, List, refl}
 use Rattle.ip_address.specs.declared.cidr.IpCidr.{IpCidr}
 use Rattle.iface_tables.specs.declared.route.Route.{Route}
-use Rattle.slaac.specs.Slaac.{slaac_after_update}
-use Rattle.slaac.specs.Sync.{synced_addrs, synced_routes}
+use Rattle.iface_tables.specs.Slaac.{slaac_after_update}
+use Rattle.iface_tables.specs.Sync.{synced_addrs, synced_routes}
 use Rattle.host_machine.specs.Context.Host.{Host}
 use Rattle.host_machine.specs.Context.Settings.{after_address_change}
 use Rattle.host_machine.specs.Context.Autoconfiguration.{with_slaac_applied}

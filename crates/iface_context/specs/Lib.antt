@@ -1,3 +1,4 @@
+pub mod PacketValues
 pub mod Multicast
 pub mod Pieces
 pub mod Refines

@@ -1,7 +1,7 @@
 -- The interval between reports of groups, and which report is next.
 use Rattle.std.specs.Prelude.{ℕ}
-use Rattle.group_table.specs.declared.report.IgmpReportState.{IgmpReportState}
-use Rattle.group_table.specs.declared.report.IgmpReportState.TheVariants.{Inactive, ToGeneralQuery, ToSpecificQuery}
+use Rattle.iface_tables.specs.declared.report.IgmpReportState.{IgmpReportState}
+use Rattle.iface_tables.specs.declared.report.IgmpReportState.TheVariants.{Inactive, ToGeneralQuery, ToSpecificQuery}
 
 -- the interval between two reports, in microseconds; after the report of a specific query there is none
 abbrev pub interval_of : IgmpReportState → ℕ

@@ -5,16 +5,16 @@ ghost use Rattle.host_machine.specs.Context.Settings.{after_address_change};
 ghost use Rattle.host_machine.specs.Context.Autoconfiguration.{with_slaac_applied, after_sync};
 ghost use Rattle.fragmentation.specs.Slots.{Slots};
 ghost use Rattle.iface_context.specs.Stands.{host_in, host_of};
-ghost use Rattle.slaac.specs.Slaac as learnt;
-ghost use Rattle.slaac.specs.Slaac.{IsLifetime, slaac_after_message, slaac_after_update};
+ghost use Rattle.iface_tables.specs.Slaac as learnt;
+ghost use Rattle.iface_tables.specs.Slaac.{IsLifetime, slaac_after_message, slaac_after_update};
 
 use crate::context::Context;
 use crate::settings::follow_addrs;
-use icmpv6_wire::NdiscPrefixInformation;
+use control_wire::NdiscPrefixInformation;
 use ip_wire::Ipv6Address;
 use net_base::time::{Duration, Instant};
-use slaac::Slaac;
-use slaac::sync::{sync_addrs, sync_routes};
+use iface_tables::Slaac;
+use iface_tables::sync::{sync_addrs, sync_routes};
 
 impl Context {
     ghost use Rattle.std.specs.Prelude.{◌≡◌};

@@ -10,10 +10,10 @@ ghost use Rattle.host_machine.specs.Context.Addresses as addresses;
 ghost use Rattle.host_machine.specs.Context.Real.{IsPart, are_parts-prop};
 
 use crate::membership::Membership;
-use address_selection::{get_source_address_ipv6, ipv6_addr};
+use ip_address::address_selection::{get_source_address_ipv6, ipv6_addr};
 use arrayvec::ArrayVec;
 use fragmentation::Fragmenter;
-use iface_addresses::addresses::{
+use crate::addresses::{
     ends_a_network, has_solicited_node, ipv4_addr, is_assigned, is_loopback, link_local_addr,
     on_link_addr,
 };
@@ -23,8 +23,8 @@ use ip_wire::{HardwareAddress, IpAddress, IpCidr, Ipv4Address, Ipv6Address};
 use net_base::phy::{ChecksumCapabilities, DeviceCapabilities};
 use net_base::rand::Rand;
 use net_base::time::{Duration, Instant};
-use slaac::Slaac;
-use slaac::sync::MAX_ADDR_COUNT;
+use iface_tables::Slaac;
+use iface_tables::sync::MAX_ADDR_COUNT;
 use sockets::SocketContext;
 
 /// The maximum number of addresses of a list that the crate `interface` hands to a function, smoltcp's.
@@ -330,7 +330,7 @@ impl Context {
 
 impl Context {
     ghost use Rattle.std.specs.Prelude.{◌≡◌};
-    ghost use Rattle.address_selection.specs.Ipv6 as selection;
+    ghost use Rattle.ip_address.specs.AddressSelection.Ipv6 as selection;
     ghost use Rattle.iface_context.specs.Stands.{host_of};
 
     /// The first IPv6 address of the interface, if any.

@@ -1,17 +1,17 @@
 //! Multicast membership of an interface, and the solicited-node groups of its addresses (RFC 4861 7.2.1).
 ghost use Rattle.std.specs.Prelude.{◌≡◌, ◌<◌, ◌≤◌, [], filter, length, map};
-ghost use Rattle.group_table.specs.declared.groups.Group.{Group};
-ghost use Rattle.group_table.specs.declared.report.IgmpReportState.TheVariants as igmp;
-ghost use Rattle.group_table.specs.declared.report.MldReportState.TheVariants as mld;
+ghost use Rattle.iface_tables.specs.declared.groups.Group.{Group};
+ghost use Rattle.iface_tables.specs.declared.report.IgmpReportState.TheVariants as igmp;
+ghost use Rattle.iface_tables.specs.declared.report.MldReportState.TheVariants as mld;
 ghost use Rattle.host_machine.specs.Context.Membership as spec;
 ghost use Rattle.iface_context.specs.Multicast.{interval_of};
 
 use arrayvec::ArrayVec;
-use group_table::{
+use iface_tables::{
     Group, Groups, IFACE_MAX_MULTICAST_GROUP_COUNT, IgmpReportState, MAX_GROUP_COUNT,
     MldReportState,
 };
-use iface_addresses::addresses::has_solicited_node;
+use crate::addresses::has_solicited_node;
 use ip_wire::{HardwareAddress, IpAddress, IpCidr, Ipv6Address};
 
 /// The groups of an interface, for how many there is room, and the reports that answer queries of routers.

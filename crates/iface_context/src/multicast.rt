@@ -1,15 +1,15 @@
 //! What calls of an interface change in its groups, and in the reports about them.
 ghost use Rattle.std.specs.Prelude.{◌≡◌, ◌+◌, ◌<◌, Some, OnErr};
-ghost use Rattle.group_table.specs.declared.groups.GroupState.TheVariants.{Joining, Leaving};
-ghost use Rattle.group_table.specs.Groups.{count_in, done_or_full, first_in, join_reported};
-ghost use Rattle.group_table.specs.Groups.{groups_after_join, leave_reported, groups_after_leave};
+ghost use Rattle.iface_tables.specs.declared.groups.GroupState.TheVariants.{Joining, Leaving};
+ghost use Rattle.iface_tables.specs.Groups.{count_in, done_or_full, first_in, join_reported};
+ghost use Rattle.iface_tables.specs.Groups.{groups_after_join, leave_reported, groups_after_leave};
 ghost use Rattle.host_machine.specs.Context.Host.{SocketSet, no_sockets, with_groups};
 ghost use Rattle.host_machine.specs.Context.Host.{with_igmp_report, with_mld_report};
 ghost use Rattle.iface_context.specs.Multicast.{interval_of};
 ghost use Rattle.iface_context.specs.Stands.{host_of};
 
 use crate::context::Context;
-use group_table::{GroupTableFull, Groups, IgmpReportState, MldReportState};
+use iface_tables::{GroupTableFull, Groups, IgmpReportState, MldReportState};
 use ip_wire::IpAddress;
 
 impl Context {

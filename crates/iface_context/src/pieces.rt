@@ -8,14 +8,14 @@ ghost use Rattle.host_machine.specs.Context.Host.{SocketSet, no_sockets, with_le
 ghost use Rattle.host_machine.specs.Packet.Packet.{HasPorts, IsWritablePayload};
 ghost use Rattle.host_machine.specs.Packet.Packet as value;
 ghost use Rattle.host_machine.specs.Context.Pieces as spec;
-ghost use Rattle.iface_packet.specs.PacketValues as value_of;
+ghost use Rattle.iface_context.specs.PacketValues as value_of;
 ghost use Rattle.iface_context.specs.Refines.{RefinesBuilding};
 ghost use Rattle.iface_context.specs.Pieces.{EmitsNextPiece};
 ghost use Rattle.iface_context.specs.Stands.{host_of};
 
 use crate::context::Context;
-use iface_packet::packet::{PacketV4, emit_link_header};
-use iface_packet::payload::{IpPayload, Payload};
+use crate::packet::{PacketV4, emit_link_header};
+use crate::payload::{IpPayload, Payload};
 use ip_wire::emit::FrameBuffer;
 use ip_wire::ipv4_packet::HEADER_LEN;
 use ip_wire::{EthernetProtocol, HardwareAddress, IpRepr};

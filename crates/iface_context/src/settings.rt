@@ -5,12 +5,12 @@ ghost use Rattle.net_base.specs.Checksum.{ip_mtu_of};
 ghost use Rattle.ip_address.specs.Hardware.{IsOf, medium_of};
 ghost use Rattle.host_machine.specs.Context.Host.{SocketSet, at, no_sockets, with_neighbor_room, with_route_room};
 ghost use Rattle.host_machine.specs.Context.Settings.{after_address_change, with_capacities};
-ghost use Rattle.group_table.specs.declared.report.IgmpReportState.TheVariants as igmp;
-ghost use Rattle.group_table.specs.declared.report.MldReportState.TheVariants as mld;
+ghost use Rattle.iface_tables.specs.declared.report.IgmpReportState.TheVariants as igmp;
+ghost use Rattle.iface_tables.specs.declared.report.MldReportState.TheVariants as mld;
 ghost use Rattle.iface_tables.specs.Neighbor.{first_neighbors, room_over};
 ghost use Rattle.iface_tables.specs.Route.{route_room_over};
 ghost use Rattle.fragmentation.specs.Slots.{free_slots};
-ghost use Rattle.slaac.specs.Slaac.{initial_state};
+ghost use Rattle.iface_tables.specs.Slaac.{initial_state};
 ghost use Rattle.iface_context.specs.Stands.{host_of, with_routes};
 ghost use Rattle.std.specs.Borrow.{sem, Lends};
 ghost use Rattle.iface_tables.specs.contracts.route.Routes.{the_row as routes_row};
@@ -20,7 +20,7 @@ use crate::context::Context;
 use crate::membership::{Membership, update_solicited_node_groups};
 use arrayvec::ArrayVec;
 use fragmentation::Fragmenter;
-use group_table::MAX_GROUP_COUNT;
+use iface_tables::MAX_GROUP_COUNT;
 use host_machine::Capacities;
 use iface_tables::neighbor::{Cache, Hints, Neighbor};
 use iface_tables::route::{Route, Routes};
@@ -29,11 +29,11 @@ use ip_wire::{HardwareAddress, IpAddress, IpCidr};
 use net_base::phy::DeviceCapabilities;
 use net_base::rand::Rand;
 use net_base::time::{Duration, Instant};
-use slaac::Slaac;
-use slaac::sync::MAX_ADDR_COUNT;
+use iface_tables::Slaac;
+use iface_tables::sync::MAX_ADDR_COUNT;
 
 /// The context of a new interface over a device with these capabilities: no address, route, neighbour or group, and
-/// nothing learnt from routers. `slaac` says whether it takes addresses from routers.
+/// nothing learnt from routers. `iface_tables` says whether it takes addresses from routers.
 pub fn new(
     capabilities: DeviceCapabilities,
     hardware_addr: HardwareAddress,

@@ -2,10 +2,10 @@
 use Rattle.std.proofs.Common.{◌≡◌, ℕ, Bool, true, false, List, length, Option, Some, None, refl, ap, ◌∙◌}
 use Rattle.std.specs.Prelude.{is_some, nat_lt, not, if◌then◌else◌}
 use Rattle.std.specs.Option.{option_and_then, option_map}
-use Rattle.socket_base.specs.Queue.{first_of}
+use Rattle.sockets.specs.Queue.{first_of}
 use Rattle.sockets.specs.Kinds.{down_udp}
 use Rattle.sockets.specs.declared.socket.SocketOf.TheVariants.{Raw, Icmp, Udp, Tcp}
-use Rattle.transport_sockets.specs.Udp.{UdpSocket}
+use Rattle.sockets.specs.Udp.{UdpSocket}
 use Rattle.iface_host.specs.Queues.{fills_of}
 use Rattle.iface_host.specs.Refusals.{of_packet, of_socket}
 use Rattle.iface_host.specs.Sockets.{Socket}

@@ -2,7 +2,7 @@
 use Rattle.std.specs.Prelude.{ℕ, ℤ, ◌≡◌, pos, min, List, Option, Some, None}
 use Rattle.std.specs.Option.{option_map}
 use Rattle.ip_address.specs.declared.ethernet_address.EthernetAddress.{EthernetAddress}
-use Rattle.socket_base.specs.declared.endpoint.IpListenEndpoint.{IpListenEndpoint}
+use Rattle.sockets.specs.declared.endpoint.IpListenEndpoint.{IpListenEndpoint}
 use Rattle.dhcp_client.specs.Client as client
 use Rattle.iface_host.specs.Properties.{hardware_of}
 use Rattle.iface_host.specs.Refusals.{close_refusal}

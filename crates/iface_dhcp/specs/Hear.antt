@@ -1,8 +1,8 @@
 -- What the client makes of the datagrams that came to its socket.
 use Rattle.std.specs.Prelude.{ℕ, zero, suc, ◌≡◌, ◌≢◌, List, take, None}
-use Rattle.socket_base.specs.declared.endpoint.IpEndpoint.{IpEndpoint}
+use Rattle.sockets.specs.declared.endpoint.IpEndpoint.{IpEndpoint}
 use Rattle.dhcp_client.specs.declared.client.DhcpClient.{DhcpClient}
-use Rattle.dhcp_sockets.specs.Datagrams.{ReceivesDatagram}
+use Rattle.dhcp_client.specs.Datagrams.{ReceivesDatagram}
 use Rattle.iface_host.specs.Refusals.{udp_unreceived}
 use Rattle.iface_host.specs.Sockets.{ReceivesUdp}
 use Rattle.iface_host.specs.declared.host.Host.{Host}

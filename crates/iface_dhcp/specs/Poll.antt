@@ -2,7 +2,7 @@
 use Rattle.std.specs.Prelude.{ℕ, ℤ, ◌≡◌, ◌/◌, ◌^◌, pos, length, Bool, true, false, Option, Some, None}
 use Rattle.net_base.specs.Rand.{next}
 use Rattle.sockets.specs.Kinds.{down_udp}
-use Rattle.transport_sockets.specs.Udp.{UdpSocket}
+use Rattle.sockets.specs.Udp.{UdpSocket}
 use Rattle.dhcp_client.specs.Client.{after_telling, event}
 use Rattle.dhcp_client.specs.Messages as messages
 use Rattle.dhcp_client.specs.declared.client.DhcpClient.{DhcpClient}

@@ -1,12 +1,12 @@
 //! How the client's messages are queued.
 ghost use Rattle.std.specs.Prelude.{◌≡◌, OnErr, IfOk, true};
-ghost use Rattle.dhcp_sockets.specs.Datagrams as datagrams;
-ghost use Rattle.dhcp_sockets.specs.Packets as packets;
+ghost use Rattle.dhcp_client.specs.Datagrams as datagrams;
+ghost use Rattle.dhcp_client.specs.Packets as packets;
 ghost use Rattle.iface_dhcp.specs.Send as spec;
 
 use crate::dhcp::Dhcp;
 use dhcp_client::DhcpMessage;
-use dhcp_sockets::{DhcpRoom, server_of};
+use dhcp_client::{DhcpRoom, server_of};
 use iface_host::{Host, Room, Rooms};
 use ip_wire::{IpProtocol, IpVersion};
 

@@ -4,9 +4,9 @@ use Rattle.std.specs.Prelude.{◌==◌, if◌then◌else◌}
 use Rattle.ip_address.specs.declared.ethernet_address.EthernetAddress.{EthernetAddress}
 use Rattle.ip_address.specs.declared.hardware.HardwareAddress.TheVariants as hardware
 use Rattle.ip_address.specs.declared.ipv6.Ipv6Address.{Ipv6Address}
-use Rattle.ipv6_wire.specs.declared.ipv6_packet.Ipv6Repr.{Ipv6Repr}
-use Rattle.icmpv6_wire.specs.declared.ndisc.NdiscRepr.{NdiscRepr}
-use Rattle.icmpv6_wire.specs.declared.ndisc.NdiscRepr.TheVariants.{NeighborSolicit}
+use Rattle.ip_wire.specs.declared.ipv6_packet.Ipv6Repr.{Ipv6Repr}
+use Rattle.control_wire.specs.declared.ndisc.NdiscRepr.{NdiscRepr}
+use Rattle.control_wire.specs.declared.ndisc.NdiscRepr.TheVariants.{NeighborSolicit}
 use Rattle.host_machine.specs.Context.Note.{Note}
 use Rattle.host_machine.specs.Context.Host.{Host}
 use Rattle.host_machine.specs.Receive.Reply.{Reply, Ip}

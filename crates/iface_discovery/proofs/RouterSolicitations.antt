@@ -2,7 +2,7 @@
 use Rattle.std.proofs.Common.{◌≡◌, Bool, true, false, List, [], refl, ap, ◌∙◌, Some, None}
 use Rattle.net_base.specs.Device.{Event}
 use Rattle.fragmentation.specs.Slots.{Slots}
-use Rattle.slaac.specs.Slaac.{rs_sent}
+use Rattle.iface_tables.specs.Slaac.{rs_sent}
 use Rattle.host_machine.specs.Context.Host.{SocketSet, no_sockets, with_slots, with_slaac}
 use Rattle.host_machine.specs.Packet.Packet as value
 use Rattle.host_machine.specs.Discovery.RouterSolicitation as slaac

@@ -10,7 +10,7 @@ ghost use Rattle.iface_context.specs.Stands.{host_of};
 
 use iface_context::Context;
 use iface_context::neighbors::fill_neighbor;
-use iface_packet::packet::emit_arp;
+use iface_context::packet::emit_arp;
 use ip_wire::emit::FrameBuffer;
 use ip_wire::{ArpOperation, ArpRepr, EthernetAddress, HardwareAddress, IpAddress};
 

@@ -8,7 +8,7 @@ ghost use Rattle.host_machine.specs.Discovery.Router as router_rules;
 ghost use Rattle.iface_context.specs.Stands.{host_in, host_of};
 ghost use Rattle.ip_address.specs.Ipv6.{all_nodes, is_link_local};
 
-use icmpv6_wire::RouterRepr;
+use control_wire::RouterRepr;
 use iface_context::Context;
 use iface_context::autoconfiguration::process_advertisement;
 use ip_wire::ipv6_packet::Ipv6Repr;

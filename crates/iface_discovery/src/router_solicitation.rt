@@ -4,15 +4,15 @@ ghost use Rattle.std.specs.Option.{option_map};
 ghost use Rattle.host_machine.specs.Context.Host.{no_sockets};
 ghost use Rattle.host_machine.specs.Packet.Packet.{IsWritable};
 ghost use Rattle.host_machine.specs.Discovery.RouterSolicitation as spec;
-ghost use Rattle.iface_packet.specs.PacketValues as value_of;
+ghost use Rattle.iface_context.specs.PacketValues as value_of;
 ghost use Rattle.iface_context.specs.Stands.{host_of};
 ghost use Rattle.iface_send.specs.Offered.{HasPart};
 ghost use Rattle.iface_context.specs.Refines.{RefinesTelling};
 
-use icmpv6_wire::{Icmpv6Repr, RouterRepr};
+use control_wire::{Icmpv6Repr, RouterRepr};
 use iface_context::Context;
 use iface_context::autoconfiguration::rs_sent;
-use iface_packet::{IpPayload, Packet, PacketV6};
+use iface_context::{IpPayload, Packet, PacketV6};
 use iface_send::transmit::send_packet;
 use ip_wire::emit::FrameBuffer;
 use ip_wire::{EthernetAddress, HardwareAddress, Ipv6Address};

@@ -1,8 +1,8 @@
 -- Places and datagrams, one after another, over plain variables.
 use Rattle.std.proofs.Common.{◌≡◌, ◌<◌, ◌≤◌, ◌+◌, ◌-◌, ℕ, zero, suc, arith, refl, sym, subst, List, Some}
-use Rattle.socket_base.specs.declared.endpoint.IpEndpoint.{IpEndpoint}
-use Rattle.dns_resolver.specs.Places.{Queries}
-use Rattle.dns_sockets.specs.Datagrams.{after_receiving}
+use Rattle.sockets.specs.declared.endpoint.IpEndpoint.{IpEndpoint}
+use Rattle.dns_client.specs.DnsResolver.Places.{Queries}
+use Rattle.dns_client.specs.Datagrams.{after_receiving}
 use Rattle.iface_host.specs.declared.host.Host.{Host}
 use Rattle.iface_dns.specs.Dns as dns
 use Rattle.iface_dns.specs.Dns.{ClosesAt, ClosesFrom}

@@ -3,12 +3,12 @@ use Rattle.std.proofs.Common.{◌≡◌, ◌∙◌, ℕ, true, List, Option, Som
 use Rattle.std.specs.Prelude.{is_some}
 use Rattle.std.specs.Result.{IsErrOf}
 use Rattle.std.proofs.lemmas.Bool.{and_from}
-use Rattle.dns_wire.specs.Text.{name_in}
-use Rattle.dns_wire.proofs.TextAgain.{read_again}
-use Rattle.dns_resolver.specs.Places.{Queries}
-use Rattle.dns_resolver.specs.Resolver.{free_in, is_whole, start_refusal}
-use Rattle.dns_resolver.specs.declared.resolver.QueryHandle.{QueryHandle}
-use Rattle.dns_resolver.specs.declared.resolver.StartQueryError.{StartQueryError}
+use Rattle.dns_client.specs.Text.{name_in}
+use Rattle.dns_client.proofs.TextAgain.{read_again}
+use Rattle.dns_client.specs.DnsResolver.Places.{Queries}
+use Rattle.dns_client.specs.DnsResolver.Resolver.{free_in, is_whole, start_refusal}
+use Rattle.dns_client.specs.declared.dns_resolver.resolver.QueryHandle.{QueryHandle}
+use Rattle.dns_client.specs.declared.dns_resolver.resolver.StartQueryError.{StartQueryError}
 use Rattle.iface_host.specs.declared.refusal.Refusal.{Refusal}
 use Rattle.iface_dns.specs.Start.{or_else}
 use Rattle.iface_dns.specs.declared.start.StartRefusal.{StartRefusal}

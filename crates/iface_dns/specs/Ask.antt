@@ -1,10 +1,10 @@
 -- How queries are sent.
 use Rattle.std.specs.Prelude.{ℕ, ◌≡◌, is_some, Bool, true, false, List, [], length, Option, Some, None}
-use Rattle.dns_resolver.specs.Resolver as resolver
-use Rattle.dns_resolver.specs.Resolver.{at, message_at, text_in}
-use Rattle.dns_resolver.specs.declared.resolver.DnsMessage.{DnsMessage}
-use Rattle.dns_sockets.specs.Datagrams as datagrams
-use Rattle.socket_base.specs.declared.endpoint.IpEndpoint.{IpEndpoint}
+use Rattle.dns_client.specs.DnsResolver.Resolver as resolver
+use Rattle.dns_client.specs.DnsResolver.Resolver.{at, message_at, text_in}
+use Rattle.dns_client.specs.declared.dns_resolver.resolver.DnsMessage.{DnsMessage}
+use Rattle.dns_client.specs.Datagrams as datagrams
+use Rattle.sockets.specs.declared.endpoint.IpEndpoint.{IpEndpoint}
 use Rattle.iface_host.specs.Refusals.{udp_unsent}
 use Rattle.iface_host.specs.Sockets.{SendsUdp}
 use Rattle.iface_host.specs.declared.host.Host.{Host}

@@ -3,9 +3,9 @@ use Rattle.std.specs.Prelude.{ℕ, zero, suc, ℤ, ◌≡◌, ◌+◌, pos, min,
 use Rattle.std.specs.Option.{option_map}
 use Rattle.ip_address.specs.declared.ip.IpAddress.{IpAddress}
 use Rattle.tcp_host.specs.declared.sip_hash.SipKey.{SipKey}
-use Rattle.dns_resolver.specs.Places.{Queries}
-use Rattle.dns_resolver.specs.Resolver as resolver
-use Rattle.dns_resolver.specs.Resolver.{with_place}
+use Rattle.dns_client.specs.DnsResolver.Places.{Queries}
+use Rattle.dns_client.specs.DnsResolver.Resolver as resolver
+use Rattle.dns_client.specs.DnsResolver.Resolver.{with_place}
 use Rattle.iface_host.specs.Refusals.{close_refusal}
 use Rattle.iface_host.specs.Sockets as sockets
 use Rattle.iface_host.specs.declared.host.Host.{Host}

@@ -2,9 +2,9 @@
 use Rattle.std.specs.Prelude.{ℕ, zero, suc, ℤ, ◌≡◌, ◌+◌, pos, length, Bool, true, false, Result, Ok, Err}
 use Rattle.dns_client.specs.declared.query.DnsResult.{DnsResult}
 use Rattle.dns_client.specs.Query as query
-use Rattle.dns_resolver.specs.Places.{Queries}
-use Rattle.dns_resolver.specs.Resolver.{result_at}
-use Rattle.dns_resolver.specs.declared.resolver.NoSuchQuery.{NoSuchQuery}
+use Rattle.dns_client.specs.DnsResolver.Places.{Queries}
+use Rattle.dns_client.specs.DnsResolver.Resolver.{result_at}
+use Rattle.dns_client.specs.declared.dns_resolver.resolver.NoSuchQuery.{NoSuchQuery}
 use Rattle.iface_host.specs.declared.host.Host.{Host}
 use Rattle.iface_dns.specs.Ask.{Asks}
 use Rattle.iface_dns.specs.Dns.{ClosesAt}

@@ -1,12 +1,12 @@
 -- How queries are started.
 use Rattle.std.specs.Prelude.{ℕ, ℤ, ◌≡◌, pos, is_some, true, List, Option, Some, None, if◌then◌else◌}
 use Rattle.std.specs.Option.{option_map}
-use Rattle.socket_base.specs.declared.endpoint.IpListenEndpoint.{IpListenEndpoint}
-use Rattle.dns_wire.specs.Text.{name_in}
-use Rattle.dns_wire.specs.declared.message.DnsType.{DnsType}
-use Rattle.dns_resolver.specs.Places.{Queries}
-use Rattle.dns_resolver.specs.Resolver as resolver
-use Rattle.dns_resolver.specs.Resolver.{free_in, has_server, next_port}
+use Rattle.sockets.specs.declared.endpoint.IpListenEndpoint.{IpListenEndpoint}
+use Rattle.dns_client.specs.Text.{name_in}
+use Rattle.dns_client.specs.declared.message.DnsType.{DnsType}
+use Rattle.dns_client.specs.DnsResolver.Places.{Queries}
+use Rattle.dns_client.specs.DnsResolver.Resolver as resolver
+use Rattle.dns_client.specs.DnsResolver.Resolver.{free_in, has_server, next_port}
 use Rattle.iface_host.specs.Refusals.{moment_refusal}
 use Rattle.iface_host.specs.Sockets.{Opens, udp}
 use Rattle.iface_host.specs.TableRefusals as table

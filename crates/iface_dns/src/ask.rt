@@ -3,11 +3,11 @@ ghost use Rattle.std.specs.Prelude.{◌≡◌, length};
 ghost use Rattle.iface_dns.specs.Ask as spec;
 
 use crate::dns::Dns;
-use dns_resolver::{DnsMessage, QueryHandle};
-use dns_wire::message::SERVER_PORT;
+use dns_client::dns_resolver::{DnsMessage, QueryHandle};
+use dns_client::message::SERVER_PORT;
 use iface_host::Host;
 use sockets::IpEndpoint;
-use wire_base::emit::FrameBuffer;
+use ip_wire::emit::FrameBuffer;
 
 impl Dns {
     /// Lets a query do what is due at an instant, and queues its message at its socket, if it sends one now. A message for which

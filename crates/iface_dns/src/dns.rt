@@ -1,12 +1,12 @@
 //! The client, and how it is made.
 ghost use Rattle.std.specs.Prelude.{◌≡◌, IfOk, IfErr, OnOk, OnErr, is_ok, is_some, length};
-ghost use Rattle.dns_resolver.specs.Resolver as resolver;
+ghost use Rattle.dns_client.specs.DnsResolver.Resolver as resolver;
 ghost use Rattle.iface_dns.specs.Dns as spec;
 ghost use Rattle.iface_host.specs.declared.refusal.Refusal.{Refusal};
 
 use crate::open_sockets::OpenSockets;
 use dns_client::DnsResult;
-use dns_resolver::{NoSuchQuery, QueryHandle, Resolver};
+use dns_client::dns_resolver::{NoSuchQuery, QueryHandle, Resolver};
 use iface_host::{Host, Refusal};
 use ip_wire::IpAddress;
 use std::alloc::Global;

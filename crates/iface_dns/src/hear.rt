@@ -1,11 +1,11 @@
 //! What queries make of the datagrams that came to their sockets.
 ghost use Rattle.std.specs.Prelude.{◌≡◌, length, Some};
-ghost use Rattle.dns_sockets.specs.Datagrams.{after_receiving};
+ghost use Rattle.dns_client.specs.Datagrams.{after_receiving};
 ghost use Rattle.iface_dns.specs.Hear as spec;
 
 use crate::dns::Dns;
-use dns_resolver::{QueryHandle, Resolver};
-use dns_sockets::port_of;
+use dns_client::dns_resolver::{QueryHandle, Resolver};
+use dns_client::port_of;
 use iface_host::Host;
 use sockets::IpEndpoint;
 

@@ -1,4 +1,4 @@
-//! A client of DNS (crate `dns_resolver`) for a host (crate `iface_host`): each of its queries has a socket of the host as long as
+//! A client of DNS (crate `dns_client`) for a host (crate `iface_host`): each of its queries has a socket of the host as long as
 //! it waits, and sends and receives by it.
 #![tactic(auto)]
 

@@ -6,7 +6,7 @@ ghost use Rattle.iface_host.specs.Refusals.{moment_refusal};
 
 use crate::dns::Dns;
 use dns_client::DnsResult;
-use dns_resolver::{QueryHandle, Resolver};
+use dns_client::dns_resolver::{QueryHandle, Resolver};
 use iface_host::streams::micros_of;
 use iface_host::{Host, Refusal};
 

@@ -7,13 +7,13 @@ use Rattle.std.proofs.Common.{sym, ap, ◌∙◌, arith}
 use Rattle.std.proofs.lemmas.Bool.{lt-ltb, ltb-true}
 use mathlib.Core.Bool.{true≢false}
 use Rattle.ip_address.specs.declared.ip.IpAddress.{IpAddress}
-use Rattle.socket_base.specs.declared.endpoint.IpEndpoint.{IpEndpoint}
-use Rattle.socket_base.specs.Queue.{Queued, is_room, put}
-use Rattle.network_sockets.specs.Icmp as icmps
-use Rattle.network_sockets.specs.Raw as raws
-use Rattle.transport_sockets.specs.Tcp as tcps
-use Rattle.transport_sockets.specs.Udp as udps
-use Rattle.transport_sockets.specs.declared.tcp.Segment.{Segment}
+use Rattle.sockets.specs.declared.endpoint.IpEndpoint.{IpEndpoint}
+use Rattle.sockets.specs.Queue.{Queued, is_room, put}
+use Rattle.sockets.specs.Icmp as icmps
+use Rattle.sockets.specs.Raw as raws
+use Rattle.sockets.specs.Tcp as tcps
+use Rattle.sockets.specs.Udp as udps
+use Rattle.sockets.specs.declared.tcp.Segment.{Segment}
 use Rattle.sockets.specs.declared.socket.SocketOf.TheVariants.{Raw, Icmp, Udp, Tcp}
 use Rattle.sockets.specs.declared.socket.SocketOf.{SocketOf}
 use Rattle.socket_set.specs.SocketSet.{Sockets, first_free, has_free, socket_at}

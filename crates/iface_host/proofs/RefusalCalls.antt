@@ -8,8 +8,8 @@ use Rattle.std.proofs.lemmas.Bool.{le-leb, leb-true, lt-ltb, ltb-true}
 use Rattle.ip_address.specs.Ip.{is_multicast}
 use Rattle.ip_address.specs.declared.cidr.IpCidr.{IpCidr}
 use Rattle.ip_address.specs.declared.ip.IpAddress.{IpAddress}
-use Rattle.group_table.specs.Groups.{is_refused}
-use Rattle.group_table.specs.declared.groups.Group.{Group}
+use Rattle.iface_tables.specs.Groups.{is_refused}
+use Rattle.iface_tables.specs.declared.groups.Group.{Group}
 use Rattle.iface_tables.specs.Route as routes
 use Rattle.iface_tables.specs.declared.route.Route.{Route}
 use Rattle.iface_tables.specs.declared.route.RouteTableFull.{RouteTableFull}

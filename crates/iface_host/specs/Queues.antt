@@ -2,7 +2,7 @@
 use Rattle.std.specs.Prelude.{ℕ, is_some, List, [], ◌∷◌, length, Option, Some, None, if◌then◌else◌}
 use Rattle.std.specs.Option.{option_and_then, option_map}
 use Rattle.sockets.specs.declared.socket.SocketOf.TheVariants.{Raw, Icmp, Udp, Tcp}
-use Rattle.socket_base.specs.Queue.{Queued, octets_in}
+use Rattle.sockets.specs.Queue.{Queued, octets_in}
 use Rattle.socket_set.specs.SocketSet.{socket_at}
 use Rattle.iface_host.specs.Names.{handle_named}
 use Rattle.iface_host.specs.Sockets.{Socket}

@@ -8,13 +8,13 @@ use Rattle.ip_address.specs.Protocol.{version_of}
 use Rattle.ip_address.specs.declared.ip.IpAddress.{IpAddress}
 use Rattle.ip_address.specs.declared.protocol.IpVersion.{IpVersion}
 use Rattle.ip_address.specs.declared.protocol.IpVersion.TheVariants.{Ipv4, Ipv6}
-use Rattle.network_sockets.specs.Icmp.{IcmpSocket}
-use Rattle.network_sockets.specs.Raw.{RawSocket}
-use Rattle.socket_base.specs.declared.endpoint.IpEndpoint.{IpEndpoint}
-use Rattle.socket_base.specs.Queue.{first_of, is_room}
+use Rattle.sockets.specs.Icmp.{IcmpSocket}
+use Rattle.sockets.specs.Raw.{RawSocket}
+use Rattle.sockets.specs.declared.endpoint.IpEndpoint.{IpEndpoint}
+use Rattle.sockets.specs.Queue.{first_of, is_room}
 use Rattle.sockets.specs.Kinds.{down_icmp, down_raw, down_udp}
 use Rattle.socket_set.specs.SocketSet.{socket_at}
-use Rattle.transport_sockets.specs.Udp.{UdpSocket}
+use Rattle.sockets.specs.Udp.{UdpSocket}
 use Rattle.iface_host.specs.Names.{handle_named}
 use Rattle.iface_host.specs.Sockets.{Socket}
 use Rattle.iface_host.specs.declared.host.Host.{Host}

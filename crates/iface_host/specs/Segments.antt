@@ -3,11 +3,11 @@ use Rattle.std.specs.Prelude.{ℕ, ℤ, pos, ◌+◌, ◌==◌, ◌||◌, ◌≡
 use Rattle.std.specs.Prelude.{Option, Some, None, if◌then◌else◌}
 use Rattle.ip_address.specs.Ip.{is_unspecified}
 use Rattle.ip_address.specs.Protocol.{version_of}
-use Rattle.socket_base.specs.Queue.{first_of, is_room}
-use Rattle.socket_base.specs.declared.endpoint.IpEndpoint.{IpEndpoint}
-use Rattle.socket_base.specs.declared.endpoint.IpListenEndpoint.{IpListenEndpoint}
-use Rattle.transport_sockets.specs.Tcp as tcps
-use Rattle.transport_sockets.specs.declared.tcp.Segment.{Segment}
+use Rattle.sockets.specs.Queue.{first_of, is_room}
+use Rattle.sockets.specs.declared.endpoint.IpEndpoint.{IpEndpoint}
+use Rattle.sockets.specs.declared.endpoint.IpListenEndpoint.{IpListenEndpoint}
+use Rattle.sockets.specs.Tcp as tcps
+use Rattle.sockets.specs.declared.tcp.Segment.{Segment}
 use Rattle.sockets.specs.Kinds.{down_tcp, up_tcp}
 use Rattle.sockets.specs.declared.socket.SocketOf.TheVariants.{Tcp}
 use Rattle.iface_host.specs.Refusals.{if_full, kind_at, may_send, moment_refusal, of_packet, of_socket}

@@ -6,13 +6,13 @@ use Rattle.std.specs.Borrow.{Bor}
 use Rattle.ip_address.specs.declared.ip.IpAddress.{IpAddress}
 use Rattle.ip_address.specs.declared.protocol.IpProtocol.{IpProtocol}
 use Rattle.ip_address.specs.declared.protocol.IpVersion.{IpVersion}
-use Rattle.socket_base.specs.declared.endpoint.IpEndpoint.{IpEndpoint}
-use Rattle.socket_base.specs.declared.endpoint.IpListenEndpoint.{IpListenEndpoint}
-use Rattle.socket_base.specs.Queue.{Queued, first_of, is_room}
-use Rattle.network_sockets.specs.declared.icmp.Endpoint.{Endpoint}
-use Rattle.network_sockets.specs.Icmp as icmps
-use Rattle.network_sockets.specs.Raw as raws
-use Rattle.transport_sockets.specs.Udp as udps
+use Rattle.sockets.specs.declared.endpoint.IpEndpoint.{IpEndpoint}
+use Rattle.sockets.specs.declared.endpoint.IpListenEndpoint.{IpListenEndpoint}
+use Rattle.sockets.specs.Queue.{Queued, first_of, is_room}
+use Rattle.sockets.specs.declared.icmp.Endpoint.{Endpoint}
+use Rattle.sockets.specs.Icmp as icmps
+use Rattle.sockets.specs.Raw as raws
+use Rattle.sockets.specs.Udp as udps
 use Rattle.sockets.specs.Kinds.{up_icmp, up_raw, up_udp}
 use Rattle.sockets.specs.declared.socket.SocketOf.{SocketOf}
 use Rattle.sockets.specs.declared.socket.SocketOf.TheVariants.{Raw, Icmp, Udp}

@@ -9,10 +9,10 @@ use Rattle.ip_address.specs.Ip.{is_broadcast, is_multicast}
 use Rattle.ip_address.specs.declared.cidr.IpCidr.{IpCidr}
 use Rattle.ip_address.specs.declared.ip.IpAddress.{IpAddress}
 use Rattle.ip_address.specs.declared.ip.IpAddress.TheVariants.{Ipv4, Ipv6}
-use Rattle.socket_base.specs.declared.endpoint.IpListenEndpoint.{IpListenEndpoint}
+use Rattle.sockets.specs.declared.endpoint.IpListenEndpoint.{IpListenEndpoint}
 use Rattle.iface_tables.specs.Route as routes
 use Rattle.iface_tables.specs.Route.{is_ipv4_gateway, is_ipv6_gateway}
-use Rattle.group_table.specs.Groups as groups
+use Rattle.iface_tables.specs.Groups as groups
 use Rattle.socket_set.specs.SocketSet.{has_free}
 use Rattle.host_machine.specs.Context.Host.{are_assignable}
 use Rattle.iface_host.specs.Calls.{addr_room_of, addresses_of, group_room_of, groups_of, route_room_of, is_same, is_to, routes_of, source_for}

@@ -17,7 +17,7 @@ use net_base::phy::Checksum;
 use socket_set::{SocketHandle, SocketSet, by_index};
 use sockets::raw;
 use tcp_sockets::{SocketPair, TcpSockets};
-use tcp_streams::host::TcpHost;
+use tcp_host::host::TcpHost;
 
 /// The two raw sockets of TCP of a family.
 #[derive(Clone, Copy, Debug)]

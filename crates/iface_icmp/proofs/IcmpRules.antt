@@ -2,7 +2,7 @@
 use Rattle.std.proofs.Common.{◌≡◌, ℕ, Bool, List, [], Option, None, refl, ap}
 use Rattle.net_base.specs.Checksum.{is_rx}
 use Rattle.ip_address.specs.declared.ip.IpAddress.TheVariants.{Ipv4, Ipv6}
-use Rattle.ipv6_wire.specs.declared.ipv6_packet.Ipv6Repr.{Ipv6Repr}
+use Rattle.ip_wire.specs.declared.ipv6_packet.Ipv6Repr.{Ipv6Repr}
 use Rattle.ip_wire.specs.declared.ipv4_packet.Ipv4Repr.{Ipv4Repr}
 use Rattle.ip_wire.specs.IpPacket.{src_addr, dst_addr}
 use Rattle.host_machine.specs.Context.Host.{Host, Storage, with_places}
@@ -15,8 +15,8 @@ use Rattle.host_machine.specs.Icmp.Icmpv6 as icmpv6
 use Rattle.control_wire.specs.Icmpv4.{IsIcmpv4, icmpv4_in}
 use Rattle.control_wire.specs.declared.icmpv4.Icmpv4Repr.{Icmpv4Repr}
 use Rattle.control_wire.specs.declared.icmp.IcmpRepr.TheVariants.{Ipv4 as Ipv4Message, Ipv6 as Ipv6Message}
-use Rattle.icmpv6_wire.specs.Icmpv6.{IsIcmpv6, icmpv6_in}
-use Rattle.icmpv6_wire.specs.declared.icmpv6.Icmpv6Repr.{Icmpv6Repr}
+use Rattle.control_wire.specs.Icmpv6.{IsIcmpv6, icmpv6_in}
+use Rattle.control_wire.specs.declared.icmpv6.Icmpv6Repr.{Icmpv6Repr}
 use Rattle.iface_context.proofs.Processing.{dropped}
 
 -- a message is given to each socket that takes it, and answered

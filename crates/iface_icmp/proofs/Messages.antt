@@ -2,20 +2,20 @@
 use Rattle.std.proofs.Common.{◌≡◌, ◌≢◌, ℕ, ◌≤◌, ◌⊎◌, inl, inr, Bool, true, false, List, [], drop, Option, Some, None, refl, arith}
 use Rattle.std.proofs.lemmas.Bool.{ne_eqb}
 use Rattle.std.specs.Prelude.{◌==◌, if◌then◌else◌}
-use Rattle.ipv6_wire.specs.declared.ipv6_packet.Ipv6Repr.{Ipv6Repr}
-use Rattle.icmpv6_wire.specs.declared.icmpv6.Icmpv6Repr.{Icmpv6Repr}
-use Rattle.icmpv6_wire.specs.declared.icmpv6.Icmpv6Repr.TheVariants.{EchoRequest, EchoReply, DstUnreachable, PktTooBig}
-use Rattle.icmpv6_wire.specs.declared.icmpv6.Icmpv6Repr.TheVariants.{TimeExceeded, ParamProblem, Ndisc, Router, Mld}
-use Rattle.icmpv6_wire.specs.declared.ndisc.NdiscRepr.{NdiscRepr}
-use Rattle.icmpv6_wire.specs.declared.router.RouterRepr.{RouterRepr}
-use Rattle.group_wire.specs.declared.mld.MldRepr.{MldRepr}
-use Rattle.icmpv6_wire.specs.Icmpv6.{IsBody, Request, Reply as EchoedReply, Error, Neighbor, OfRouters, Listener}
-use Rattle.icmpv6_wire.specs.Icmpv6.{code_in, echo_request_in, icmpv6_in, problem_of, type_in, unreachable_of}
-use Rattle.icmpv6_wire.specs.Ndisc.{IsNdisc, ndisc_in}
-use Rattle.icmpv6_wire.specs.Router.{Solicitation, Advertisement, router_in}
-use Rattle.group_wire.specs.Mld.{IsQuery, IsReport, mld_in}
-use Rattle.ipv6_wire.specs.Ipv6Packet.{quoted_in}
-use Rattle.wire_base.specs.Octets.{u16_at, u32_at}
+use Rattle.ip_wire.specs.declared.ipv6_packet.Ipv6Repr.{Ipv6Repr}
+use Rattle.control_wire.specs.declared.icmpv6.Icmpv6Repr.{Icmpv6Repr}
+use Rattle.control_wire.specs.declared.icmpv6.Icmpv6Repr.TheVariants.{EchoRequest, EchoReply, DstUnreachable, PktTooBig}
+use Rattle.control_wire.specs.declared.icmpv6.Icmpv6Repr.TheVariants.{TimeExceeded, ParamProblem, Ndisc, Router, Mld}
+use Rattle.control_wire.specs.declared.ndisc.NdiscRepr.{NdiscRepr}
+use Rattle.control_wire.specs.declared.router.RouterRepr.{RouterRepr}
+use Rattle.control_wire.specs.declared.mld.MldRepr.{MldRepr}
+use Rattle.control_wire.specs.Icmpv6.{IsBody, Request, Reply as EchoedReply, Error, Neighbor, OfRouters, Listener}
+use Rattle.control_wire.specs.Icmpv6.{code_in, echo_request_in, icmpv6_in, problem_of, type_in, unreachable_of}
+use Rattle.control_wire.specs.Ndisc.{IsNdisc, ndisc_in}
+use Rattle.control_wire.specs.Router.{Solicitation, Advertisement, router_in}
+use Rattle.control_wire.specs.Mld.{IsQuery, IsReport, mld_in}
+use Rattle.ip_wire.specs.Ipv6Packet.{quoted_in}
+use Rattle.ip_wire.specs.Octets.{u16_at, u32_at}
 use Rattle.host_machine.specs.Context.Note.{Note}
 use Rattle.host_machine.specs.Context.Host.{Host, with_slaac}
 use Rattle.host_machine.specs.Receive.Reply.{Reply}

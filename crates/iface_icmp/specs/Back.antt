@@ -1,7 +1,7 @@
 -- Replies to the source of a packet.
 use Rattle.std.specs.Prelude.{List}
 use Rattle.ip_address.specs.declared.cidr.IpCidr.{IpCidr}
-use Rattle.ipv6_wire.specs.declared.ipv6_packet.Ipv6Repr.{Ipv6Repr}
+use Rattle.ip_wire.specs.declared.ipv6_packet.Ipv6Repr.{Ipv6Repr}
 use Rattle.host_machine.specs.Icmp.Icmpv6.{reply_source}
 use Rattle.host_machine.specs.Packet.Packet.{IpPayload, Ipv6}
 use Rattle.host_machine.specs.Receive.Reply.{Reply, Ip}

@@ -1,9 +1,9 @@
 //! How an interface processes ICMPv6 messages, and which it sends in reply (RFC 4443).
 ghost use Rattle.std.specs.Prelude.{◌≡◌, ◌≢◌, ◌<◌, ◌^◌, ◌⊎◌, [], Some, true, length};
 ghost use Rattle.ip_address.specs.declared.ip.IpAddress.TheVariants as ip;
-ghost use Rattle.icmpv6_wire.specs.declared.icmpv6.Icmpv6Repr.TheVariants.{Ndisc};
-ghost use Rattle.icmpv6_wire.specs.declared.ndisc.NdiscRepr.{NdiscRepr};
-ghost use Rattle.icmpv6_wire.specs.Icmpv6.{IsEchoRequest, type_in};
+ghost use Rattle.control_wire.specs.declared.icmpv6.Icmpv6Repr.TheVariants.{Ndisc};
+ghost use Rattle.control_wire.specs.declared.ndisc.NdiscRepr.{NdiscRepr};
+ghost use Rattle.control_wire.specs.Icmpv6.{IsEchoRequest, type_in};
 ghost use Rattle.host_machine.specs.Packet.Packet.{IsWritablePayload};
 ghost use Rattle.ip_address.specs.Ipv6.{is_unicast};
 ghost use Rattle.host_machine.specs.Context.Host.{SocketSet, no_sockets};
@@ -16,16 +16,16 @@ ghost use Rattle.iface_icmp.specs.Messages.{MayBeMessage};
 
 use crate::delivery::deliver;
 use control_wire::IcmpRepr;
-use icmpv6_wire::echo::EchoRequest;
-use icmpv6_wire::icmpv6::{is_sound, parse_sound};
-use icmpv6_wire::{Icmpv6DstUnreachable, Icmpv6ParamProblem, Icmpv6Repr, NdiscRepr};
+use control_wire::echo::EchoRequest;
+use control_wire::icmpv6::{is_sound, parse_sound};
+use control_wire::{Icmpv6DstUnreachable, Icmpv6ParamProblem, Icmpv6Repr, NdiscRepr};
 use iface_context::Context;
 use iface_discovery::ndisc::process_ndisc;
 use iface_discovery::router::process_router;
 use iface_multicast::mld::process_mld;
-use iface_packet::packet::icmp_reply_payload_len;
-use iface_packet::payload::{EchoReplyV6, UnreachableV6};
-use iface_packet::{IpPayload, Packet, PacketV6, Payload};
+use iface_context::packet::icmp_reply_payload_len;
+use iface_context::payload::{EchoReplyV6, UnreachableV6};
+use iface_context::{IpPayload, Packet, PacketV6, Payload};
 use iface_send::dispatch::dispatch;
 use ip_wire::emit::FrameBuffer;
 use ip_wire::ipv6_packet::HEADER_LEN;

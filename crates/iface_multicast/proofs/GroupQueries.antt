@@ -2,9 +2,9 @@
 use Rattle.std.proofs.Common.{◌≡◌, ℕ, true, [], None, refl}
 use Rattle.std.specs.Prelude.{pos, ◌+ℤ◌}
 use Rattle.ip_address.specs.declared.ipv6.Ipv6Address.{Ipv6Address}
-use Rattle.ipv6_wire.specs.declared.ipv6_packet.Ipv6Repr.{Ipv6Repr}
-use Rattle.group_wire.specs.declared.mld.MldRepr.{MldRepr}
-use Rattle.group_wire.specs.declared.mld.MldRepr.TheVariants.{Query}
+use Rattle.ip_wire.specs.declared.ipv6_packet.Ipv6Repr.{Ipv6Repr}
+use Rattle.control_wire.specs.declared.mld.MldRepr.{MldRepr}
+use Rattle.control_wire.specs.declared.mld.MldRepr.TheVariants.{Query}
 use Rattle.host_machine.specs.Context.Host.{Host}
 use Rattle.host_machine.specs.Multicast.Mld.{ProcessesMld, delay, random_after_draw, is_near, host_after_mld_query, mld_report_for}
 

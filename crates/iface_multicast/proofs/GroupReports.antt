@@ -3,9 +3,9 @@ use Rattle.std.proofs.Common.{◌≡◌, Bool, true, false, List, [], refl, sym,
 use Rattle.std.specs.Option.{option_map, option_and_then}
 use Rattle.net_base.specs.Device.{Event}
 use Rattle.ip_address.specs.declared.ipv4.Ipv4Address.{Ipv4Address}
-use Rattle.group_wire.specs.declared.igmp.IgmpVersion.{IgmpVersion}
-use Rattle.group_table.specs.declared.report.IgmpReportState.TheVariants as igmp
-use Rattle.group_table.specs.declared.report.MldReportState.TheVariants as mld
+use Rattle.control_wire.specs.declared.igmp.IgmpVersion.{IgmpVersion}
+use Rattle.iface_tables.specs.declared.report.IgmpReportState.TheVariants as igmp
+use Rattle.iface_tables.specs.declared.report.MldReportState.TheVariants as mld
 use Rattle.fragmentation.specs.Slots.{Slots}
 use Rattle.host_machine.specs.Context.Host.{Host, SocketSet, no_sockets, with_slots, with_igmp_report, with_mld_report}
 use Rattle.host_machine.specs.Context.Addresses.{ipv4_addr}
@@ -17,8 +17,8 @@ use Rattle.host_machine.specs.Multicast.Timeout.{has_passed}
 use Rattle.host_machine.specs.Multicast.Igmp as igmp_rules
 use Rattle.host_machine.specs.Multicast.Mld as mld_rules
 use Rattle.iface_context.specs.declared.context.Context.{Context}
-use Rattle.iface_packet.specs.declared.packet.Packet.{Packet}
-use Rattle.iface_packet.specs.PacketValues as value_of
+use Rattle.iface_context.specs.declared.packet.Packet.{Packet}
+use Rattle.iface_context.specs.PacketValues as value_of
 use Rattle.iface_context.specs.Stands.{host_in, host_of}
 use Rattle.iface_send.specs.Offered.{HasPart, IsOffered, NoPacket, NotGranted, Goes}
 use Rattle.iface_context.specs.Refines.{RefinesTelling}

@@ -6,9 +6,9 @@ use Rattle.net_base.specs.Device.{Event}
 use Rattle.ip_address.specs.declared.cidr.IpCidr.{IpCidr}
 use Rattle.ip_address.specs.declared.ip.IpAddress.{IpAddress}
 use Rattle.fragmentation.specs.Slots.{Slots}
-use Rattle.group_table.specs.declared.groups.Group.{Group}
-use Rattle.group_table.specs.declared.groups.GroupState.{GroupState}
-use Rattle.group_table.specs.Groups.{first_in}
+use Rattle.iface_tables.specs.declared.groups.Group.{Group}
+use Rattle.iface_tables.specs.declared.groups.GroupState.{GroupState}
+use Rattle.iface_tables.specs.Groups.{first_in}
 use Rattle.host_machine.specs.Context.Note.{Note}
 use Rattle.host_machine.specs.Context.Host.{Host, SocketSet, with_groups, no_sockets}
 use Rattle.host_machine.specs.Packet.Packet.{Packet}

@@ -4,10 +4,10 @@ use Rattle.std.proofs.lemmas.List.{at_drop_more, append_assoc}
 use Rattle.ip_address.specs.declared.ip.IpAddress.TheVariants.{Ipv4, Ipv6}
 use Rattle.ip_address.specs.declared.ipv4.Ipv4Address.{Ipv4Address}
 use Rattle.ip_address.specs.declared.ipv6.Ipv6Address.{Ipv6Address}
-use Rattle.group_wire.specs.declared.mld.MldRecordType.TheVariants.{ModeIsExclude}
-use Rattle.group_wire.specs.Mld.{record_text}
-use Rattle.group_table.specs.declared.groups.Group.{Group}
-use Rattle.group_table.specs.Groups.{ipv6_groups}
+use Rattle.control_wire.specs.declared.mld.MldRecordType.TheVariants.{ModeIsExclude}
+use Rattle.control_wire.specs.Mld.{record_text}
+use Rattle.iface_tables.specs.declared.groups.Group.{Group}
+use Rattle.iface_tables.specs.Groups.{ipv6_groups}
 use Rattle.host_machine.specs.Multicast.Mld.{records_of}
 
 abbrev record_for : Ipv6Address → List ℕ

@@ -3,7 +3,7 @@ use Rattle.std.specs.Prelude.{◌≡◌, Bool, List, Option, if◌then◌else◌
 use Rattle.net_base.specs.Device.{Event}
 use Rattle.ip_address.specs.declared.cidr.IpCidr.{IpCidr}
 use Rattle.ip_address.specs.declared.ip.IpAddress.{IpAddress}
-use Rattle.group_table.specs.declared.groups.Group.{Group}
+use Rattle.iface_tables.specs.declared.groups.Group.{Group}
 use Rattle.host_machine.specs.Context.Note.{Note}
 use Rattle.host_machine.specs.Context.Host.{Host, with_groups}
 use Rattle.host_machine.specs.Packet.Packet.{Packet}

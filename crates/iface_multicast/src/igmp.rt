@@ -1,7 +1,7 @@
 //! IGMP (RFC 2236 3, RFC 1112 appendix I): queries of routers, and the delayed reports that answer them.
 ghost use Rattle.std.specs.Prelude.{◌≡◌, ◌*◌, ◌<◌, ◌≤◌, [], None, ◌+◌, Some, IfSome, IsSome, true};
 ghost use Rattle.fragmentation.specs.Slots.{Slots};
-ghost use Rattle.group_wire.specs.Igmp.{query_version};
+ghost use Rattle.control_wire.specs.Igmp.{query_version};
 ghost use Rattle.host_machine.specs.Context.Host.{SocketSet, no_sockets};
 ghost use Rattle.host_machine.specs.Multicast.Igmp as igmp_rules;
 ghost use Rattle.host_machine.specs.Multicast.Timeout as timeout_rules;
@@ -11,17 +11,17 @@ ghost use Rattle.iface_context.specs.Stands.{host_in, host_of};
 ghost use Rattle.std.specs.Option.{option_map};
 ghost use Rattle.net_base.specs.Time.{IsMoment};
 ghost use Rattle.host_machine.specs.Packet.Packet.{IsWritable};
-ghost use Rattle.iface_packet.specs.PacketValues as value_of;
+ghost use Rattle.iface_context.specs.PacketValues as value_of;
 ghost use Rattle.iface_send.specs.Offered.{HasPart};
 ghost use Rattle.iface_context.specs.Refines.{RefinesTelling};
 
 use crate::timeout::{has_passed, later_of};
-use group_table::IgmpReportState;
-use group_wire::igmp::{max_resp_time, query_version};
-use group_wire::{IgmpRepr, IgmpVersion};
+use iface_tables::IgmpReportState;
+use control_wire::igmp::{max_resp_time, query_version};
+use control_wire::{IgmpRepr, IgmpVersion};
 use iface_context::Context;
 use iface_context::multicast::set_igmp_report;
-use iface_packet::{IpPayload, Packet, PacketV4};
+use iface_context::{IpPayload, Packet, PacketV4};
 use iface_send::transmit::send_packet;
 use ip_wire::emit::FrameBuffer;
 use ip_wire::{IpAddress, Ipv4Address, Ipv4Repr};

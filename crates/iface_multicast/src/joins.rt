@@ -1,13 +1,13 @@
 //! Reports of joins and leaves (RFC 2236 3, RFC 3810 6.1).
 ghost use Rattle.std.specs.Prelude.{◌≡◌, ◌+◌, ◌<◌, Some, IfSome, true};
 ghost use Rattle.std.specs.Option.{option_map};
-ghost use Rattle.group_table.specs.declared.groups.GroupState.TheVariants.{Joining, Leaving};
-ghost use Rattle.group_table.specs.Groups.{count_in, first_in, join_reported, leave_reported};
+ghost use Rattle.iface_tables.specs.declared.groups.GroupState.TheVariants.{Joining, Leaving};
+ghost use Rattle.iface_tables.specs.Groups.{count_in, first_in, join_reported, leave_reported};
 ghost use Rattle.host_machine.specs.Context.Host.{no_sockets};
 ghost use Rattle.host_machine.specs.Multicast.Polling.{group_poll_at};
 ghost use Rattle.host_machine.specs.Multicast.Joins as spec;
 ghost use Rattle.host_machine.specs.Packet.Packet.{IsWritable};
-ghost use Rattle.iface_packet.specs.PacketValues as value_of;
+ghost use Rattle.iface_context.specs.PacketValues as value_of;
 ghost use Rattle.iface_context.specs.Stands.{host_of};
 ghost use Rattle.iface_send.specs.Offered.{HasPart, IsOffered};
 ghost use Rattle.iface_multicast.specs.Joins.{IsReported};
@@ -15,11 +15,11 @@ ghost use Rattle.iface_context.specs.Refines.{RefinesTelling};
 
 use crate::igmp::{igmp_packet, igmp_report};
 use crate::mld::send_record;
-use group_table::GroupState;
-use group_wire::{IgmpRepr, IgmpVersion, MldRecordType};
+use iface_tables::GroupState;
+use control_wire::{IgmpRepr, IgmpVersion, MldRecordType};
 use iface_context::Context;
 use iface_context::multicast::{join_reported, leave_reported};
-use iface_packet::Packet;
+use iface_context::Packet;
 use iface_send::transmit::send_packet;
 use ip_wire::emit::FrameBuffer;
 use ip_wire::{IpAddress, Ipv4Address};

@@ -7,7 +7,7 @@ ghost use Rattle.iface_context.specs.Stands.{host_of};
 use crate::igmp::igmp_poll_at;
 use crate::joins::group_poll_at;
 use crate::mld::mld_poll_at;
-use group_table::GroupState;
+use iface_tables::GroupState;
 use iface_context::Context;
 use net_base::instants::earlier_of;
 use net_base::time::Instant;

@@ -12,7 +12,7 @@ ghost use Rattle.host_machine.specs.Receive.Response.{Responds};
 ghost use Rattle.iface_context.specs.Refines.{RefinesBuilding, RefinesReplying};
 ghost use Rattle.iface_context.specs.Stands.{host_of};
 
-use icmpv6_wire::Icmpv6ParamProblem;
+use control_wire::Icmpv6ParamProblem;
 use iface_context::Context;
 use iface_discovery::renewal::renew_sender;
 use iface_icmp::hop_by_hop::answer_unknown_option;
@@ -22,7 +22,7 @@ use iface_sockets::tcp::process_tcp;
 use iface_sockets::udp::process_udp;
 use ip_wire::emit::FrameBuffer;
 use ip_wire::{HardwareAddress, IpProtocol, IpRepr, Ipv6Repr};
-use ipv6_wire::{Ipv6HopByHopRepr, Ipv6OptionFailureType};
+use ip_wire::{Ipv6HopByHopRepr, Ipv6OptionFailureType};
 use socket_set::SocketSet;
 use sockets::SocketContext;
 

@@ -9,18 +9,18 @@ ghost use Rattle.host_machine.specs.Packet.Frame.{ip_frame};
 ghost use Rattle.host_machine.specs.Packet.Packet.{IsFormed, IsWritable};
 ghost use Rattle.host_machine.specs.Packet.Packet as value;
 ghost use Rattle.host_machine.specs.Send.Requests as spec;
-ghost use Rattle.iface_packet.specs.PacketValues as value_of;
+ghost use Rattle.iface_context.specs.PacketValues as value_of;
 ghost use Rattle.iface_context.specs.Refines.{RefinesBuilding};
 ghost use Rattle.iface_context.specs.Stands.{host_of};
 
 use crate::hops::group_address_v6;
 use host_machine::DispatchError;
-use icmpv6_wire::{Icmpv6Repr, NdiscRepr};
+use control_wire::{Icmpv6Repr, NdiscRepr};
 use iface_context::context::Context;
 use iface_context::identification::take_id;
 use iface_context::neighbors::limit_rate;
-use iface_packet::packet::{AnyPacket, Packet, PacketV6, emit_arp, emit_link_header};
-use iface_packet::payload::IpPayload;
+use iface_context::packet::{AnyPacket, Packet, PacketV6, emit_arp, emit_link_header};
+use iface_context::payload::IpPayload;
 use ip_wire::emit::FrameBuffer;
 use ip_wire::{
     ArpOperation, ArpRepr, EthernetAddress, HardwareAddress, IpAddress, Ipv4Address, Ipv6Address,

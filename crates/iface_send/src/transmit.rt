@@ -3,14 +3,14 @@ ghost use Rattle.std.specs.Prelude.{◌≡◌, Some, true};
 ghost use Rattle.host_machine.specs.Packet.Frame.{frames_in, sends};
 ghost use Rattle.host_machine.specs.Context.Host.{no_sockets};
 ghost use Rattle.host_machine.specs.Packet.Packet.{IsWritable};
-ghost use Rattle.iface_packet.specs.PacketValues as value_of;
+ghost use Rattle.iface_context.specs.PacketValues as value_of;
 ghost use Rattle.iface_context.specs.Stands.{host_of};
 ghost use Rattle.iface_send.specs.Offered.{HasPart, IsOffered};
 ghost use Rattle.iface_context.specs.Refines.{RefinesTelling};
 
 use crate::dispatch::dispatch;
 use iface_context::context::Context;
-use iface_packet::Packet;
+use iface_context::Packet;
 use ip_wire::emit::FrameBuffer;
 use net_base::phy::{Device, PacketMeta};
 use sockets::SocketContext;

@@ -6,7 +6,7 @@ use Rattle.std.specs.Option.{option_and_then}
 use Rattle.net_base.specs.Device.{Event}
 use Rattle.fragmentation.specs.Slots.{Slots}
 use Rattle.ip_address.specs.declared.ip.IpAddress.{IpAddress}
-use Rattle.socket_base.specs.declared.poll_at.PollAt.{PollAt}
+use Rattle.sockets.specs.declared.poll_at.PollAt.{PollAt}
 use Rattle.sockets.specs.Kinds as kinds
 use Rattle.socket_set.specs.Alike.{waits_like}
 use Rattle.socket_set.specs.Busy.{IsIdle}

@@ -9,7 +9,7 @@ use Rattle.net_base.specs.Device.{Event, Asked}
 use Rattle.fragmentation.specs.Slots.{Slots}
 use Rattle.sockets.specs.Kinds.{Offered, socket_after_told}
 use Rattle.sockets.specs.Kinds as kinds
-use Rattle.socket_base.specs.declared.poll_at.PollAt.TheVariants.{Ingress}
+use Rattle.sockets.specs.declared.poll_at.PollAt.TheVariants.{Ingress}
 use Rattle.host_machine.proofs.Sockets.QuietSockets.{socket_quiet}
 use Rattle.ip_address.specs.declared.ip.IpAddress.{IpAddress}
 use Rattle.socket_set.specs.Busy.{IsIdle}

@@ -2,21 +2,21 @@
 ghost use Rattle.std.specs.Prelude.{◌≡◌, ◌<◌, Some, IfSome};
 ghost use Rattle.std.specs.Option.{option_map};
 ghost use Rattle.sockets.specs.Kinds as kinds;
-ghost use Rattle.network_sockets.specs.Icmp as icmp;
+ghost use Rattle.sockets.specs.Icmp as icmp;
 ghost use Rattle.host_machine.specs.Context.Host.{Socket};
 ghost use Rattle.host_machine.specs.Sockets.Icmp as icmp_rules;
 ghost use Rattle.host_machine.specs.Sockets.Offers as offers_rules;
 ghost use Rattle.host_machine.specs.Packet.Packet.{IsWritable, IsWritablePayload};
-ghost use Rattle.iface_packet.specs.PacketValues as value_of;
+ghost use Rattle.iface_context.specs.PacketValues as value_of;
 ghost use Rattle.iface_context.specs.Refines.{RefinesTelling};
 ghost use Rattle.iface_sockets.specs.Turns.{HasTurn};
 
 use crate::offers::{outcome, packet_between, send_if};
 use control_wire::{IcmpRepr, Icmpv4Repr};
 use host_machine::Turn;
-use icmpv6_wire::Icmpv6Repr;
+use control_wire::Icmpv6Repr;
 use iface_context::Context;
-use iface_packet::{IpPayload, Packet};
+use iface_context::{IpPayload, Packet};
 use ip_wire::emit::FrameBuffer;
 use net_base::phy::Device;
 use sockets::{SocketContext, icmp};

@@ -3,13 +3,13 @@ ghost use Rattle.std.specs.Prelude.{◌≡◌, ◌<◌, Some, IfSome};
 ghost use Rattle.std.specs.Option.{option_map};
 ghost use Rattle.host_machine.specs.Sockets.Offers as egress;
 ghost use Rattle.host_machine.specs.Packet.Packet.{IsWritable, IsWritablePayload};
-ghost use Rattle.iface_packet.specs.PacketValues as value_of;
+ghost use Rattle.iface_context.specs.PacketValues as value_of;
 ghost use Rattle.iface_context.specs.Refines.{RefinesTelling};
 ghost use Rattle.iface_sockets.specs.Turns.{OfferHasTurn, outcome_of};
 
 use host_machine::Turn;
 use iface_context::Context;
-use iface_packet::{AnyPacket, IpPayload, Packet, PacketV4, PacketV6};
+use iface_context::{AnyPacket, IpPayload, Packet, PacketV4, PacketV6};
 use iface_send::dispatch::dispatch;
 use iface_send::transmit::send_frame;
 use ip_wire::IpAddress;

@@ -11,16 +11,16 @@ ghost use Rattle.iface_context.specs.Refines.{RefinesReplying, RefinesBuilding, 
 ghost use Rattle.iface_sockets.specs.Segment.{IsTaken};
 ghost use Rattle.iface_context.specs.Stands.{host_of};
 ghost use Rattle.sockets.specs.Kinds as kinds;
-ghost use Rattle.transport_sockets.specs.Tcp as tcp;
+ghost use Rattle.sockets.specs.Tcp as tcp;
 ghost use Rattle.host_machine.specs.Packet.Packet.{IsWritable};
-ghost use Rattle.iface_packet.specs.PacketValues as value_of;
+ghost use Rattle.iface_context.specs.PacketValues as value_of;
 ghost use Rattle.iface_sockets.specs.Turns.{HasTurn};
 
 use crate::offers::{outcome, packet_between, send_if};
 use host_machine::Turn;
 use iface_context::Context;
-use iface_packet::payload::Segment;
-use iface_packet::{IpPayload, Packet, PacketV4, PacketV6};
+use iface_context::payload::Segment;
+use iface_context::{IpPayload, Packet, PacketV4, PacketV6};
 use iface_send::dispatch::dispatch;
 use ip_wire::emit::FrameBuffer;
 use ip_wire::{IpRepr, TcpControl, TcpRepr};

@@ -1,10 +1,10 @@
 //! The turns of sockets: each socket that isn't waiting is asked for a packet in order, until the device grants no
 //! transmit token.
 ghost use Rattle.std.specs.Prelude.{◌≡◌, ℕ, ◌<◌, ◌≤◌, ◌^◌, length, Some, IfSome};
-ghost use Rattle.network_sockets.specs.Icmp as icmp;
-ghost use Rattle.network_sockets.specs.Raw as raw;
-ghost use Rattle.transport_sockets.specs.Tcp as tcp;
-ghost use Rattle.transport_sockets.specs.Udp as udp;
+ghost use Rattle.sockets.specs.Icmp as icmp;
+ghost use Rattle.sockets.specs.Raw as raw;
+ghost use Rattle.sockets.specs.Tcp as tcp;
+ghost use Rattle.sockets.specs.Udp as udp;
 ghost use Rattle.net_base.specs.Time.{IsMoment};
 ghost use Rattle.socket_set.specs.SocketSet.{socket_at, wait_at, with_place, with_wait};
 ghost use Rattle.fragmentation.specs.Slots.{Slots};

@@ -3,15 +3,15 @@ use Rattle.std.specs.Prelude.{ℕ, ℤ, ◌≡◌, ◌==◌, ◌&&◌, ◌||◌,
 use Rattle.ip_address.specs.Ip.{is_unicast}
 use Rattle.ip_address.specs.declared.ip.IpAddress.{IpAddress}
 use Rattle.ip_address.specs.declared.ip.IpAddress.TheVariants.{Ipv4, Ipv6}
-use Rattle.socket_base.specs.declared.endpoint.IpEndpoint.{IpEndpoint}
-use Rattle.socket_base.specs.declared.endpoint.IpListenEndpoint.{IpListenEndpoint}
+use Rattle.sockets.specs.declared.endpoint.IpEndpoint.{IpEndpoint}
+use Rattle.sockets.specs.declared.endpoint.IpListenEndpoint.{IpListenEndpoint}
 use Rattle.tcp_host.specs.Table.{IsNowhere, IsPlaceOf}
 use Rattle.tcp_host.specs.declared.iss.Endpoints.{Endpoints}
-use Rattle.tcp_streams.specs.Handles as handles
-use Rattle.tcp_streams.specs.Handles.{accepting, is_listener, listener_closed, listening, opened_at}
-use Rattle.tcp_streams.specs.Host as streams
-use Rattle.tcp_streams.specs.Host.{IsFreePlace}
-use Rattle.tcp_streams.specs.declared.calls.Handle.{Handle}
+use Rattle.tcp_host.specs.TcpStreams.Handles as handles
+use Rattle.tcp_host.specs.TcpStreams.Handles.{accepting, is_listener, listener_closed, listening, opened_at}
+use Rattle.tcp_host.specs.TcpStreams.Host as streams
+use Rattle.tcp_host.specs.TcpStreams.Host.{IsFreePlace}
+use Rattle.tcp_host.specs.declared.calls.Handle.{Handle}
 use Rattle.iface_host.specs.Calls.{source_for}
 use Rattle.iface_host.specs.Refusals.{moment_refusal}
 use Rattle.iface_host.specs.TableRefusals.{first_reason}

@@ -2,7 +2,7 @@
 use Rattle.std.specs.Prelude.{ℕ, ◌-◌, ◌/◌, ◌&&◌, ◌||◌, nat_le, min, Bool, true, false}
 use Rattle.std.specs.Int.Count.{count_leading_zeros}
 use Rattle.iface_host.specs.declared.opening.Rooms.{Rooms}
-use Rattle.tcp_streams.specs.declared.config.Config.{Config}
+use Rattle.tcp_host.specs.declared.config.Config.{Config}
 use Rattle.iface_streams.specs.declared.settings.StreamSettings.{StreamSettings}
 
 -- there are from 1 to 2^30 connections, with at most as many octets each way, over IPv4 or IPv6 or both

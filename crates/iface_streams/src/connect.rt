@@ -6,7 +6,7 @@ ghost use Rattle.iface_host.specs.declared.refusal.Refusal.TheVariants.{Empty, N
 ghost use Rattle.iface_streams.specs.Connect as spec;
 ghost use Rattle.iface_streams.specs.declared.connect.ConnectRefusal.TheVariants.{InUse, Refused};
 ghost use Rattle.tcp_host.specs.Table.{IsPlaceOf};
-ghost use Rattle.tcp_streams.specs.Host.{IsFreePlace};
+ghost use Rattle.tcp_host.specs.TcpStreams.Host.{IsFreePlace};
 
 use crate::streams::Streams;
 use iface_host::streams::micros_of;
@@ -15,7 +15,7 @@ use ip_wire::IpAddress;
 use sockets::{IpEndpoint, IpListenEndpoint};
 use std::alloc::Global;
 use tcp_host::iss::Endpoints;
-use tcp_streams::calls::{ConnectError, Handle};
+use tcp_host::calls::{ConnectError, Handle};
 
 /// Why a connection isn't opened.
 #[derive(Clone, Copy, Debug, PartialEq, Eq)]

@@ -1,4 +1,4 @@
-//! Connections of TCP (crate `tcp_streams`) for a host (crate `iface_host`): they have raw sockets of the host, and are polled
+//! Connections of TCP (crate `tcp_host`) for a host (crate `iface_host`): they have raw sockets of the host, and are polled
 //! over its addresses.
 //!
 //! Each call is done, or refused; then nothing changes, unless it says so.

@@ -6,7 +6,7 @@ ghost use Rattle.iface_streams.specs.Calls as spec;
 
 use crate::streams::Streams;
 use iface_host::Refusal;
-use tcp_streams::calls::Handle;
+use tcp_host::calls::Handle;
 
 impl Streams {
     /// Short segments wait while something is unacknowledged, or don't (RFC 9293 3.7.4).

@@ -14,7 +14,7 @@ use net_base::phy::Checksum;
 use sockets::raw;
 use std::alloc::Global;
 use tcp_sockets::{SocketPair, TcpSockets, far_socket, near_socket};
-use tcp_streams::host::TcpHost;
+use tcp_host::host::TcpHost;
 
 /// Connections of a host.
 #[derive(Drop)]

@@ -7,3 +7,8 @@ pub mod RouteMaskLemmas
 pub mod RouteTrieLemmas
 pub mod RouteWalkLemmas
 pub mod SortedLemmas
+pub mod SlaacLemmas
+pub mod SyncLemmas
+pub mod GroupsCounts
+pub mod GroupsLaws
+pub mod GroupsLemmas

@@ -7,3 +7,6 @@ pub mod RouteNodes
 pub mod RouteTrie
 pub mod Store
 pub mod StoreLends
+pub mod Slaac
+pub mod Sync
+pub mod Groups

@@ -1,4 +1,4 @@
-use group_table::groups::{GroupState, GroupTableFull, Groups};
+use iface_tables::groups::{GroupState, GroupTableFull, Groups};
 use ip_address::{IpAddress, Ipv4Address, Ipv6Address};
 use std::test::Fail;
 

@@ -1,9 +1,25 @@
-//! The tests of `iface_tables` and `group_table`.
+//! Tests of tables, of fragments and of the guard.
 #![tactic(auto)]
 
 #[cfg(test)]
+mod answers;
+#[cfg(test)]
+mod fragmenter;
+#[cfg(test)]
+mod frames;
+#[cfg(test)]
 mod groups;
+#[cfg(test)]
+mod learning;
 #[cfg(test)]
 mod neighbor;
 #[cfg(test)]
+mod reassembly;
+#[cfg(test)]
 mod route;
+#[cfg(test)]
+mod rules;
+#[cfg(test)]
+mod strangers;
+#[cfg(test)]
+mod syncing;

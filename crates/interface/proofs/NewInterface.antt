@@ -5,8 +5,8 @@ use Rattle.std.proofs.lemmas.Bool.Decides.{nat_tests}
 use Rattle.net_base.specs.declared.phy.DeviceCapabilities.{DeviceCapabilities}
 use Rattle.net_base.specs.Checksum.{ip_mtu_of}
 use Rattle.net_base.specs.Rand.{next}
-use Rattle.group_table.specs.declared.report.IgmpReportState.TheVariants as igmp
-use Rattle.group_table.specs.declared.report.MldReportState.TheVariants as mld
+use Rattle.iface_tables.specs.declared.report.IgmpReportState.TheVariants as igmp
+use Rattle.iface_tables.specs.declared.report.MldReportState.TheVariants as mld
 use Rattle.ip_address.specs.declared.hardware.HardwareAddress.{HardwareAddress}
 use Rattle.net_base.specs.declared.phy.Medium.{Medium}
 use Rattle.net_base.specs.declared.phy.Medium.TheVariants as medium
@@ -20,7 +20,7 @@ use Rattle.host_machine.specs.Context.Host.{SocketSet, with_slots}
 use Rattle.iface_context.specs.declared.context.Context.{Context}
 use Rattle.iface_context.specs.Stands.{host_of}
 use Rattle.iface_context.specs.Refines.{StandsFor}
-use Rattle.slaac.specs.Slaac.{initial_state}
+use Rattle.iface_tables.specs.Slaac.{initial_state}
 use Rattle.iface_tables.specs.Neighbor.{first_neighbors}
 use Rattle.host_machine.specs.Interface.Config.{refusal_of, same_medium, first_host, first_id}
 

@@ -2,9 +2,9 @@
 use Rattle.std.proofs.Common.{◌≡◌, ℕ, Bool, true, false, List, Ok, Err, refl, ap, sym, ◌∙◌}
 use Rattle.std.specs.Prelude.{Result}
 use Rattle.ip_address.specs.declared.ip.IpAddress.{IpAddress}
-use Rattle.group_table.specs.declared.groups.Group.{Group}
-use Rattle.group_table.specs.declared.groups.GroupTableFull.{GroupTableFull}
-use Rattle.group_table.specs.Groups.{done_or_full, is_refused}
+use Rattle.iface_tables.specs.declared.groups.Group.{Group}
+use Rattle.iface_tables.specs.declared.groups.GroupTableFull.{GroupTableFull}
+use Rattle.iface_tables.specs.Groups.{done_or_full, is_refused}
 use Rattle.iface_tables.specs.declared.route.Route.{Route}
 use Rattle.iface_tables.specs.Store.{Stored}
 use Rattle.fragmentation.specs.declared.key.FragKey.{FragKey}

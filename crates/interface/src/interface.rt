@@ -94,7 +94,7 @@ impl Interface {
     ghost use Rattle.host_machine.specs.Context.Host.{Storage};
     ghost use Rattle.host_machine.specs.Context.Host as host;
     ghost use Rattle.host_machine.specs.Context.Addresses as addresses;
-    ghost use Rattle.address_selection.specs.Ipv6 as selection;
+    ghost use Rattle.ip_address.specs.AddressSelection.Ipv6 as selection;
     ghost use Rattle.host_machine.specs.Interface.Config.{refusal_of, first_host};
     ghost use Rattle.host_machine.specs.Interface.Ingress.{Ingress};
     ghost use Rattle.std.specs.Prelude.{ℤ};

@@ -6,11 +6,11 @@ use Rattle.net_base.specs.TracedEvents.{Traces}
 use Rattle.host_machine.specs.declared.command.Command.{Command}
 use Rattle.host_machine.specs.declared.command.Answer.{Answer}
 use Rattle.host_machine.specs.Context.Host.{Host, SocketSet}
-use Rattle.machine_laws.specs.Laws.Order.{IsAmong, NoneOfNone, OneOf, NotThis}
-use Rattle.machine_laws.specs.Laws.Requests.{requests_at, sent_at}
-use Rattle.machine_laws.specs.Laws.Ran.{Ran}
+use Rattle.host_laws.specs.Laws.Order.{IsAmong, NoneOfNone, OneOf, NotThis}
+use Rattle.host_laws.specs.Laws.Requests.{requests_at, sent_at}
+use Rattle.host_laws.specs.Laws.Ran.{Ran}
 use Rattle.host_machine.specs.Interface.Run.{Transition, AreSpaced, acts_in, events_in}
-use Rattle.machine_laws.proofs.Runs.Walk.{sent_frames-append}
+use Rattle.host_laws.proofs.Runs.Walk.{sent_frames-append}
 use Rattle.host_laws.specs.Deliveries.{Delivery}
 use Rattle.host_laws.specs.Departures.{Departure, Way, Dropped, InOneFrame, InPieces, frames_by, frames_of}
 use Rattle.host_laws.specs.Datagrams.{KeepsQueues, Move, RunsKeepQueues, Still, OneTransition}

@@ -3,8 +3,8 @@ use Rattle.std.specs.Prelude.{◌≡◌, ℕ, pos, List, [], option_map}
 use Rattle.std.specs.List.{AllByRecursion}
 use Rattle.net_base.specs.Device.{Event, sent_frames}
 use Rattle.host_machine.specs.Context.Host.{Host}
-use Rattle.machine_laws.specs.Laws.Order.{IsAmong}
-use Rattle.machine_laws.specs.Laws.Requests.{NoSocketSpeaks, requests_at, sent_at}
+use Rattle.host_laws.specs.Laws.Order.{IsAmong}
+use Rattle.host_laws.specs.Laws.Requests.{NoSocketSpeaks, requests_at, sent_at}
 use Rattle.host_machine.specs.Interface.Run.{Transition, Run, AreSpaced, acts_in, events_in}
 use Rattle.host_laws.specs.Deliveries.{Delivery, to_index, udp_at}
 use Rattle.host_laws.specs.Departures.{Departure, frames_of, from_index}

@@ -1,11 +1,12 @@
-//! Tests of an interface that aren't scenes: lists of commands, storms of frames, what errors print, and that scenes can
-//! fail.
+//! Tests of the interface and of lists of calls.
 #![tactic(auto)]
 
 #[cfg(test)]
 mod commands;
 #[cfg(test)]
 mod errors;
+#[cfg(test)]
+mod host_tests;
 #[cfg(test)]
 mod hostile;
 #[cfg(test)]

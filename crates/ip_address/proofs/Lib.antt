@@ -3,3 +3,4 @@ pub mod CommonBits
 pub mod LastAddress
 pub mod LongestRun
 pub mod SixOctets
+pub mod Best

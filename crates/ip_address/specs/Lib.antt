@@ -8,3 +8,4 @@ pub mod Ipv6Text
 pub mod LinkPrefix
 pub mod Prefixes
 pub mod Protocol
+pub mod AddressSelection

@@ -1,6 +1,7 @@
-//! IP addresses and networks of both families, hardware addresses, and the protocol numbers of IP.
+//! Addresses, networks, numbers of protocols, and the source for an IPv6 destination.
 #![tactic(auto)]
 
+pub mod address_selection;
 pub mod cidr;
 pub mod ethernet_address;
 pub mod hardware;

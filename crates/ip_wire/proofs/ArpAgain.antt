@@ -3,13 +3,13 @@ use Rattle.std.proofs.Common.{◌≡◌, ℕ, ◌+◌, ◌*◌, ◌/◌, ◌%◌
 use Rattle.std.proofs.Common.{List, [], ◌∷◌, ◌++◌, length, get_or, take, drop, refl, sym, ap, ◌∙◌, arith}
 use Rattle.std.specs.Int.{w16, w32, to_be_bytes}
 use Rattle.std.proofs.Math.Seq.{take-add}
-use Rattle.wire_base.specs.Octets.{u16_at}
+use Rattle.ip_wire.specs.Octets.{u16_at}
 use Rattle.ip_wire.specs.declared.arp.ArpOperation.{ArpOperation}
 use Rattle.ip_wire.specs.declared.arp.ArpOperation.TheVariants.{Request, Reply}
 use Rattle.ip_wire.specs.declared.arp.ArpRepr.{ArpRepr}
 use Rattle.ip_wire.specs.Arp.{number_of, IsArp, arp_in, ipv4_over_ethernet, ReadAgain, WrittenAgain}
 use Rattle.ip_address.proofs.SixOctets.{Six, six}
-use Rattle.wire_base.proofs.OctetCells.{cells, take-cells, two_octets, four_octets}
+use Rattle.ip_wire.proofs.OctetCells.{cells, take-cells, two_octets, four_octets}
 
 number : (n : ℕ) → n < 2 ^ 32 → n / 16777216 % 256 * 16777216 + n / 65536 % 256 * 65536 + n / 256 % 256 * 256 + n % 256 ≡ n
 number n lt = omega arith

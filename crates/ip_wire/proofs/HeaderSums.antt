@@ -3,9 +3,9 @@ use Rattle.std.proofs.Common.{◌≡◌, ℕ, ◌+◌, ◌*◌, ◌/◌, ◌%◌
 use Rattle.ip_address.specs.Protocol.{number_of}
 use Rattle.ip_wire.specs.declared.ipv4_packet.Ipv4Repr.{Ipv4Repr}
 use Rattle.ip_wire.specs.declared.ipv4_packet.Ipv4Fragment.{Ipv4Fragment}
-use Rattle.wire_base.specs.Checksum.{folded_sum, word_sum}
+use Rattle.ip_wire.specs.Checksum.{folded_sum, word_sum}
 use Rattle.ip_wire.specs.Ipv4Packet.{back, fragment_word, front, header_with}
-use Rattle.wire_base.proofs.Sums.{folded_shift}
+use Rattle.ip_wire.proofs.Sums.{folded_shift}
 
 -- a number of two words, and one of one word
 two_words : (n : ℕ) → n < 2 ^ 32 → n / 16777216 % 256 * 256 + n / 65536 % 256 + (n / 256 % 256 * 256 + n % 256) ≡ n / 65536 + n % 65536

@@ -4,13 +4,13 @@ use Rattle.std.proofs.Common.{IsTrue, List, ◌++◌, length, refl, ap, eqb, len
 use Rattle.std.specs.Prelude.{slice_range}
 use Rattle.std.proofs.lemmas.Nat.{from_be_bytes-to_be_bytes_4}
 use Rattle.std.proofs.lemmas.List.{take_at}
-use Rattle.wire_base.specs.Checksum.{folded_sum, word_sum}
+use Rattle.ip_wire.specs.Checksum.{folded_sum, word_sum}
 use Rattle.ip_address.specs.Protocol.{protocol_of, number_of}
 use Rattle.ip_wire.specs.declared.ipv4_packet.Ipv4Repr.{Ipv4Repr}
 use Rattle.ip_wire.specs.declared.ipv4_packet.Ipv4Fragment.{Ipv4Fragment}
 use Rattle.ip_wire.specs.Ipv4Packet.{IsHeader, header_in, fragment_in, front, back, header_with}
 use Rattle.ip_wire.specs.Ipv4Packet.{fragment_word, header_text, total_len, IsQuoted, quoted_in, ReadAgain}
-use Rattle.wire_base.proofs.Sums.{checksum-sums_up}
+use Rattle.ip_wire.proofs.Sums.{checksum-sums_up}
 
 bit_14 : (d m : Bool) (n : ℕ) → n < 0x2000 → eqb ((cond d 0x4000 0 + cond m 0x2000 0 + n) / 0x4000 % 2) 1 ≡ d
 bit_14 true true n lt = let e : (0x4000 + 0x2000 + n) / 0x4000 % 2 ≡ 1 = omega arith in ap (λ (k : ℕ). eqb k 1) e

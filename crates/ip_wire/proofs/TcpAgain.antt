@@ -2,17 +2,17 @@
 use Rattle.std.proofs.Common.{◌≡◌, ℕ, ◌+◌, ◌-◌, ◌<◌, ◌^◌, true, cond, eqb, List, ◌++◌, length, refl, sym, ap, ◌∙◌, arith}
 use Rattle.std.specs.Prelude.{Option, Some, None}
 use Rattle.std.proofs.lemmas.Nat.{from_be_bytes-to_be_bytes_4}
-use Rattle.wire_base.specs.Checksum.{folded_sum, word_sum}
-use Rattle.wire_base.specs.Octets.{u16_at}
-use Rattle.wire_base.specs.Pseudo.{pseudo}
+use Rattle.ip_wire.specs.Checksum.{folded_sum, word_sum}
+use Rattle.ip_wire.specs.Octets.{u16_at}
+use Rattle.ip_wire.specs.Pseudo.{pseudo}
 use Rattle.ip_address.specs.declared.ip.IpAddress.{IpAddress}
 use Rattle.ip_wire.specs.declared.tcp.TcpControl.{TcpControl}
 use Rattle.ip_wire.specs.declared.tcp.TcpControl.TheVariants as control
 use Rattle.ip_wire.specs.declared.tcp.TcpSeqNumber.{TcpSeqNumber}
 use Rattle.ip_wire.specs.declared.tcp.TcpRepr.{TcpRepr}
 use Rattle.ip_wire.specs.Tcp.{ack, IsControl, control_of, flags_of, ack_flag, ack_bits, header_with, text, ReadAgain}
-use Rattle.wire_base.proofs.Sums.{summed_up}
-use Rattle.wire_base.proofs.Pseudos.{header_words}
+use Rattle.ip_wire.proofs.Sums.{summed_up}
+use Rattle.ip_wire.proofs.Pseudos.{header_words}
 use Rattle.ip_wire.proofs.Ipv4Again.{total}
 
 -- a header's checksum is one of its words

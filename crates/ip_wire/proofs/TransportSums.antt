@@ -2,10 +2,10 @@
 use Rattle.std.proofs.Common.{◌≡◌, ℕ, zero, suc, ◌+◌, ◌-◌, ◌*◌, ◌<◌, ◌^◌, List, ◌++◌, length, refl, sym, ap, ◌∙◌, Bool, true, false, cond, eqb, arith}
 use Rattle.std.proofs.lemmas.Bool.{eqb-true}
 use Rattle.ip_address.specs.declared.ip.IpAddress.{IpAddress}
-use Rattle.wire_base.specs.Checksum.{folded_sum, word_sum, checksum_of}
-use Rattle.wire_base.specs.Pseudo.{pseudo}
-use Rattle.wire_base.proofs.Pseudos.{after, parts}
-use Rattle.wire_base.proofs.Sums.{folded_sum-more, summed_up}
+use Rattle.ip_wire.specs.Checksum.{folded_sum, word_sum, checksum_of}
+use Rattle.ip_wire.specs.Pseudo.{pseudo}
+use Rattle.ip_wire.proofs.Pseudos.{after, parts}
+use Rattle.ip_wire.proofs.Sums.{folded_sum-more, summed_up}
 use Rattle.ip_wire.specs.Tcp as tcp
 use Rattle.ip_wire.specs.Udp as udp
 use Rattle.ip_wire.specs.Udp.{not_zero}

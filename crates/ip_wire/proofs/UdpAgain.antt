@@ -2,14 +2,14 @@
 use Rattle.std.proofs.Common.{◌≡◌, ℕ, ◌+◌, ◌-◌, ◌<◌, ◌^◌, Bool, true, false, cond, eqb, List, ◌++◌, length, refl, sym, ap, ◌∙◌, length-append, arith}
 use Rattle.std.specs.Prelude.{take, slice_range}
 use Rattle.std.proofs.lemmas.List.{take_at}
-use Rattle.wire_base.specs.Checksum.{folded_sum, word_sum}
-use Rattle.wire_base.specs.Octets.{u16_at}
-use Rattle.wire_base.specs.Pseudo.{pseudo}
+use Rattle.ip_wire.specs.Checksum.{folded_sum, word_sum}
+use Rattle.ip_wire.specs.Octets.{u16_at}
+use Rattle.ip_wire.specs.Pseudo.{pseudo}
 use Rattle.ip_address.specs.declared.ip.IpAddress.{IpAddress}
 use Rattle.ip_wire.specs.declared.udp.UdpRepr.{UdpRepr}
 use Rattle.ip_wire.specs.Udp.{header_with, not_zero, text, udp_len, ReadAgain}
 use Rattle.ip_wire.proofs.TransportSums.{summed_up_not_zero}
-use Rattle.wire_base.proofs.Pseudos.{header_words}
+use Rattle.ip_wire.proofs.Pseudos.{header_words}
 use Rattle.ip_wire.proofs.Ipv4Again.{total}
 
 -- a header's checksum is one of its words

@@ -2,7 +2,7 @@
 use Rattle.std.specs.Prelude.{◌≡◌, ℕ, ◌≤◌, ◌<◌, ◌^◌, ◌⊎◌, ◌==◌, List, [], ◌∷◌}
 use Rattle.std.specs.Prelude.{◌++◌, length, take, slice_index, if◌then◌else◌}
 use Rattle.std.specs.Int.{w16, w32, to_be_bytes}
-use Rattle.wire_base.specs.Octets.{u16_at, u32_at, AreOctets}
+use Rattle.ip_wire.specs.Octets.{u16_at, u32_at, AreOctets}
 use Rattle.ip_wire.specs.Ethernet.{address_at}
 use Rattle.ip_wire.specs.declared.arp.ArpOperation.{ArpOperation}
 use Rattle.ip_wire.specs.declared.arp.ArpOperation.TheVariants.{Request, Reply}

@@ -2,7 +2,7 @@
 use Rattle.std.specs.Prelude.{◌≡◌, ℕ, ◌+◌, ◌<◌, ◌≤◌, ◌^◌, ◌==◌, Bool, List}
 use Rattle.std.specs.Prelude.{◌++◌, length, drop, slice_range, if◌then◌else◌}
 use Rattle.std.specs.Borrow.{Bor}
-use Rattle.wire_base.specs.Octets.{u16_at, AreOctets}
+use Rattle.ip_wire.specs.Octets.{u16_at, AreOctets}
 use Rattle.std.specs.Int.{w16, to_be_bytes}
 use Rattle.ip_address.specs.declared.ethernet_address.EthernetAddress.{EthernetAddress}
 use Rattle.ip_wire.specs.declared.ethernet.EthernetProtocol.{EthernetProtocol}

@@ -5,7 +5,7 @@ use Rattle.ip_address.specs.declared.ip.IpAddress.TheVariants as address
 use Rattle.ip_address.specs.declared.protocol.IpProtocol.{IpProtocol}
 use Rattle.ip_address.specs.declared.protocol.IpVersion.{IpVersion}
 use Rattle.ip_address.specs.declared.protocol.IpVersion.TheVariants as version
-use Rattle.ipv6_wire.specs.Ipv6Packet as ipv6
+use Rattle.ip_wire.specs.Ipv6Packet as ipv6
 use Rattle.ip_wire.specs.Ipv4Packet as ipv4
 use Rattle.ip_wire.specs.declared.ip_packet.IpRepr.{IpRepr}
 use Rattle.ip_wire.specs.declared.ip_packet.IpRepr.TheVariants.{Ipv4, Ipv6}

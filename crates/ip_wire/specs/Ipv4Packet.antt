@@ -3,8 +3,8 @@ use Rattle.std.specs.Prelude.{◌≡◌, ℕ, ◌+◌, ◌-◌, ◌*◌, ◌/◌
 use Rattle.std.specs.Prelude.{IsTrue, List, [], ◌∷◌, ◌++◌, length, take, drop, slice_index, slice_range, if◌then◌else◌}
 use Rattle.std.specs.Borrow.{Bor}
 use Rattle.std.specs.Int.{w16, w32, to_be_bytes}
-use Rattle.wire_base.specs.Checksum.{folded_sum, word_sum, checksum_of}
-use Rattle.wire_base.specs.Octets.{u16_at, u32_at}
+use Rattle.ip_wire.specs.Checksum.{folded_sum, word_sum, checksum_of}
+use Rattle.ip_wire.specs.Octets.{u16_at, u32_at}
 use Rattle.ip_address.specs.Protocol.{protocol_of, number_of}
 use Rattle.ip_wire.specs.declared.ipv4_packet.Ipv4Repr.{Ipv4Repr}
 use Rattle.ip_wire.specs.declared.ipv4_packet.Ipv4Fragment.{Ipv4Fragment}

@@ -1,3 +1,8 @@
+pub mod Checksum
+pub mod Octets
+pub mod Pseudo
+pub mod HopByHop
+pub mod Ipv6Packet
 pub mod Arp
 pub mod Ethernet
 pub mod IpPacket

@@ -3,10 +3,10 @@ use Rattle.std.specs.Prelude.{◌≡◌, ◌≢◌, ℕ, ◌+◌, ◌<◌, ◌�
 use Rattle.std.specs.Prelude.{IsTrue, List, ◌++◌, length, take, slice_range, if◌then◌else◌}
 use Rattle.std.specs.Borrow.{Bor}
 use Rattle.std.specs.Int.{w16, to_be_bytes}
-use Rattle.wire_base.specs.Checksum.{folded_sum, word_sum, checksum_of}
-use Rattle.wire_base.specs.Octets.{u16_at}
+use Rattle.ip_wire.specs.Checksum.{folded_sum, word_sum, checksum_of}
+use Rattle.ip_wire.specs.Octets.{u16_at}
 use Rattle.ip_address.specs.Protocol.{is_ipv4}
-use Rattle.wire_base.specs.Pseudo.{pseudo}
+use Rattle.ip_wire.specs.Pseudo.{pseudo}
 use Rattle.ip_address.specs.declared.ip.IpAddress.{IpAddress}
 use Rattle.ip_wire.specs.declared.udp.UdpRepr.{UdpRepr}
 

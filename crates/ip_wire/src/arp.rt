@@ -5,8 +5,8 @@ ghost use Rattle.ip_wire.specs.Arp as spec;
 
 use crate::ethernet::address_at;
 use ip_address::{EthernetAddress, Ipv4Address};
-use wire_base::emit::FrameBuffer;
-use wire_base::octets::{u16_at, u32_at};
+use crate::emit::FrameBuffer;
+use crate::octets::{u16_at, u32_at};
 
 /// The operation of an ARP packet.
 #[derive(Clone, Copy, Debug, PartialEq, Eq)]

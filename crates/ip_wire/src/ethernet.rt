@@ -6,8 +6,8 @@ ghost use Rattle.std.proofs.Common.{rules};
 ghost use Rattle.ip_wire.specs.Ethernet as spec;
 
 use ip_address::EthernetAddress;
-use wire_base::emit::FrameBuffer;
-use wire_base::octets::u16_at;
+use crate::emit::FrameBuffer;
+use crate::octets::u16_at;
 
 /// The length of a frame's header, in octets.
 pub const HEADER_LEN: usize = 14;

@@ -4,7 +4,7 @@ ghost use Rattle.ip_wire.specs.IpPacket as spec;
 
 use crate::ipv4_packet::Ipv4Repr;
 use ip_address::{IpAddress, IpProtocol, IpVersion};
-use ipv6_wire::Ipv6Repr;
+use crate::Ipv6Repr;
 
 /// The values of a packet's header, of either family.
 #[derive(Clone, Copy, Debug, PartialEq, Eq)]

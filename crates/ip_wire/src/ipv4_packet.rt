@@ -1,13 +1,13 @@
 //! IPv4 packets (RFC 791).
 ghost use Rattle.std.specs.Prelude.{◌≡◌, ◌+◌, ◌<◌, ◌≤◌, ◌^◌, ◌++◌, length};
 ghost use Rattle.std.specs.Option.{SomeIff, option_map};
-ghost use Rattle.wire_base.specs.Checksum.{folded_sum, word_sum};
+ghost use Rattle.ip_wire.specs.Checksum.{folded_sum, word_sum};
 ghost use Rattle.ip_wire.specs.Ipv4Packet as spec;
 
 use ip_address::{IpProtocol, Ipv4Address};
-use wire_base::checksum::{fold, sum_with};
-use wire_base::emit::FrameBuffer;
-use wire_base::octets::{u16_at, u32_at};
+use crate::checksum::{fold, sum_with};
+use crate::emit::FrameBuffer;
+use crate::octets::{u16_at, u32_at};
 
 /// The length of a header without options, in octets.
 pub const HEADER_LEN: usize = 20;

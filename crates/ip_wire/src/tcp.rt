@@ -1,16 +1,16 @@
 //! TCP segments (RFC 9293).
 ghost use Rattle.std.specs.Prelude.{◌≡◌, ◌==◌, ◌+◌, ◌<◌, ◌≤◌, ◌^◌, ◌++◌, length, slice_index, true};
 ghost use Rattle.std.specs.Option.{SomeIff, option_map};
-ghost use Rattle.wire_base.specs.Checksum.{folded_sum, word_sum};
-ghost use Rattle.wire_base.specs.Pseudo.{pseudo};
+ghost use Rattle.ip_wire.specs.Checksum.{folded_sum, word_sum};
+ghost use Rattle.ip_wire.specs.Pseudo.{pseudo};
 ghost use Rattle.ip_wire.specs.Tcp as spec;
 
 use ip_address::IpAddress;
 use std::fmt;
-use wire_base::checksum::{part_sum, sum_with};
-use wire_base::emit::FrameBuffer;
-use wire_base::octets::{u16_at, u32_at};
-use wire_base::pseudo::pseudo_sum;
+use crate::checksum::{part_sum, sum_with};
+use crate::emit::FrameBuffer;
+use crate::octets::{u16_at, u32_at};
+use crate::pseudo::pseudo_sum;
 
 /// The length of a header without options, in octets.
 pub const HEADER_LEN: usize = 20;

@@ -1,15 +1,15 @@
 //! UDP datagrams (RFC 768).
 ghost use Rattle.std.specs.Prelude.{◌≡◌, ◌==◌, ◌+◌, ◌<◌, ◌≤◌, ◌^◌, ◌++◌, length, true};
 ghost use Rattle.std.specs.Option.{SomeIff, option_map};
-ghost use Rattle.wire_base.specs.Checksum.{folded_sum, word_sum};
-ghost use Rattle.wire_base.specs.Pseudo.{pseudo};
+ghost use Rattle.ip_wire.specs.Checksum.{folded_sum, word_sum};
+ghost use Rattle.ip_wire.specs.Pseudo.{pseudo};
 ghost use Rattle.ip_wire.specs.Udp as spec;
 
 use ip_address::IpAddress;
-use wire_base::checksum::{long_sum_with, sum_with};
-use wire_base::emit::FrameBuffer;
-use wire_base::octets::u16_at;
-use wire_base::pseudo::pseudo_sum;
+use crate::checksum::{long_sum_with, sum_with};
+use crate::emit::FrameBuffer;
+use crate::octets::u16_at;
+use crate::pseudo::pseudo_sum;
 
 /// The length of a header, in octets.
 pub const HEADER_LEN: usize = 8;

@@ -2,8 +2,8 @@
 
 use crate::limits::Limits;
 use std::alloc::{AllocError, Global};
-use tcp_streams::calls::Handle;
-use tcp_streams::host::TcpHost;
+use tcp_host::calls::Handle;
+use tcp_host::host::TcpHost;
 
 /// The connections that a service has accepted, and the listener from which it accepts them.
 #[derive(Drop)]

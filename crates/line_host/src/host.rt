@@ -19,8 +19,8 @@ use std::io::Write;
 use tcp_host::sip_hash::SipKey;
 use tcp_machine::settings::Settings;
 use tcp_sockets::{SocketPair, TcpSockets, far_socket, near_socket};
-use tcp_streams::config::Config;
-use tcp_streams::host::TcpHost;
+use tcp_host::config::Config;
+use tcp_host::host::TcpHost;
 
 /// Its link: Ethernet, with frames of at most 1514 octets.
 const CAPABILITIES: DeviceCapabilities = DeviceCapabilities {

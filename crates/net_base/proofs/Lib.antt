@@ -3,3 +3,4 @@ pub mod MemoryMoves
 pub mod RangesLemmas
 pub mod Walks
 mod FifthRange
+pub mod BucketLemmas

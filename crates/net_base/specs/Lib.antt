@@ -12,3 +12,4 @@ pub mod RangesLaws
 pub mod Time
 pub mod TracedEvents
 pub mod TracerLaws
+pub mod Bucket

@@ -1,7 +1,8 @@
-//! The base of every layer: moments, random words, network devices and sets of covered offsets.
+//! The base of all layers: devices, time, random words, ranges of octets, and a rate.
 #![tactic(auto)]
 
 pub mod assembler;
+pub mod bucket;
 pub mod driver;
 pub mod instants;
 pub mod memory_device;

@@ -8,10 +8,10 @@ use Rattle.host_machine.specs.Context.Real.{IsRegular}
 use Rattle.host_machine.specs.Context.Host.{Host}
 use Rattle.host_machine.specs.Interface.Step.{Step}
 use Rattle.host_machine.specs.Interface.Run.{Transition, Run, Ends, Then, events_in}
-use Rattle.machine_laws.proofs.Runs.Walk.{sent_frames-append}
-use Rattle.machine_laws.proofs.Receive.SlotEffects.{handed_frames-append}
+use Rattle.host_laws.proofs.Runs.Walk.{sent_frames-append}
+use Rattle.host_laws.proofs.Receive.SlotEffects.{handed_frames-append}
 use Rattle.host_machine.proofs.Receive.Pieces.{IsIn, contains_in, in_left, in_right}
-use Rattle.machine_laws.proofs.Interface.RunConcatenation.{run_laws}
+use Rattle.host_laws.proofs.Interface.RunConcatenation.{run_laws}
 use Rattle.host_laws.specs.Network.{IsHost, SendsBySockets, SentBySome, WereSentBySome}
 use Rattle.interface.specs.Stands.{StandsFor}
 use Rattle.host.specs.declared.link.Host.{Host as Linked}

@@ -4,8 +4,8 @@ use Rattle.std.specs.List.{AllByRecursion, slice_get}
 use Rattle.host_machine.specs.declared.command.Answer.{Answer}
 use Rattle.host_machine.specs.Context.Host.{Host}
 use Rattle.host_machine.specs.Context.Real.{IsRegular}
-use Rattle.machine_laws.specs.Laws.Ran.{Laws}
-use Rattle.machine_laws.specs.Laws.TwoHosts.{WereSent}
+use Rattle.host_laws.specs.Laws.Ran.{Laws}
+use Rattle.host_laws.specs.Laws.TwoHosts.{WereSent}
 use Rattle.host_machine.specs.Interface.Run.{Run}
 use Rattle.host_laws.specs.Datagrams.{KeepsDatagrams}
 use Rattle.host_laws.specs.PingsInRuns.{PingsReturn}

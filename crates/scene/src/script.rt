@@ -57,7 +57,7 @@ use interface::{
 use ip_wire::{HardwareAddress, IpAddress};
 use net_base::phy::{ChecksumCapabilities, Device, DeviceCapabilities};
 use net_base::time::{Duration, Instant};
-use slaac::Phase;
+use iface_tables::Phase;
 use std::alloc::Global;
 
 /// What came of a script.

@@ -1,8 +1,8 @@
 -- The sockets of a script's host.
 use Rattle.std.specs.Prelude.{ℕ, [], None}
-use Rattle.socket_base.specs.declared.endpoint.IpEndpoint.{IpEndpoint}
-use Rattle.socket_base.specs.Queue.{Queued}
-use Rattle.transport_sockets.specs.Udp.{UdpSocket}
+use Rattle.sockets.specs.declared.endpoint.IpEndpoint.{IpEndpoint}
+use Rattle.sockets.specs.Queue.{Queued}
+use Rattle.sockets.specs.Udp.{UdpSocket}
 
 -- an empty queue for four packets with 4,096 octets in total
 abbrev pub empty_queue : Queued IpEndpoint

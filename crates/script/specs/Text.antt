@@ -13,7 +13,7 @@ use Rattle.ip_address.specs.declared.ipv4.Ipv4Address.{Ipv4Address}
 use Rattle.ip_address.specs.declared.ipv6.Ipv6Address.{Ipv6Address}
 use Rattle.ip_address.specs.declared.cidr.IpCidr.{IpCidr}
 use Rattle.ip_address.specs.Ipv4.{address_of}
-use Rattle.ipv6_wire.specs.Ipv6Packet.{address_at}
+use Rattle.ip_wire.specs.Ipv6Packet.{address_at}
 use Rattle.ip_address.specs.Cidr as cidr
 use Rattle.script.specs.declared.line.Line.{Line}
 use Rattle.script.specs.declared.line.Line.TheVariants.{Rx, Udp, Asks}

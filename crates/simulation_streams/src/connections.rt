@@ -13,8 +13,8 @@ use std::alloc::Global;
 use tcp_host::sip_hash::SipKey;
 use tcp_machine::settings::Settings;
 use tcp_sockets::{SocketPair, TcpSockets, far_socket, near_socket};
-use tcp_streams::config::Config;
-use tcp_streams::host::TcpHost;
+use tcp_host::config::Config;
+use tcp_host::host::TcpHost;
 
 /// How many octets a connection may hold that aren't acknowledged, or aren't read.
 const ROOM: usize = 262_144;

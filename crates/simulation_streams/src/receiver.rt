@@ -5,8 +5,8 @@ ghost use Rattle.simulation_streams.specs.Pattern.{AreFrom, IsFirstWrong};
 use crate::pattern;
 use tcp_host::iss::Endpoints;
 use tcp_machine::state::State;
-use tcp_streams::calls::Handle;
-use tcp_streams::host::TcpHost;
+use tcp_host::calls::Handle;
+use tcp_host::host::TcpHost;
 
 /// The most pieces that it reads in a turn.
 const MOST_PIECES: usize = 64;

@@ -11,7 +11,7 @@ use std::alloc::Global;
 use tcp_connection::segment::Segment;
 use tcp_host::iss::Endpoints;
 use tcp_machine::positions::position_near;
-use tcp_packets::arrivals::{Arrival, arrival_in, is_own};
+use tcp_sockets::arrivals::{Arrival, arrival_in, is_own};
 
 /// The highest position that is counted.
 const HIGHEST: u64 = 1 << 62;

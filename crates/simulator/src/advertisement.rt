@@ -2,7 +2,7 @@
 
 use anyhow::{Result, bail};
 use bitflags::Flags;
-use icmpv6_wire::{
+use control_wire::{
     Icmpv6Repr, NdiscPrefixInfoFlags, NdiscPrefixInformation, NdiscRouterFlags, RouterRepr,
 };
 use ip_wire::emit::FrameBuffer;

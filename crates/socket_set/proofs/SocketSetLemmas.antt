@@ -7,10 +7,10 @@ use Rattle.std.proofs.lemmas.Bool.{cases_eq, cases_lt}
 use Rattle.std.proofs.lemmas.Bool.Decides.{nat_tests}
 use Rattle.std.proofs.lemmas.List.{get_or-set_other, set-get_or, length-map}
 use Rattle.sockets.specs.Kinds.{own_port, poll_at}
-use Rattle.socket_base.specs.declared.poll_at.PollAt.TheVariants.{Ingress}
+use Rattle.sockets.specs.declared.poll_at.PollAt.TheVariants.{Ingress}
 use Rattle.sockets.specs.declared.socket.SocketOf.{SocketOf}
 use Rattle.sockets.specs.declared.socket.SocketOf.TheVariants.{Raw, Icmp, Udp, Tcp}
-use Rattle.socket_base.specs.declared.endpoint.IpEndpoint.{IpEndpoint}
+use Rattle.sockets.specs.declared.endpoint.IpEndpoint.{IpEndpoint}
 use Rattle.socket_set.specs.Datagrams.{after_datagram}
 use Rattle.socket_set.specs.Busy.{IsClear, IsIdle, AreTrue}
 use Rattle.socket_set.specs.Laws.{IsSameAt, OthersStayAtAdd}

@@ -2,7 +2,7 @@
 use Rattle.std.specs.Prelude.{◌≡◌, ℕ, ◌<◌, ◌/◌, ◌%◌, List, get_or, None, IfSome}
 use Rattle.std.specs.Int.{bit_at}
 use Rattle.sockets.specs.Kinds.{poll_at}
-use Rattle.socket_base.specs.declared.poll_at.PollAt.TheVariants.{Ingress}
+use Rattle.sockets.specs.declared.poll_at.PollAt.TheVariants.{Ingress}
 use Rattle.socket_set.specs.SocketSet.{Sockets, socket_at, wait_at}
 
 -- the mark of a place: 1 where it is set, 0 where it is clear

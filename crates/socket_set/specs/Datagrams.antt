@@ -1,7 +1,7 @@
 -- What stands at a place after a datagram was received there.
 use Rattle.std.specs.Prelude.{ℕ, Bool, true, false, List, Option, Some, None}
-use Rattle.transport_sockets.specs.Udp.{socket_after_delivery}
-use Rattle.socket_base.specs.declared.endpoint.IpEndpoint.{IpEndpoint}
+use Rattle.sockets.specs.Udp.{socket_after_delivery}
+use Rattle.sockets.specs.declared.endpoint.IpEndpoint.{IpEndpoint}
 use Rattle.sockets.specs.declared.socket.SocketOf.{SocketOf}
 use Rattle.sockets.specs.declared.socket.SocketOf.TheVariants.{Raw, Icmp, Udp, Tcp}
 

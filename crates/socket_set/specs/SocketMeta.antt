@@ -3,9 +3,9 @@
 use Rattle.std.specs.Prelude.{◌≡◌, ℤ, Bool, false, true, ◌&&◌, ◌||◌, if◌then◌else◌, Option, Some, None, refl}
 use Rattle.std.specs.Ordering.{int_cmp, int_eq, is_ge}
 use Rattle.ip_address.specs.declared.ip.IpAddress.{IpAddress}
-use Rattle.socket_base.specs.Source.{is_same}
-use Rattle.socket_base.specs.declared.poll_at.PollAt.{PollAt}
-use Rattle.socket_base.specs.declared.poll_at.PollAt.TheVariants.{Time}
+use Rattle.sockets.specs.Source.{is_same}
+use Rattle.sockets.specs.declared.poll_at.PollAt.{PollAt}
+use Rattle.sockets.specs.declared.poll_at.PollAt.TheVariants.{Time}
 use Rattle.socket_set.specs.declared.socket_meta.NeighborState.{NeighborState}
 use Rattle.socket_set.specs.declared.socket_meta.NeighborState.TheVariants.{Active, Waiting}
 

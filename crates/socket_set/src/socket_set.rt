@@ -4,7 +4,7 @@ ghost use Rattle.std.specs.Prelude.{IsNone, IfSome, IfOk, IfErr, OnOk, OnErr, is
 ghost use Rattle.std.specs.Option.{option_copied, option_copied_mut, option_and_then};
 ghost use Rattle.net_base.specs.Time.{IsMoment, silence_from};
 ghost use Rattle.sockets.specs.Kinds.{own_port, poll_at as own_poll_at};
-ghost use Rattle.socket_base.specs.declared.poll_at.PollAt.TheVariants.{Ingress};
+ghost use Rattle.sockets.specs.declared.poll_at.PollAt.TheVariants.{Ingress};
 ghost use Rattle.socket_set.specs.Alike.{waits_like};
 ghost use Rattle.socket_set.specs.Busy.{IsIdle};
 ghost use Rattle.socket_set.specs.Datagrams.{after_datagram, is_udp};

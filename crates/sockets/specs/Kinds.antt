@@ -2,11 +2,11 @@
 use Rattle.std.specs.Prelude.{ℕ, ℤ, Bool, Option, Some, None}
 use Rattle.std.specs.Option.{option_map}
 use Rattle.ip_address.specs.declared.ip.IpAddress.{IpAddress}
-use Rattle.network_sockets.specs.Raw as raw
-use Rattle.network_sockets.specs.Icmp as icmp
-use Rattle.transport_sockets.specs.Udp as udp
-use Rattle.transport_sockets.specs.Tcp as tcp
-use Rattle.socket_base.specs.declared.poll_at.PollAt.{PollAt}
+use Rattle.sockets.specs.Raw as raw
+use Rattle.sockets.specs.Icmp as icmp
+use Rattle.sockets.specs.Udp as udp
+use Rattle.sockets.specs.Tcp as tcp
+use Rattle.sockets.specs.declared.poll_at.PollAt.{PollAt}
 use Rattle.sockets.specs.declared.socket.Offer.{Offer}
 use Rattle.sockets.specs.declared.socket.Offer.TheVariants as offer
 use Rattle.sockets.specs.declared.socket.SocketOf.{SocketOf}

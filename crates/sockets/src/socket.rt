@@ -3,10 +3,10 @@ ghost use Rattle.std.specs.Prelude.{◌≡◌, Option, IfSome, is_some};
 ghost use Rattle.std.specs.Option.{option_copied, option_copied_mut};
 ghost use Rattle.std.specs.Borrow.{sem, LendsIf};
 
-use network_sockets::{icmp, raw};
-use socket_base::context::SocketContext;
-use socket_base::poll_at::PollAt;
-use transport_sockets::{tcp, udp};
+use crate::{icmp, raw};
+use crate::context::SocketContext;
+use crate::poll_at::PollAt;
+use crate::{tcp, udp};
 
 /// A socket of any kind, with its lifetime as a type parameter.
 #[derive(Drop)]
@@ -233,10 +233,10 @@ impl<L: Drop> AnySocketOf<L> for tcp::SocketOf<L> {
 impl<L> SocketOf<L> {
     ghost use Rattle.sockets.specs.Kinds as kinds;
     ghost use Rattle.sockets.specs.contracts.socket.SocketOf.{the_row as socket_row};
-    ghost use Rattle.network_sockets.specs.contracts.raw.SocketOf.{the_row as raw_row};
-    ghost use Rattle.network_sockets.specs.contracts.icmp.SocketOf.{the_row as icmp_row};
-    ghost use Rattle.transport_sockets.specs.contracts.udp.SocketOf.{the_row as udp_row};
-    ghost use Rattle.transport_sockets.specs.contracts.tcp.SocketOf.{the_row as tcp_row};
+    ghost use Rattle.sockets.specs.contracts.raw.SocketOf.{the_row as raw_row};
+    ghost use Rattle.sockets.specs.contracts.icmp.SocketOf.{the_row as icmp_row};
+    ghost use Rattle.sockets.specs.contracts.udp.SocketOf.{the_row as udp_row};
+    ghost use Rattle.sockets.specs.contracts.tcp.SocketOf.{the_row as tcp_row};
 
     // The raw socket, if it is one.
     fn as_raw_mut(&mut self) -> Option<&mut raw::SocketOf<L>>

@@ -1,5 +1,7 @@
-//! Tests of the sockets over what is public of them.
+//! Tests of sockets and of sets of them.
 #![tactic(auto)]
 
+#[cfg(test)]
+mod set;
 #[cfg(test)]
 mod tests;

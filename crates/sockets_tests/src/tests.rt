@@ -35,7 +35,7 @@ struct Host {
 }
 
 impl SocketContext for Host {
-    ghost use Rattle.socket_base.specs.Source.{is_same};
+    ghost use Rattle.sockets.specs.Source.{is_same};
     ghost use Rattle.sockets_tests.specs.declared.tests.TheConstants.{NETWORK};
 
     ghost moment = { λ h. h.moment };

@@ -10,7 +10,7 @@ ghost use Rattle.tcp_machine.specs.Outgoing.{octets_from, piece_from, is_last};
 ghost use Rattle.tcp_connection.specs.Bounds.{last, after_part};
 ghost use Rattle.tcp_connection.specs.Pieces.{IsPieceOf};
 
-use socket_base::octets::Octets;
+use sockets::octets::Octets;
 use std::alloc::{AllocError, Global};
 use std::marker::Model;
 

@@ -4,8 +4,8 @@ use line_host::connections::Connections;
 use line_host::limits::Limits;
 use std::alloc::{AllocError, Global};
 use tcp_machine::state::State;
-use tcp_streams::calls::{Handle, WrongHandle};
-use tcp_streams::host::TcpHost;
+use tcp_host::calls::{Handle, WrongHandle};
+use tcp_host::host::TcpHost;
 
 /// The port of the service (RFC 862).
 const PORT: u16 = 7;

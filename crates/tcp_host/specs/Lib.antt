@@ -7,3 +7,4 @@ pub mod Homes
 pub mod Table
 pub mod Cells
 pub mod Listener
+pub mod TcpStreams

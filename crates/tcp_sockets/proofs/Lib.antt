@@ -1,3 +1,8 @@
+pub mod AgainLemmas
+pub mod ArrivalLemmas
+pub mod DestinationLemmas
+pub mod ReceivingLemmas
+pub mod ResetLemmas
 pub mod LawLemmas
 pub mod PollLemmas
 pub mod QueueLemmas

@@ -4,17 +4,17 @@ use Rattle.net_base.specs.Checksum.{is_rx}
 use Rattle.ip_address.specs.declared.ip.IpAddress.{IpAddress}
 use Rattle.ip_address.specs.declared.cidr.IpCidr.{IpCidr}
 use Rattle.ip_address.specs.declared.protocol.IpVersion.{IpVersion}
-use Rattle.socket_base.specs.Queue.{first_of}
-use Rattle.network_sockets.specs.Raw.{RawSocket, socket_after_done}
+use Rattle.sockets.specs.Queue.{first_of}
+use Rattle.sockets.specs.Raw.{RawSocket, socket_after_done}
 use Rattle.tcp_host.specs.declared.iss.Endpoints.{Endpoints}
 use Rattle.tcp_host.specs.Table.{ends_at}
 use Rattle.tcp_connection.specs.declared.outgoing.Action.{Action}
-use Rattle.tcp_streams.specs.Host.{Host}
-use Rattle.tcp_streams.specs.Turns.{is_heard}
-use Rattle.tcp_streams.specs.declared.turns.Turn.{Turn}
-use Rattle.tcp_streams.specs.declared.turns.Turn.TheVariants.{Idle, Quiet, Sends}
-use Rattle.tcp_packets.specs.declared.receiving.Answer.{Answer}
-use Rattle.tcp_packets.specs.Receiving.{ReceivesFirst}
+use Rattle.tcp_host.specs.TcpStreams.Host.{Host}
+use Rattle.tcp_host.specs.TcpStreams.Turns.{is_heard}
+use Rattle.tcp_host.specs.declared.turns.Turn.{Turn}
+use Rattle.tcp_host.specs.declared.turns.Turn.TheVariants.{Idle, Quiet, Sends}
+use Rattle.tcp_sockets.specs.declared.receiving.Answer.{Answer}
+use Rattle.tcp_sockets.specs.Receiving.{ReceivesFirst}
 use Rattle.tcp_sockets.specs.declared.tcp_sockets.SocketPair.{SocketPair}
 use Rattle.tcp_sockets.specs.Polls.{Carrier, State, state, raw_at, with_raw, answered, HearsAt, Hears, HearsEach, HearsBy, arrived, resumed_in, resumed, IsNearBy, IsNear, SendsAs, SendsFrom, Follows, GivesTurn, Turns, First, Next, GivesTurns, AllGiven, ManyGiven, Polls}
 

@@ -6,9 +6,9 @@ use Rattle.ip_address.specs.declared.protocol.IpVersion.{IpVersion}
 use Rattle.tcp_machine.specs.Outgoing as machine
 use Rattle.tcp_host.specs.declared.iss.Endpoints.{Endpoints}
 use Rattle.tcp_host.specs.Table.{ends_at}
-use Rattle.tcp_streams.specs.Turns.{is_heard}
-use Rattle.tcp_packets.specs.Packets.{Segment}
-use Rattle.tcp_packets.specs.Sending.{version_between}
+use Rattle.tcp_host.specs.TcpStreams.Turns.{is_heard}
+use Rattle.tcp_sockets.specs.Packets.{Segment}
+use Rattle.tcp_sockets.specs.Sending.{version_between}
 use Rattle.tcp_sockets.specs.declared.tcp_sockets.Fate.{Fate}
 use Rattle.tcp_sockets.specs.declared.tcp_sockets.Fate.TheVariants.{Stranded}
 use Rattle.tcp_sockets.specs.Polls.{State, IsNearBy, IsNear, QueuesAs, segment_at, fate_by, fate_in, fate_of, after_by, after_in, after_queueing}

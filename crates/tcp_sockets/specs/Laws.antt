@@ -3,14 +3,14 @@ use Rattle.std.specs.Prelude.{◌≡◌, ℕ, Bool, true, false, ◌||◌, List,
 use Rattle.net_base.specs.Checksum.{is_rx}
 use Rattle.ip_address.specs.declared.cidr.IpCidr.{IpCidr}
 use Rattle.ip_address.specs.declared.protocol.IpVersion.{IpVersion}
-use Rattle.socket_base.specs.Queue.{first_of}
-use Rattle.network_sockets.specs.Raw.{RawSocket, Sent, packet_in, socket_after_done}
+use Rattle.sockets.specs.Queue.{first_of}
+use Rattle.sockets.specs.Raw.{RawSocket, Sent, packet_in, socket_after_done}
 use Rattle.tcp_machine.specs.Outgoing as machine
 use Rattle.tcp_host.specs.declared.iss.Endpoints.{Endpoints}
 use Rattle.tcp_host.specs.Table.{ends_at}
-use Rattle.tcp_streams.specs.Turns.{sent_if, postponed, aborted_if}
-use Rattle.tcp_packets.specs.Arrivals.{HasSegment, is_own}
-use Rattle.tcp_packets.specs.Sending.{version_between}
+use Rattle.tcp_host.specs.TcpStreams.Turns.{sent_if, postponed, aborted_if}
+use Rattle.tcp_sockets.specs.Arrivals.{HasSegment, is_own}
+use Rattle.tcp_sockets.specs.Sending.{version_between}
 use Rattle.tcp_sockets.specs.Polls.{State, HearsFirst, with_raw, IsNear, after_sending, is_near_queued, segment_at, later_by_pause}
 
 -- a packet that isn't for this host, or has no right segment, leaves its socket; nothing answers it, and nothing else changes

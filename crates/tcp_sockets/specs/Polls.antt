@@ -7,8 +7,8 @@ use Rattle.ip_address.specs.declared.ip.IpAddress.{IpAddress}
 use Rattle.ip_address.specs.declared.cidr.IpCidr.{IpCidr}
 use Rattle.ip_address.specs.declared.protocol.IpVersion.{IpVersion}
 use Rattle.ip_address.specs.declared.protocol.IpVersion.TheVariants.{Ipv4, Ipv6}
-use Rattle.socket_base.specs.Queue.{first_of}
-use Rattle.network_sockets.specs.Raw.{RawSocket, socket_after_done}
+use Rattle.sockets.specs.Queue.{first_of}
+use Rattle.sockets.specs.Raw.{RawSocket, socket_after_done}
 use Rattle.sockets.specs.declared.socket.SocketOf.TheVariants.{Raw}
 use Rattle.sockets.specs.Kinds.{down_raw}
 use Rattle.socket_set.specs.SocketSet.{Sockets, socket_at, with_place}
@@ -19,17 +19,17 @@ use Rattle.tcp_connection.specs.Actions.{action_of, header_of}
 use Rattle.tcp_connection.specs.Blocks.{places_of}
 use Rattle.tcp_host.specs.declared.iss.Endpoints.{Endpoints}
 use Rattle.tcp_host.specs.Table.{ends_at}
-use Rattle.tcp_streams.specs.Host.{Host, connection_at, slot_at}
-use Rattle.tcp_streams.specs.declared.turns.Turn.{Turn}
-use Rattle.tcp_streams.specs.declared.turns.Turn.TheVariants.{Idle, Quiet, Sends}
-use Rattle.tcp_streams.specs.Turns.{TakesTurn, mss_of, scale_of, is_heard, sent_if, postponed, aborted_if}
+use Rattle.tcp_host.specs.TcpStreams.Host.{Host, connection_at, slot_at}
+use Rattle.tcp_host.specs.declared.turns.Turn.{Turn}
+use Rattle.tcp_host.specs.declared.turns.Turn.TheVariants.{Idle, Quiet, Sends}
+use Rattle.tcp_host.specs.TcpStreams.Turns.{TakesTurn, mss_of, scale_of, is_heard, sent_if, postponed, aborted_if}
 use Rattle.tcp_sockets.specs.declared.tcp_sockets.SocketPair.{SocketPair}
 use Rattle.tcp_sockets.specs.declared.tcp_sockets.Fate.{Fate}
 use Rattle.tcp_sockets.specs.declared.tcp_sockets.Fate.TheVariants.{Queued, Waits, Stranded}
-use Rattle.tcp_packets.specs.declared.receiving.Answer.{Answer}
-use Rattle.tcp_packets.specs.Packets.{Segment, reset_between}
-use Rattle.tcp_packets.specs.Receiving.{ReceivesFirst}
-use Rattle.tcp_packets.specs.Sending.{version_between, fits, socket_after, fits_far, socket_after_far, waiting_after}
+use Rattle.tcp_sockets.specs.declared.receiving.Answer.{Answer}
+use Rattle.tcp_sockets.specs.Packets.{Segment, reset_between}
+use Rattle.tcp_sockets.specs.Receiving.{ReceivesFirst}
+use Rattle.tcp_sockets.specs.Sending.{version_between, fits, socket_after, fits_far, socket_after_far, waiting_after}
 
 -- the sockets of each family, what the device leaves to the host, to whom packets wait at the sockets for peers that haven't
 -- answered, and the places of connections that found no room

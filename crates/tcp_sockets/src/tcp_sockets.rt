@@ -2,10 +2,10 @@
 ghost use Rattle.std.specs.Prelude.{◌≡◌, [], Some, false};
 ghost use Rattle.tcp_machine.specs.Outgoing as machine;
 ghost use Rattle.tcp_connection.specs.Actions.{action_of};
-ghost use Rattle.tcp_streams.specs.Host.{Host, connection_at};
-ghost use Rattle.tcp_streams.specs.Turns.{postponed, is_heard};
+ghost use Rattle.tcp_host.specs.TcpStreams.Host.{Host, connection_at};
+ghost use Rattle.tcp_host.specs.TcpStreams.Turns.{postponed, is_heard};
 ghost use Rattle.tcp_host.specs.Table.{ends_at};
-ghost use Rattle.tcp_packets.specs.Packets.{value_of};
+ghost use Rattle.tcp_sockets.specs.Packets.{value_of};
 ghost use Rattle.tcp_sockets.specs.Polls as spec;
 ghost use Rattle.net_base.specs.Checksum.{is_tx};
 
@@ -18,12 +18,12 @@ use sockets::raw;
 use std::marker::Model;
 use tcp_connection::instants::later;
 use tcp_connection::outgoing::Action;
-use tcp_packets::destinations::Destinations;
-use tcp_packets::packets::reset_between;
-use tcp_packets::receiving::{Answer, receive};
-use tcp_packets::sending::{send, send_far, version_between};
-use tcp_streams::host::TcpHost;
-use tcp_streams::turns::{Outgoing, Turn};
+use crate::destinations::Destinations;
+use crate::packets::reset_between;
+use crate::receiving::{Answer, receive};
+use crate::sending::{send, send_far, version_between};
+use tcp_host::host::TcpHost;
+use tcp_host::turns::{Outgoing, Turn};
 
 /// The most turns that connections get in a poll. What is due then is due in the next one.
 pub const MOST_TURNS: usize = 65_536;

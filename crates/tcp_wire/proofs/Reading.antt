@@ -5,7 +5,7 @@ use Rattle.std.specs.Prelude.{IsTrue}
 use Rattle.std.specs.Option.{option_map, option_or}
 use Rattle.std.proofs.lemmas.Bool.{and_parts, leb-true, false_from_ne_true}
 use Rattle.std.proofs.lemmas.List.{get_or-take, length-take-le}
-use Rattle.wire_base.specs.Octets.{u16_at}
+use Rattle.ip_wire.specs.Octets.{u16_at}
 use Rattle.tcp_wire.specs.declared.options.SackRange.{SackRange}
 use Rattle.tcp_wire.specs.declared.options.TcpTimestamp.{TcpTimestamp}
 use Rattle.tcp_wire.specs.declared.options.TcpOptions.{TcpOptions}

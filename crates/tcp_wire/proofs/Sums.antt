@@ -1,10 +1,10 @@
 -- The sum of a segment: pseudo-header, five words, options and payload.
 use Rattle.std.proofs.Common.{◌≡◌, ℕ, ◌+◌, ◌*◌, ◌-◌, ◌%◌, ◌/◌, List, ◌++◌, length, length-append, refl, sym, ap, ◌∙◌, true, arith}
 use Rattle.ip_address.specs.declared.ip.IpAddress.{IpAddress}
-use Rattle.wire_base.specs.Checksum.{folded_sum, word_sum, checksum_of}
-use Rattle.wire_base.specs.Pseudo.{pseudo}
-use Rattle.wire_base.proofs.Pseudos.{parts}
-use Rattle.wire_base.proofs.Sums.{word_sum-append}
+use Rattle.ip_wire.specs.Checksum.{folded_sum, word_sum, checksum_of}
+use Rattle.ip_wire.specs.Pseudo.{pseudo}
+use Rattle.ip_wire.proofs.Pseudos.{parts}
+use Rattle.ip_wire.proofs.Sums.{word_sum-append}
 use Rattle.tcp_wire.specs.declared.tcp.TcpRepr.{TcpRepr}
 use Rattle.tcp_wire.specs.Tcp.{words_text, sum_of, text_len}
 use Rattle.tcp_wire.specs.Options.{options_text}

@@ -3,11 +3,11 @@ use Rattle.std.proofs.Common.{◌≡◌, ℕ, ◌+◌, ◌-◌, ◌*◌, ◌/◌
 use Rattle.std.proofs.Common.{refl, sym, ap, subst, ◌∙◌, length-append, arith}
 use Rattle.std.proofs.lemmas.List.{drop_at, take_at}
 use Rattle.ip_address.specs.declared.ip.IpAddress.{IpAddress}
-use Rattle.wire_base.specs.Checksum.{folded_sum, word_sum}
-use Rattle.wire_base.specs.Octets.{u16_at}
-use Rattle.wire_base.specs.Pseudo.{pseudo}
-use Rattle.wire_base.proofs.Pseudos.{header_words}
-use Rattle.wire_base.proofs.Sums.{summed_up, word_sum-append}
+use Rattle.ip_wire.specs.Checksum.{folded_sum, word_sum}
+use Rattle.ip_wire.specs.Octets.{u16_at}
+use Rattle.ip_wire.specs.Pseudo.{pseudo}
+use Rattle.ip_wire.proofs.Pseudos.{header_words}
+use Rattle.ip_wire.proofs.Sums.{summed_up, word_sum-append}
 use Rattle.ip_wire.specs.Tcp.{header_in, header_len, IsControl, IsHeader, IsTcp}
 use Rattle.ip_wire.specs.Tcp as words
 use Rattle.ip_wire.proofs.Ipv4Again.{total}

@@ -6,7 +6,7 @@ use Rattle.std.specs.Prelude.{length, take, slice_index, if◌then◌else◌}
 use Rattle.std.specs.Int.{w16, w32, to_be_bytes}
 use Rattle.std.specs.List.{All, flat_map, filter_map}
 use Rattle.std.specs.Option.{option_map, option_or}
-use Rattle.wire_base.specs.Octets.{u16_at, u32_at}
+use Rattle.ip_wire.specs.Octets.{u16_at, u32_at}
 use Rattle.tcp_wire.specs.declared.options.SackRange.{SackRange}
 use Rattle.tcp_wire.specs.declared.options.TcpTimestamp.{TcpTimestamp}
 use Rattle.tcp_wire.specs.declared.options.TcpOptions.{TcpOptions}

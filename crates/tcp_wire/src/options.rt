@@ -7,7 +7,7 @@ ghost use Rattle.tcp_wire.specs.Options as spec;
 
 use crate::option_buffer::OptionBuffer;
 use ip_wire::TcpSeqNumber;
-use wire_base::octets::{u16_at, u32_at};
+use ip_wire::octets::{u16_at, u32_at};
 
 /// The kinds of options that are parsed.
 const NOP: u8 = 1;

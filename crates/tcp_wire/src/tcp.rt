@@ -9,9 +9,9 @@ use crate::options::TcpOptions;
 use ip_address::IpAddress;
 pub use ip_wire::tcp::HEADER_LEN;
 use ip_wire::{TcpControl, TcpSeqNumber, tcp};
-use wire_base::checksum::{part_sum, sum_with};
-use wire_base::emit::FrameBuffer;
-use wire_base::pseudo::pseudo_sum;
+use ip_wire::checksum::{part_sum, sum_with};
+use ip_wire::emit::FrameBuffer;
+use ip_wire::pseudo::pseudo_sum;
 
 /// The values of a segment's header with its options.
 #[derive(Clone, Copy, Debug, PartialEq, Eq)]

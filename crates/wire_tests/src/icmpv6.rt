@@ -1,10 +1,10 @@
 use bitflags::Flags;
-use icmpv6_wire::icmpv6::{Icmpv6DstUnreachable, Icmpv6ParamProblem, Icmpv6Repr};
-use icmpv6_wire::ndisc::{NdiscNeighborFlags, NdiscRepr};
+use control_wire::icmpv6::{Icmpv6DstUnreachable, Icmpv6ParamProblem, Icmpv6Repr};
+use control_wire::ndisc::{NdiscNeighborFlags, NdiscRepr};
 use ip_address::{EthernetAddress, IpAddress, IpProtocol, Ipv6Address};
-use ipv6_wire::ipv6_packet::Ipv6Repr;
+use ip_wire::ipv6_packet::Ipv6Repr;
 use std::test::Fail;
-use wire_base::emit::FrameBuffer;
+use ip_wire::emit::FrameBuffer;
 
 /// fe80::1, of 02:00:00:00:00:01.
 const FIRST: Ipv6Address = Ipv6Address {

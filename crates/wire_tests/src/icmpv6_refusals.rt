@@ -1,5 +1,5 @@
-use icmpv6_wire::icmpv6::Icmpv6Repr;
-use icmpv6_wire::ndisc_option::{NdiscOptionType, parse_lladdr};
+use control_wire::icmpv6::Icmpv6Repr;
+use control_wire::ndisc_option::{NdiscOptionType, parse_lladdr};
 use ip_address::{EthernetAddress, IpAddress, Ipv6Address};
 use std::test::Fail;
 

@@ -1,5 +1,5 @@
-use group_wire::igmp::{max_resp_time, query_version};
-use group_wire::{IgmpRepr, IgmpVersion};
+use control_wire::igmp::{max_resp_time, query_version};
+use control_wire::{IgmpRepr, IgmpVersion};
 use ip_address::Ipv4Address;
 use std::test::Fail;
 

@@ -1,9 +1,12 @@
-//! The tests of addresses, frames, packets and messages: of `ip_address`, `wire_base`, `ipv6_wire`,
-//! `group_wire`, `icmpv6_wire`, `ip_wire` and `control_wire`.
+//! Tests of the wire formats and of the base.
 #![tactic(auto)]
 
 #[cfg(test)]
 mod addresses;
+#[cfg(test)]
+mod assembler;
+#[cfg(test)]
+mod drivers;
 #[cfg(test)]
 mod frames;
 #[cfg(test)]
@@ -21,4 +24,10 @@ mod messages;
 #[cfg(test)]
 mod mld;
 #[cfg(test)]
+mod options;
+#[cfg(test)]
 mod packets;
+#[cfg(test)]
+mod segments;
+#[cfg(test)]
+mod tests;

@@ -1,4 +1,4 @@
-use group_wire::{MldAddressRecordRepr, MldRecordType, MldRepr};
+use control_wire::{MldAddressRecordRepr, MldRecordType, MldRepr};
 use ip_address::Ipv6Address;
 use std::test::Fail;
 

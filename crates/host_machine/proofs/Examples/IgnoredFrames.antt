@@ -4,12 +4,12 @@ use Rattle.std.proofs.lemmas.List.Elements.{All-nil, All-cons}
 use Rattle.std.specs.Prelude.{pos}
 use Rattle.std.specs.FinMap as map
 use Rattle.net_base.specs.Device.{Frame}
-use Rattle.wire_base.specs.Checksum.{word_sum}
-use Rattle.wire_base.specs.Pseudo.{pseudo}
+use Rattle.ip_wire.specs.Checksum.{word_sum}
+use Rattle.ip_wire.specs.Pseudo.{pseudo}
 use Rattle.ip_wire.specs.Tcp.{control_of}
-use Rattle.ipv6_wire.specs.Ipv6Packet.{address_at}
-use Rattle.icmpv6_wire.specs.Icmpv6.{Neighbor as Message}
-use Rattle.icmpv6_wire.specs.NdiscOption.{IsOption, last_of, options_from}
+use Rattle.ip_wire.specs.Ipv6Packet.{address_at}
+use Rattle.control_wire.specs.Icmpv6.{Neighbor as Message}
+use Rattle.control_wire.specs.NdiscOption.{IsOption, last_of, options_from}
 use Rattle.control_wire.specs.Icmpv4.{Reply as EchoReplied}
 use Rattle.fragmentation.specs.Slots.{held_at}
 use Rattle.host_machine.specs.Context.Host.{Host, with_slots, without_expired}

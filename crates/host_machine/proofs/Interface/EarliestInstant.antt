@@ -3,8 +3,8 @@ use Rattle.std.proofs.Common.{◌≡◌, ◌⊎◌, ℕ, ◌+◌, ◌<◌, List,
 use Rattle.std.proofs.lemmas.Bool.{cases_eq}
 use Rattle.std.proofs.lemmas.Int.{ints}
 use Rattle.std.specs.Prelude.{ℤ, ◌<ℤ◌, Bool, IfSome, IsNone, slice_get, if◌then◌else◌}
-use Rattle.socket_base.specs.declared.poll_at.PollAt.{PollAt}
-use Rattle.socket_base.specs.declared.poll_at.PollAt.TheVariants.{Ingress}
+use Rattle.sockets.specs.declared.poll_at.PollAt.{PollAt}
+use Rattle.sockets.specs.declared.poll_at.PollAt.TheVariants.{Ingress}
 use Rattle.std.specs.Cmp.{int_ranks}
 use Rattle.std.specs.Option.{option_and_then}
 use Rattle.std.specs.declared.cmp.Ordering.{Ordering}
@@ -24,9 +24,9 @@ use Rattle.host_machine.specs.Sockets.Polling.{SocketDue, SocketsDue, instant_of
 use Rattle.host_machine.specs.Send.Fragments.{at_once}
 use Rattle.host_machine.specs.Multicast.Polling.{groups_poll_at, group_poll_at}
 use Rattle.host_machine.specs.Discovery.Polling.{routers_poll_at, sync_poll_at}
-use Rattle.group_table.specs.declared.groups.GroupState.TheVariants.{Joining, Leaving}
+use Rattle.iface_tables.specs.declared.groups.GroupState.TheVariants.{Joining, Leaving}
 use Rattle.net_base.specs.Instants.{earliest_of, earlier_of}
-use Rattle.slaac.specs.Slaac.{prefix_ends, route_ends}
+use Rattle.iface_tables.specs.Slaac.{prefix_ends, route_ends}
 use Rattle.host_machine.specs.Discovery.RouterSolicitation.{rs_poll_at}
 use Rattle.host_machine.specs.Multicast.Igmp.{igmp_poll_at}
 use Rattle.host_machine.specs.Multicast.Mld.{mld_timeout_of}

@@ -4,8 +4,8 @@ use Rattle.std.specs.Prelude.{Bool, false}
 use Rattle.net_base.specs.Device.{Event}
 use Rattle.host_machine.specs.Context.Note.{Note}
 use Rattle.host_machine.specs.Context.Host.{Host}
-use Rattle.group_table.specs.declared.groups.GroupState.TheVariants.{Joining, Leaving}
-use Rattle.group_table.specs.Groups.{first_in}
+use Rattle.iface_tables.specs.declared.groups.GroupState.TheVariants.{Joining, Leaving}
+use Rattle.iface_tables.specs.Groups.{first_in}
 use Rattle.host_machine.specs.Interface.Parts.{Part, Both}
 use Rattle.host_machine.specs.Multicast.Joins.{All, Begins, JoinsEgress, LeavesEgress}
 use Rattle.host_machine.specs.Multicast.Igmp.{IgmpEgress, NotDue, igmp_timeout_of}

@@ -6,13 +6,13 @@ use Rattle.std.specs.Cmp.{int_cmp_is}
 use Rattle.std.proofs.lemmas.Int.{ints}
 use Rattle.std.specs.declared.cmp.Ordering.TheVariants.{Less}
 use Rattle.ip_address.specs.declared.ip.IpAddress.{IpAddress}
-use Rattle.socket_base.specs.declared.endpoint.IpEndpoint.{IpEndpoint}
-use Rattle.transport_sockets.specs.declared.tcp.Segment.{Segment}
+use Rattle.sockets.specs.declared.endpoint.IpEndpoint.{IpEndpoint}
+use Rattle.sockets.specs.declared.tcp.Segment.{Segment}
 use Rattle.sockets.specs.declared.socket.SocketOf.TheVariants.{Raw, Icmp, Udp, Tcp}
-use Rattle.network_sockets.specs.Raw as raw
-use Rattle.network_sockets.specs.Icmp as icmp
-use Rattle.transport_sockets.specs.Udp as udp
-use Rattle.transport_sockets.specs.Tcp as tcp
+use Rattle.sockets.specs.Raw as raw
+use Rattle.sockets.specs.Icmp as icmp
+use Rattle.sockets.specs.Udp as udp
+use Rattle.sockets.specs.Tcp as tcp
 use Rattle.sockets.specs.Kinds.{RawOffer, IcmpOffer, UdpOffer, TcpOffer, offered_packet, socket_after_offer, poll_at}
 use Rattle.host_machine.specs.Context.Host.{Socket}
 use Rattle.host_machine.specs.Sockets.Polling.{instant_of}

@@ -12,8 +12,8 @@ use Rattle.ip_address.specs.Ipv4 as ipv4
 use Rattle.ip_address.specs.Ipv6 as ipv6
 use Rattle.ip_address.specs.Ipv6.{is_link_local}
 use Rattle.ip_address.specs.declared.ipv6.Ipv6Address.{Ipv6Address}
-use Rattle.address_selection.specs.Ipv6.{source_v6}
-use Rattle.group_table.specs.Groups.{is_member}
+use Rattle.ip_address.specs.AddressSelection.Ipv6.{source_v6}
+use Rattle.iface_tables.specs.Groups.{is_member}
 use Rattle.host_machine.specs.Context.Host.{Host, has_ip_addr}
 
 -- whether an address equals another one, if there is one

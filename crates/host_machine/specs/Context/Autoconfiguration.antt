@@ -1,7 +1,7 @@
 -- How addresses and routes follow what a host learnt from routers (RFC 4862 5.5).
 use Rattle.std.specs.Prelude.{if◌then◌else◌}
-use Rattle.slaac.specs.Slaac.{sync_required, slaac_after_update}
-use Rattle.slaac.specs.Sync.{synced_addrs, synced_routes}
+use Rattle.iface_tables.specs.Slaac.{sync_required, slaac_after_update}
+use Rattle.iface_tables.specs.Sync.{synced_addrs, synced_routes}
 use Rattle.host_machine.specs.Context.Host.{Host}
 use Rattle.host_machine.specs.Context.Settings.{after_address_change}
 

@@ -11,16 +11,16 @@ use Rattle.ip_address.specs.Ip.{is_unicast, is_unspecified}
 use Rattle.ip_address.specs.Cidr.{address_of, contains}
 use Rattle.iface_tables.specs.Neighbor.{Neighbors}
 use Rattle.fragmentation.specs.Slots.{Slots, free_slots, live_at}
-use Rattle.slaac.specs.Slaac.{SlaacState}
+use Rattle.iface_tables.specs.Slaac.{SlaacState}
 use Rattle.fragmentation.specs.Cuts.{Piece}
 use Rattle.iface_tables.specs.declared.route.Route.{Route}
 use Rattle.iface_tables.specs.Route.{best, router_of}
-use Rattle.group_table.specs.declared.groups.Group.{Group}
-use Rattle.group_table.specs.declared.report.IgmpReportState.{IgmpReportState}
-use Rattle.group_table.specs.declared.report.MldReportState.{MldReportState}
+use Rattle.iface_tables.specs.declared.groups.Group.{Group}
+use Rattle.iface_tables.specs.declared.report.IgmpReportState.{IgmpReportState}
+use Rattle.iface_tables.specs.declared.report.MldReportState.{MldReportState}
 use Rattle.socket_set.specs.SocketSet.{Sockets}
 use Rattle.socket_set.specs.SocketSet as table
-use Rattle.socket_base.specs.Source.{is_same}
+use Rattle.sockets.specs.Source.{is_same}
 use Rattle.sockets.specs.declared.socket.SocketOf.{SocketOf}
 
 -- a socket of any kind

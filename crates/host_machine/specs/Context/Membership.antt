@@ -8,8 +8,8 @@ use Rattle.ip_address.specs.declared.ip.IpAddress.{IpAddress}
 use Rattle.ip_address.specs.declared.ip.IpAddress.TheVariants.{Ipv4, Ipv6}
 use Rattle.ip_address.specs.declared.ipv6.Ipv6Address.{Ipv6Address}
 use Rattle.ip_address.specs.Ipv6.{solicited_node}
-use Rattle.group_table.specs.declared.groups.Group.{Group}
-use Rattle.group_table.specs.Groups.{groups_after_join, groups_after_leave}
+use Rattle.iface_tables.specs.declared.groups.Group.{Group}
+use Rattle.iface_tables.specs.Groups.{groups_after_join, groups_after_leave}
 use Rattle.host_machine.specs.Context.Addresses.{has_solicited_node}
 
 -- a solicited-node group, of whatever address (RFC 4291 2.7.1): in ff02::1:ff00:0/104

@@ -3,7 +3,7 @@ use Rattle.std.specs.Prelude.{ℕ, List, length, min, max}
 use Rattle.std.specs.FinMap as map
 use Rattle.ip_address.specs.declared.cidr.IpCidr.{IpCidr}
 use Rattle.iface_tables.specs.Neighbor.{Neighbors}
-use Rattle.slaac.specs.Slaac.{with_room}
+use Rattle.iface_tables.specs.Slaac.{with_room}
 use Rattle.host_machine.specs.declared.capacities.Capacities.{Capacities}
 use Rattle.host_machine.specs.Context.Host.{Host}
 use Rattle.host_machine.specs.Context.Membership.{groups_for}

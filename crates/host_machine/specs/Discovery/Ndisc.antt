@@ -9,11 +9,11 @@ use Rattle.ip_address.specs.declared.ip.IpAddress.TheVariants as address
 use Rattle.ip_address.specs.EthernetAddress as ethernet
 use Rattle.ip_address.specs.Ipv6 as ipv6
 use Rattle.ip_address.specs.Ipv6.{solicited_node}
-use Rattle.ipv6_wire.specs.declared.ipv6_packet.Ipv6Repr.{Ipv6Repr}
-use Rattle.icmpv6_wire.specs.declared.icmpv6.Icmpv6Repr.TheVariants.{Ndisc}
-use Rattle.icmpv6_wire.specs.declared.ndisc.NdiscNeighborFlags.{NdiscNeighborFlags}
-use Rattle.icmpv6_wire.specs.declared.ndisc.NdiscRepr.{NdiscRepr}
-use Rattle.icmpv6_wire.specs.declared.ndisc.NdiscRepr.TheVariants.{NeighborSolicit, NeighborAdvert}
+use Rattle.ip_wire.specs.declared.ipv6_packet.Ipv6Repr.{Ipv6Repr}
+use Rattle.control_wire.specs.declared.icmpv6.Icmpv6Repr.TheVariants.{Ndisc}
+use Rattle.control_wire.specs.declared.ndisc.NdiscNeighborFlags.{NdiscNeighborFlags}
+use Rattle.control_wire.specs.declared.ndisc.NdiscRepr.{NdiscRepr}
+use Rattle.control_wire.specs.declared.ndisc.NdiscRepr.TheVariants.{NeighborSolicit, NeighborAdvert}
 use Rattle.iface_tables.specs.Neighbor.{Neighbors, Fills, answer_of, expiry_from, is_found}
 use Rattle.host_machine.specs.Context.Note.{Note}
 use Rattle.host_machine.specs.Context.Host.{Host, has_ip_addr, is_assigned, with_neighbors}

@@ -1,6 +1,6 @@
 -- When router discovery has work.
 use Rattle.std.specs.Prelude.{ℤ, pos, Option, Some, None, if◌then◌else◌}
-use Rattle.slaac.specs.Slaac.{end_at, sync_required}
+use Rattle.iface_tables.specs.Slaac.{end_at, sync_required}
 use Rattle.net_base.specs.Instants.{earlier_of}
 use Rattle.host_machine.specs.Context.Host.{Host}
 use Rattle.host_machine.specs.Discovery.RouterSolicitation.{rs_poll_at}

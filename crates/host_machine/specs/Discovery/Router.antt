@@ -1,10 +1,10 @@
 -- Which router advertisements a host learns from (RFC 4861 6.1.2, 6.3.4).
 use Rattle.std.specs.Prelude.{◌==◌, ◌&&◌, ◌||◌, Bool, if◌then◌else◌}
 use Rattle.ip_address.specs.Ipv6.{all_nodes, is_link_local}
-use Rattle.ipv6_wire.specs.declared.ipv6_packet.Ipv6Repr.{Ipv6Repr}
-use Rattle.icmpv6_wire.specs.declared.router.RouterRepr.{RouterRepr}
-use Rattle.icmpv6_wire.specs.declared.router.RouterRepr.TheVariants.{RouterSolicit, RouterAdvert}
-use Rattle.slaac.specs.Slaac.{SlaacState, slaac_after_message, seconds}
+use Rattle.ip_wire.specs.declared.ipv6_packet.Ipv6Repr.{Ipv6Repr}
+use Rattle.control_wire.specs.declared.router.RouterRepr.{RouterRepr}
+use Rattle.control_wire.specs.declared.router.RouterRepr.TheVariants.{RouterSolicit, RouterAdvert}
+use Rattle.iface_tables.specs.Slaac.{SlaacState, slaac_after_message, seconds}
 use Rattle.host_machine.specs.Context.Host.{Host}
 use Rattle.host_machine.specs.Interface.Config.{is_ethernet}
 

@@ -7,9 +7,9 @@ use Rattle.ip_address.specs.declared.ethernet_address.EthernetAddress.{EthernetA
 use Rattle.ip_address.specs.declared.hardware.HardwareAddress.{HardwareAddress}
 use Rattle.ip_address.specs.declared.hardware.HardwareAddress.TheVariants as hardware
 use Rattle.ip_address.specs.declared.ipv6.Ipv6Address.{Ipv6Address}
-use Rattle.icmpv6_wire.specs.declared.icmpv6.Icmpv6Repr.TheVariants.{Router}
-use Rattle.icmpv6_wire.specs.declared.router.RouterRepr.TheVariants.{RouterSolicit}
-use Rattle.slaac.specs.Slaac.{retry_at, rs_required, rs_sent}
+use Rattle.control_wire.specs.declared.icmpv6.Icmpv6Repr.TheVariants.{Router}
+use Rattle.control_wire.specs.declared.router.RouterRepr.TheVariants.{RouterSolicit}
+use Rattle.iface_tables.specs.Slaac.{retry_at, rs_required, rs_sent}
 use Rattle.host_machine.specs.Context.Note.{Note}
 use Rattle.host_machine.specs.Context.Host.{Host, with_slaac}
 use Rattle.host_machine.specs.Context.Addresses.{link_local_addr}

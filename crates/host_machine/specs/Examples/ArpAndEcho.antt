@@ -16,9 +16,9 @@ use Rattle.iface_tables.specs.Neighbor.{Neighbors, after_renewal}
 use Rattle.fragmentation.specs.Slots.{free_slots}
 use Rattle.host_machine.specs.declared.results.PollIngressSingleResult.TheVariants as result
 use Rattle.host_machine.specs.Context.Note.{Note, OfDiscovery, OfIdentification, Ask, Identify}
-use Rattle.group_table.specs.declared.report.IgmpReportState.TheVariants as igmp
-use Rattle.group_table.specs.declared.report.MldReportState.TheVariants as mld
-use Rattle.slaac.specs.Slaac.{initial_state}
+use Rattle.iface_tables.specs.declared.report.IgmpReportState.TheVariants as igmp
+use Rattle.iface_tables.specs.declared.report.MldReportState.TheVariants as mld
+use Rattle.iface_tables.specs.Slaac.{initial_state}
 use Rattle.host_machine.specs.Context.Host.{Host, no_sockets}
 use Rattle.host_machine.specs.Interface.Ingress.{Ingress}
 

@@ -8,12 +8,12 @@ use Rattle.ip_address.specs.declared.cidr.IpCidr.TheVariants as cidr
 use Rattle.ip_address.specs.declared.hardware.HardwareAddress.TheVariants as hardware
 use Rattle.ip_address.specs.declared.ip.IpAddress.{IpAddress}
 use Rattle.ip_address.specs.declared.ip.IpAddress.TheVariants.{Ipv4, Ipv6}
-use Rattle.group_wire.specs.declared.igmp.IgmpVersion.TheVariants.{Version1, Version2}
-use Rattle.group_table.specs.declared.groups.Group.{Group}
-use Rattle.group_table.specs.declared.groups.GroupState.{GroupState}
-use Rattle.group_table.specs.declared.groups.GroupState.TheVariants.{Joining, Joined, Leaving}
-use Rattle.group_table.specs.declared.report.IgmpReportState.TheVariants as igmp
-use Rattle.group_table.specs.declared.report.MldReportState.TheVariants as mld
+use Rattle.control_wire.specs.declared.igmp.IgmpVersion.TheVariants.{Version1, Version2}
+use Rattle.iface_tables.specs.declared.groups.Group.{Group}
+use Rattle.iface_tables.specs.declared.groups.GroupState.{GroupState}
+use Rattle.iface_tables.specs.declared.groups.GroupState.TheVariants.{Joining, Joined, Leaving}
+use Rattle.iface_tables.specs.declared.report.IgmpReportState.TheVariants as igmp
+use Rattle.iface_tables.specs.declared.report.MldReportState.TheVariants as mld
 use Rattle.host_machine.specs.Context.Host.{Host, with_groups, with_igmp_report, with_mld_report}
 use Rattle.host_machine.specs.Interface.Egress.{Round}
 use Rattle.host_machine.specs.Multicast.Joins.{JoinsEgress, LeavesEgress}

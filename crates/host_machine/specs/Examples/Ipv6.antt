@@ -6,7 +6,7 @@ use Rattle.net_base.specs.Device.{Received, Frame, Sent}
 use Rattle.ip_address.specs.declared.ip.IpAddress.{IpAddress}
 use Rattle.ip_address.specs.declared.ip.IpAddress.TheVariants as ip
 use Rattle.iface_tables.specs.Neighbor.{Neighbors, after_renewal}
-use Rattle.transport_sockets.specs.Udp.{UdpSocket}
+use Rattle.sockets.specs.Udp.{UdpSocket}
 use Rattle.host_machine.specs.declared.results.PollIngressSingleResult.TheVariants as result
 use Rattle.host_machine.specs.Packet.Packet.{Packet, Ipv6, Udp}
 use Rattle.host_machine.specs.Send.Dispatch.{Dispatches}

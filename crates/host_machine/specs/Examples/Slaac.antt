@@ -7,11 +7,11 @@ use Rattle.ip_address.specs.declared.cidr.Ipv6Cidr.{Ipv6Cidr}
 use Rattle.ip_address.specs.declared.cidr.IpCidr.TheVariants as cidr
 use Rattle.ip_address.specs.declared.ipv6.Ipv6Address.{Ipv6Address}
 use Rattle.ip_address.specs.declared.protocol.IpProtocol.TheVariants as protocol
-use Rattle.ipv6_wire.specs.declared.ipv6_packet.Ipv6Repr.{Ipv6Repr}
-use Rattle.icmpv6_wire.specs.Router.{router_in}
+use Rattle.ip_wire.specs.declared.ipv6_packet.Ipv6Repr.{Ipv6Repr}
+use Rattle.control_wire.specs.Router.{router_in}
 use Rattle.iface_tables.specs.Route.{ipv6_gateway}
-use Rattle.slaac.specs.declared.slaac.Phase.TheVariants.{Discovering, Maintaining}
-use Rattle.slaac.specs.Slaac.{SlaacState, default_route, initial_state}
+use Rattle.iface_tables.specs.declared.slaac.Phase.TheVariants.{Discovering, Maintaining}
+use Rattle.iface_tables.specs.Slaac.{SlaacState, default_route, initial_state}
 use Rattle.host_machine.specs.Context.Host.{Host, at, with_neighbors}
 use Rattle.host_machine.specs.Discovery.RouterSolicitation.{NdiscRsEgress}
 use Rattle.host_machine.specs.Context.Autoconfiguration.{after_sync}

@@ -8,10 +8,10 @@ use Rattle.ip_address.specs.declared.hardware.HardwareAddress.TheVariants as har
 use Rattle.ip_address.specs.declared.protocol.IpProtocol.TheVariants as protocol
 use Rattle.ip_address.specs.declared.protocol.IpVersion.TheVariants as version
 use Rattle.ip_wire.specs.declared.tcp.TcpRepr.{TcpRepr}
-use Rattle.socket_base.specs.declared.endpoint.IpEndpoint.{IpEndpoint}
-use Rattle.socket_base.specs.Queue.{Queued}
-use Rattle.network_sockets.specs.Raw.{RawSocket}
-use Rattle.transport_sockets.specs.Udp.{UdpSocket}
+use Rattle.sockets.specs.declared.endpoint.IpEndpoint.{IpEndpoint}
+use Rattle.sockets.specs.Queue.{Queued}
+use Rattle.sockets.specs.Raw.{RawSocket}
+use Rattle.sockets.specs.Udp.{UdpSocket}
 use Rattle.sockets.specs.declared.socket.SocketOf.TheVariants as kind
 use Rattle.socket_set.specs.SocketMeta.{Wait}
 use Rattle.host_machine.specs.declared.results.HardwareError.TheVariants as hardware_error

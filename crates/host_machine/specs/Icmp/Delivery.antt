@@ -3,7 +3,7 @@ use Rattle.std.specs.Prelude.{ℕ, Bool, List}
 use Rattle.ip_address.specs.declared.ip.IpAddress.{IpAddress}
 use Rattle.control_wire.specs.declared.icmp.IcmpRepr.{IcmpRepr}
 use Rattle.sockets.specs.Kinds.{down_icmp, up_icmp}
-use Rattle.network_sockets.specs.Icmp as socket
+use Rattle.sockets.specs.Icmp as socket
 use Rattle.host_machine.specs.Context.Host.{Host, Storage, with_places}
 use Rattle.host_machine.specs.Sockets.Delivery.{changed, holds, to_each}
 

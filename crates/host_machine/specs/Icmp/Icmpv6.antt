@@ -5,14 +5,14 @@ use Rattle.ip_address.specs.declared.ipv6.Ipv6Address.{Ipv6Address}
 use Rattle.ip_address.specs.declared.ip.IpAddress.TheVariants as address
 use Rattle.ip_address.specs.declared.cidr.IpCidr.{IpCidr}
 use Rattle.ip_address.specs.Ipv6.{is_unicast}
-use Rattle.address_selection.specs.Ipv6.{source_v6}
-use Rattle.ipv6_wire.specs.declared.ipv6_packet.Ipv6Repr.{Ipv6Repr}
-use Rattle.icmpv6_wire.specs.declared.icmpv6.Icmpv6Repr.{Icmpv6Repr}
-use Rattle.icmpv6_wire.specs.declared.icmpv6.Icmpv6Repr.TheVariants.{EchoRequest, EchoReply, DstUnreachable, PktTooBig}
-use Rattle.icmpv6_wire.specs.declared.icmpv6.Icmpv6Repr.TheVariants.{TimeExceeded, ParamProblem, Ndisc, Router, Mld}
-use Rattle.icmpv6_wire.specs.declared.icmpv6.Icmpv6DstUnreachable.TheVariants.{PortUnreachable}
-use Rattle.icmpv6_wire.specs.declared.icmpv6.Icmpv6ParamProblem.{Icmpv6ParamProblem}
-use Rattle.icmpv6_wire.specs.Icmpv6.{IsIcmpv6, icmpv6_in}
+use Rattle.ip_address.specs.AddressSelection.Ipv6.{source_v6}
+use Rattle.ip_wire.specs.declared.ipv6_packet.Ipv6Repr.{Ipv6Repr}
+use Rattle.control_wire.specs.declared.icmpv6.Icmpv6Repr.{Icmpv6Repr}
+use Rattle.control_wire.specs.declared.icmpv6.Icmpv6Repr.TheVariants.{EchoRequest, EchoReply, DstUnreachable, PktTooBig}
+use Rattle.control_wire.specs.declared.icmpv6.Icmpv6Repr.TheVariants.{TimeExceeded, ParamProblem, Ndisc, Router, Mld}
+use Rattle.control_wire.specs.declared.icmpv6.Icmpv6DstUnreachable.TheVariants.{PortUnreachable}
+use Rattle.control_wire.specs.declared.icmpv6.Icmpv6ParamProblem.{Icmpv6ParamProblem}
+use Rattle.control_wire.specs.Icmpv6.{IsIcmpv6, icmpv6_in}
 use Rattle.control_wire.specs.declared.icmp.IcmpRepr.TheVariants.{Ipv6 as Ipv6Message}
 use Rattle.host_machine.specs.Context.Note.{Note}
 use Rattle.host_machine.specs.Context.Host.{Host, with_slaac}

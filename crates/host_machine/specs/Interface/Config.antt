@@ -15,11 +15,11 @@ use Rattle.host_machine.specs.declared.results.HardwareError.TheVariants as hard
 use Rattle.host_machine.specs.declared.results.NewError.{NewError}
 use Rattle.host_machine.specs.declared.results.NewError.TheVariants.{MediumMismatch, NotUnicast}
 use Rattle.host_machine.specs.declared.results.NewError.TheVariants.{MtuTooSmall, MtuTooLarge}
-use Rattle.group_table.specs.declared.report.IgmpReportState.TheVariants as igmp
-use Rattle.group_table.specs.declared.report.MldReportState.TheVariants as mld
+use Rattle.iface_tables.specs.declared.report.IgmpReportState.TheVariants as igmp
+use Rattle.iface_tables.specs.declared.report.MldReportState.TheVariants as mld
 use Rattle.iface_tables.specs.Neighbor.{first_neighbors}
 use Rattle.fragmentation.specs.Slots.{free_slots}
-use Rattle.slaac.specs.Slaac.{initial_state}
+use Rattle.iface_tables.specs.Slaac.{initial_state}
 use Rattle.host_machine.specs.Context.Host.{Host, SocketSet}
 
 abbrev pub same_medium : Medium → Medium → Bool

@@ -1,7 +1,7 @@
 -- When a host has to be polled again: the instants at which it has work.
 use Rattle.std.specs.Prelude.{◌≡◌, ℕ, ℤ, pos, ◌+ℤ◌, ◌≤ℤ◌, List, ◌∷◌, slice_get, Option, Some, None}
-use Rattle.group_table.specs.declared.groups.GroupState.TheVariants.{Joining, Leaving}
-use Rattle.slaac.specs.Slaac.{prefix_ends, route_ends}
+use Rattle.iface_tables.specs.declared.groups.GroupState.TheVariants.{Joining, Leaving}
+use Rattle.iface_tables.specs.Slaac.{prefix_ends, route_ends}
 use Rattle.host_machine.specs.Context.Host.{Host}
 use Rattle.host_machine.specs.Multicast.Igmp.{igmp_poll_at}
 use Rattle.host_machine.specs.Multicast.Mld.{mld_timeout_of}

@@ -6,17 +6,17 @@ use Rattle.std.specs.Option.{option_map, option_and_then}
 use Rattle.net_base.specs.Device.{Event, Asked}
 use Rattle.ip_address.specs.declared.cidr.IpCidr.{IpCidr}
 use Rattle.ip_address.specs.declared.ipv4.Ipv4Address.{Ipv4Address}
-use Rattle.group_wire.specs.declared.igmp.IgmpRepr.{IgmpRepr}
-use Rattle.group_wire.specs.declared.igmp.IgmpRepr.TheVariants.{MembershipReport, LeaveGroup, MembershipQuery}
-use Rattle.group_wire.specs.declared.igmp.IgmpVersion.{IgmpVersion}
+use Rattle.control_wire.specs.declared.igmp.IgmpRepr.{IgmpRepr}
+use Rattle.control_wire.specs.declared.igmp.IgmpRepr.TheVariants.{MembershipReport, LeaveGroup, MembershipQuery}
+use Rattle.control_wire.specs.declared.igmp.IgmpVersion.{IgmpVersion}
 use Rattle.ip_address.specs.declared.ip.IpAddress.TheVariants as address
 use Rattle.ip_address.specs.Ipv4 as ipv4
 use Rattle.ip_wire.specs.declared.ipv4_packet.Ipv4Repr.{Ipv4Repr}
-use Rattle.group_wire.specs.declared.igmp.IgmpVersion.TheVariants.{Version1, Version2}
-use Rattle.group_wire.specs.Igmp.{IsIgmp, igmp_in, query_version, tenths_of}
-use Rattle.group_table.specs.Groups.{ipv4_groups}
-use Rattle.group_table.specs.declared.report.IgmpReportState.{IgmpReportState}
-use Rattle.group_table.specs.declared.report.IgmpReportState.TheVariants as igmp
+use Rattle.control_wire.specs.declared.igmp.IgmpVersion.TheVariants.{Version1, Version2}
+use Rattle.control_wire.specs.Igmp.{IsIgmp, igmp_in, query_version, tenths_of}
+use Rattle.iface_tables.specs.Groups.{ipv4_groups}
+use Rattle.iface_tables.specs.declared.report.IgmpReportState.{IgmpReportState}
+use Rattle.iface_tables.specs.declared.report.IgmpReportState.TheVariants as igmp
 use Rattle.host_machine.specs.Context.Addresses.{ipv4_addr, has_multicast_group}
 use Rattle.host_machine.specs.Packet.Packet.{Packet, Igmp}
 use Rattle.host_machine.specs.Packet.Packet as packet

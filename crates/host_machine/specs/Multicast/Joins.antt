@@ -5,13 +5,13 @@ use Rattle.ip_address.specs.declared.cidr.IpCidr.{IpCidr}
 use Rattle.ip_address.specs.declared.ip.IpAddress.{IpAddress}
 use Rattle.ip_address.specs.declared.ip.IpAddress.TheVariants.{Ipv4, Ipv6}
 use Rattle.ip_address.specs.Ip.{is_multicast}
-use Rattle.group_wire.specs.declared.igmp.IgmpVersion.TheVariants.{Version2}
-use Rattle.group_wire.specs.declared.mld.MldRecordType.TheVariants.{ChangeToInclude, ChangeToExclude}
-use Rattle.group_table.specs.declared.groups.Group.{Group}
-use Rattle.group_table.specs.declared.groups.GroupState.{GroupState}
-use Rattle.group_table.specs.declared.groups.GroupState.TheVariants.{Joining, Leaving}
-use Rattle.group_table.specs.Groups.{first_in, is_refused, join_reported, groups_after_join, leave_reported}
-use Rattle.group_table.specs.Groups.{groups_after_leave}
+use Rattle.control_wire.specs.declared.igmp.IgmpVersion.TheVariants.{Version2}
+use Rattle.control_wire.specs.declared.mld.MldRecordType.TheVariants.{ChangeToInclude, ChangeToExclude}
+use Rattle.iface_tables.specs.declared.groups.Group.{Group}
+use Rattle.iface_tables.specs.declared.groups.GroupState.{GroupState}
+use Rattle.iface_tables.specs.declared.groups.GroupState.TheVariants.{Joining, Leaving}
+use Rattle.iface_tables.specs.Groups.{first_in, is_refused, join_reported, groups_after_join, leave_reported}
+use Rattle.iface_tables.specs.Groups.{groups_after_leave}
 use Rattle.host_machine.specs.declared.results.MulticastError.{MulticastError}
 use Rattle.host_machine.specs.declared.results.MulticastError.TheVariants.{GroupTableFull, Unaddressable}
 use Rattle.host_machine.specs.Context.Note.{Note}

@@ -5,17 +5,17 @@ use Rattle.net_base.specs.Device.{Event, Asked}
 use Rattle.net_base.specs.Rand.{next}
 use Rattle.ip_address.specs.declared.cidr.IpCidr.{IpCidr}
 use Rattle.ip_address.specs.declared.ipv6.Ipv6Address.{Ipv6Address}
-use Rattle.group_wire.specs.declared.mld.MldRecordType.{MldRecordType}
-use Rattle.group_wire.specs.Mld.{record_text}
+use Rattle.control_wire.specs.declared.mld.MldRecordType.{MldRecordType}
+use Rattle.control_wire.specs.Mld.{record_text}
 use Rattle.ip_address.specs.declared.ip.IpAddress.TheVariants as address
 use Rattle.ip_address.specs.Ipv6 as ipv6
-use Rattle.ipv6_wire.specs.declared.ipv6_packet.Ipv6Repr.{Ipv6Repr}
-use Rattle.group_wire.specs.declared.mld.MldRecordType.TheVariants.{ModeIsExclude}
-use Rattle.group_wire.specs.declared.mld.MldRepr.{MldRepr}
-use Rattle.group_wire.specs.declared.mld.MldRepr.TheVariants.{Query, Report}
-use Rattle.group_table.specs.Groups.{ipv6_groups}
-use Rattle.group_table.specs.declared.report.MldReportState.{MldReportState}
-use Rattle.group_table.specs.declared.report.MldReportState.TheVariants as mld
+use Rattle.ip_wire.specs.declared.ipv6_packet.Ipv6Repr.{Ipv6Repr}
+use Rattle.control_wire.specs.declared.mld.MldRecordType.TheVariants.{ModeIsExclude}
+use Rattle.control_wire.specs.declared.mld.MldRepr.{MldRepr}
+use Rattle.control_wire.specs.declared.mld.MldRepr.TheVariants.{Query, Report}
+use Rattle.iface_tables.specs.Groups.{ipv6_groups}
+use Rattle.iface_tables.specs.declared.report.MldReportState.{MldReportState}
+use Rattle.iface_tables.specs.declared.report.MldReportState.TheVariants as mld
 use Rattle.host_machine.specs.Context.Addresses.{link_local_addr, has_multicast_group}
 use Rattle.host_machine.specs.Packet.Packet.{Packet, Mld}
 use Rattle.host_machine.specs.Packet.Packet as packet

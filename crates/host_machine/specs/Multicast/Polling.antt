@@ -1,9 +1,9 @@
 -- When groups have something to report.
 use Rattle.std.specs.Prelude.{ℤ, pos, Option}
 use Rattle.std.specs.Option.{option_map}
-use Rattle.group_table.specs.declared.groups.GroupState.{GroupState}
-use Rattle.group_table.specs.declared.groups.GroupState.TheVariants.{Joining, Leaving}
-use Rattle.group_table.specs.Groups.{first_in}
+use Rattle.iface_tables.specs.declared.groups.GroupState.{GroupState}
+use Rattle.iface_tables.specs.declared.groups.GroupState.TheVariants.{Joining, Leaving}
+use Rattle.iface_tables.specs.Groups.{first_in}
 use Rattle.net_base.specs.Instants.{earlier_of}
 use Rattle.host_machine.specs.Context.Host.{Host}
 use Rattle.host_machine.specs.Multicast.Igmp.{igmp_poll_at}

@@ -15,13 +15,13 @@ use Rattle.ip_wire.specs.Tcp as tcp
 use Rattle.ip_wire.specs.Udp as udp
 use Rattle.ip_wire.specs.declared.tcp.TcpRepr.{TcpRepr}
 use Rattle.control_wire.specs.Icmpv4 as icmpv4
-use Rattle.icmpv6_wire.specs.Icmpv6 as icmpv6
-use Rattle.icmpv6_wire.specs.declared.icmpv6.Icmpv6Repr.TheVariants.{Mld as MldMessage}
-use Rattle.group_wire.specs.Igmp as igmp
-use Rattle.group_wire.specs.declared.mld.MldRepr.TheVariants.{Report}
-use Rattle.ipv6_wire.specs.HopByHop as hop_by_hop
-use Rattle.ipv6_wire.specs.declared.hop_by_hop.Ipv6HopByHopRepr.{Ipv6HopByHopRepr}
-use Rattle.ipv6_wire.specs.declared.hop_by_hop.Ipv6OptionRepr.TheVariants.{RouterAlert, PadN}
+use Rattle.control_wire.specs.Icmpv6 as icmpv6
+use Rattle.control_wire.specs.declared.icmpv6.Icmpv6Repr.TheVariants.{Mld as MldMessage}
+use Rattle.control_wire.specs.Igmp as igmp
+use Rattle.control_wire.specs.declared.mld.MldRepr.TheVariants.{Report}
+use Rattle.ip_wire.specs.HopByHop as hop_by_hop
+use Rattle.ip_wire.specs.declared.hop_by_hop.Ipv6HopByHopRepr.{Ipv6HopByHopRepr}
+use Rattle.ip_wire.specs.declared.hop_by_hop.Ipv6OptionRepr.TheVariants.{RouterAlert, PadN}
 use Rattle.ip_address.specs.declared.protocol.IpProtocol.TheVariants as ip_protocol
 use Rattle.fragmentation.specs.Cuts.{Piece, piece_header, piece_fragment}
 use Rattle.host_machine.specs.Context.Host.{Host}

@@ -8,7 +8,7 @@ use Rattle.ip_address.specs.declared.ipv6.Ipv6Address.{Ipv6Address}
 use Rattle.ip_address.specs.declared.ip.IpAddress.{IpAddress}
 use Rattle.ip_address.specs.declared.ip.IpAddress.TheVariants.{Ipv4, Ipv6}
 use Rattle.ip_address.specs.Ipv6.{solicited_node}
-use Rattle.address_selection.specs.Ipv6.{source_v6}
+use Rattle.ip_address.specs.AddressSelection.Ipv6.{source_v6}
 use Rattle.iface_tables.specs.Neighbor.{Neighbors}
 use Rattle.host_machine.specs.declared.results.DispatchError.TheVariants.{NoRoute, NeighborPending}
 use Rattle.host_machine.specs.Context.Note.{Note, OfDiscovery, OfIdentification, Ask, Identify}

@@ -2,8 +2,8 @@
 use Rattle.std.specs.Prelude.{ℕ, List, Option, Some, None}
 use Rattle.control_wire.specs.declared.icmpv4.Icmpv4Repr.{Icmpv4Repr}
 use Rattle.control_wire.specs.declared.icmpv4.Icmpv4Repr.TheVariants as v4
-use Rattle.icmpv6_wire.specs.declared.icmpv6.Icmpv6Repr.{Icmpv6Repr}
-use Rattle.icmpv6_wire.specs.declared.icmpv6.Icmpv6Repr.TheVariants as v6
+use Rattle.control_wire.specs.declared.icmpv6.Icmpv6Repr.{Icmpv6Repr}
+use Rattle.control_wire.specs.declared.icmpv6.Icmpv6Repr.TheVariants as v6
 use Rattle.control_wire.specs.declared.icmp.IcmpRepr.{IcmpRepr}
 use Rattle.control_wire.specs.declared.icmp.IcmpRepr.TheVariants as icmp
 use Rattle.host_machine.specs.Packet.Packet.{IpPayload, Icmpv4, Icmpv6}

@@ -1,7 +1,7 @@
 -- When a socket is due.
 use Rattle.std.specs.Prelude.{◌≡◌, ℕ, ℤ, pos, Bool, slice_get, Option, Some, None}
-use Rattle.socket_base.specs.declared.poll_at.PollAt.{PollAt}
-use Rattle.socket_base.specs.declared.poll_at.PollAt.TheVariants.{Now, Time, Ingress}
+use Rattle.sockets.specs.declared.poll_at.PollAt.{PollAt}
+use Rattle.sockets.specs.declared.poll_at.PollAt.TheVariants.{Now, Time, Ingress}
 use Rattle.sockets.specs.Kinds as kinds
 use Rattle.socket_set.specs.SocketMeta.{IsAnswerFor, poll_at}
 use Rattle.socket_set.specs.SocketSet.{wait_at}

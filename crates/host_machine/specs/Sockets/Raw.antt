@@ -6,7 +6,7 @@ use Rattle.ip_wire.specs.IpPacket.{next_header, version_of}
 use Rattle.ip_address.specs.declared.protocol.IpProtocol.{IpProtocol}
 use Rattle.ip_address.specs.declared.protocol.IpVersion.{IpVersion}
 use Rattle.sockets.specs.Kinds.{down_raw, up_raw}
-use Rattle.network_sockets.specs.Raw as socket
+use Rattle.sockets.specs.Raw as socket
 use Rattle.host_machine.specs.Context.Host.{Host, Storage, with_places}
 use Rattle.host_machine.specs.Sockets.Delivery.{changed, holds, some_accepts, to_each}
 

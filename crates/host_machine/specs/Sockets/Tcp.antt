@@ -7,9 +7,9 @@ use Rattle.ip_wire.specs.declared.ip_packet.IpRepr.{IpRepr}
 use Rattle.ip_wire.specs.declared.tcp.TcpRepr.{TcpRepr}
 use Rattle.ip_wire.specs.IpPacket.{src_addr, dst_addr}
 use Rattle.ip_wire.specs.Tcp.{IsTcp, tcp_in}
-use Rattle.socket_base.specs.declared.endpoint.IpEndpoint.{IpEndpoint}
+use Rattle.sockets.specs.declared.endpoint.IpEndpoint.{IpEndpoint}
 use Rattle.sockets.specs.Kinds.{down_tcp, up_tcp}
-use Rattle.transport_sockets.specs.Tcp as socket
+use Rattle.sockets.specs.Tcp as socket
 use Rattle.host_machine.specs.Context.Note.{Note}
 use Rattle.host_machine.specs.Context.Host.{Host, Storage, with_places}
 use Rattle.host_machine.specs.Sockets.Delivery.{IsFirst, NoneAccepts, changed, holds}

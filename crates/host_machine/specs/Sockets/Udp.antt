@@ -6,9 +6,9 @@ use Rattle.ip_wire.specs.declared.ip_packet.IpRepr.{IpRepr}
 use Rattle.ip_wire.specs.declared.udp.UdpRepr.{UdpRepr}
 use Rattle.ip_wire.specs.IpPacket.{src_addr, dst_addr}
 use Rattle.ip_wire.specs.Udp.{IsUdp, udp_in}
-use Rattle.socket_base.specs.declared.endpoint.IpEndpoint.{IpEndpoint}
+use Rattle.sockets.specs.declared.endpoint.IpEndpoint.{IpEndpoint}
 use Rattle.sockets.specs.Kinds.{down_udp, up_udp}
-use Rattle.transport_sockets.specs.Udp as socket
+use Rattle.sockets.specs.Udp as socket
 use Rattle.host_machine.specs.Context.Note.{Note}
 use Rattle.host_machine.specs.Context.Host.{Host, Storage, with_places}
 use Rattle.host_machine.specs.Context.Addresses.{is_broadcast}

@@ -1,8 +1,8 @@
 use Rattle.std.proofs.Common.{◌-◌, ◌<◌, ◌∙◌, ap, sym, arith, refl}
 use Rattle.std.proofs.lemmas.Bool.{false_from_ne_true}
-use Rattle.dns_wire.specs.declared.record.DnsRecord.{DnsRecord}
+use Rattle.dns_client.specs.declared.record.DnsRecord.{DnsRecord}
 use Rattle.dns_client.specs.Found.{result_if, with_record}
-use Rattle.dns_client.proofs.Reading as reading
+use Rattle.dns_client.proofs.DnsClient.Reading as reading
 use Rattle.dns_client.proofs.found.found_in.Goals as goal
 
 pub loop-left-preserved : goal.loop-left-preserved

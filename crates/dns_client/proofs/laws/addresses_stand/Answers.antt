@@ -1,4 +1,4 @@
-use Rattle.dns_client.proofs.Standing as law
+use Rattle.dns_client.proofs.DnsClient.Standing as law
 use Rattle.dns_client.proofs.laws.addresses_stand.Goals as goal
 
 pub returns : goal.returns

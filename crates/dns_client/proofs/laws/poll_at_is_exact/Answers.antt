@@ -1,4 +1,4 @@
-use Rattle.dns_client.proofs.Ends as law
+use Rattle.dns_client.proofs.DnsClient.Ends as law
 use Rattle.dns_client.proofs.laws.poll_at_is_exact.Goals as goal
 
 pub returns : goal.returns

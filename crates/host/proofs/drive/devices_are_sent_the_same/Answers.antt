@@ -1,7 +1,7 @@
 use Rattle.std.proofs.Common.{sym, ap, ◌∙◌, inl, inr}
 use Rattle.std.specs.Prelude.{map}
 use Rattle.host_machine.specs.Interface.Run.{Transition, events_in}
-use Rattle.machine_laws.proofs.Runs.RunDeterminism.{run_once}
+use Rattle.host_laws.proofs.Runs.RunDeterminism.{run_once}
 use Rattle.host.proofs.drive.devices_are_sent_the_same.Goals as goal
 
 pub returns : goal.returns

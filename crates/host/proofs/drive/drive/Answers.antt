@@ -1,7 +1,7 @@
 use Rattle.std.proofs.Common.{◌≡◌, ◌∙◌, ap, sym, length, take, arith}
 use Rattle.std.proofs.lemmas.List.{take_more, take_more_set, take_all}
 use Rattle.host_machine.specs.Context.Host.{Host}
-use Rattle.machine_laws.proofs.Interface.RunConcatenation.{no_commands}
+use Rattle.host_laws.proofs.Interface.RunConcatenation.{no_commands}
 use Rattle.interface.specs.Stands.{StandsFor}
 use Rattle.host.proofs.DriveSteps.{driven, ran_more}
 use Rattle.host.proofs.drive.drive.Goals as goal

@@ -1,4 +1,4 @@
-use Rattle.machine_laws.proofs.Interface.RunConcatenation.{ran_on}
+use Rattle.host_laws.proofs.Interface.RunConcatenation.{ran_on}
 use Rattle.interface.specs.Stands.{StandsFor}
 use Rattle.host.proofs.DriveSteps.{driven}
 use Rattle.host.proofs.drive.drives_join.Goals as goal

@@ -1,6 +1,6 @@
 use Rattle.std.proofs.Common.{refl}
-use Rattle.ipv6_wire.specs.Ipv6Packet.{address_at}
-use Rattle.icmpv6_wire.specs.NdiscOption.{last_of, options_from}
+use Rattle.ip_wire.specs.Ipv6Packet.{address_at}
+use Rattle.control_wire.specs.NdiscOption.{last_of, options_from}
 use Rattle.host_machine.proofs.worked_examples.advertisements_are_applied.Goals as goal
 
 pub returns : goal.returns

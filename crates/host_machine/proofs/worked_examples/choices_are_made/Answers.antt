@@ -1,7 +1,7 @@
 use Rattle.std.specs.Prelude.{◌≡◌, List, Option}
 use Rattle.std.proofs.Common.{refl}
-use Rattle.ipv6_wire.specs.declared.ipv6_packet.Ipv6Repr.{Ipv6Repr}
-use Rattle.icmpv6_wire.specs.declared.ndisc.NdiscRepr.{NdiscRepr}
+use Rattle.ip_wire.specs.declared.ipv6_packet.Ipv6Repr.{Ipv6Repr}
+use Rattle.control_wire.specs.declared.ndisc.NdiscRepr.{NdiscRepr}
 use Rattle.host_machine.specs.Context.Note.{Note}
 use Rattle.host_machine.specs.Context.Host.{Host}
 use Rattle.host_machine.specs.Receive.Reply.{Reply}

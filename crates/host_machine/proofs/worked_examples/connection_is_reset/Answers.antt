@@ -1,7 +1,7 @@
 use Rattle.std.proofs.Common.{[], ◌∷◌, refl, Some, Ok, lit≤, arith}
-use Rattle.wire_base.specs.Checksum.{word_sum}
+use Rattle.ip_wire.specs.Checksum.{word_sum}
 use Rattle.ip_wire.specs.Ipv4Packet.{header_with, front, back}
-use Rattle.wire_base.specs.Pseudo.{pseudo}
+use Rattle.ip_wire.specs.Pseudo.{pseudo}
 use Rattle.ip_wire.specs.Tcp as wire
 use Rattle.ip_wire.specs.Tcp.{control_of}
 use Rattle.ip_wire.specs.declared.tcp.TcpControl.TheVariants as control

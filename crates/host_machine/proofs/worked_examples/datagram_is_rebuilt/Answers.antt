@@ -1,6 +1,6 @@
 use Rattle.std.proofs.Common.{[], ◌∷◌, refl, sym, ap, None, lit≤, inl, inr}
 use Rattle.std.specs.Prelude.{pos}
-use Rattle.wire_base.specs.Checksum.{word_sum}
+use Rattle.ip_wire.specs.Checksum.{word_sum}
 use Rattle.net_base.specs.Device.{Frame}
 use Rattle.iface_tables.specs.Neighbor.{Neighbors}
 use Rattle.fragmentation.specs.Slots.{without_slot, live_at}
@@ -10,7 +10,7 @@ use Rattle.host_machine.specs.Context.Host.{with_neighbors, with_slots}
 use Rattle.host_machine.specs.Receive.Ipv4 as ipv4
 use Rattle.host_machine.specs.Receive.Ethernet as ethernet
 use Rattle.host_machine.specs.Multicast.Igmp as reports
-use Rattle.group_wire.specs.Igmp.{IsType}
+use Rattle.control_wire.specs.Igmp.{IsType}
 use Rattle.host_machine.specs.Examples.Fragments as example
 use Rattle.host_machine.proofs.Examples.Exchange.{none_renewed}
 use Rattle.host_machine.proofs.Examples.Pair.{still_there, ten_rebuilt}

@@ -1,7 +1,7 @@
 use Rattle.std.proofs.Common.{[], ◌∷◌, refl, Some, Ok, lit≤, arith}
-use Rattle.wire_base.specs.Checksum.{word_sum}
+use Rattle.ip_wire.specs.Checksum.{word_sum}
 use Rattle.ip_wire.specs.Ipv4Packet.{header_with, front, back}
-use Rattle.wire_base.specs.Pseudo.{pseudo}
+use Rattle.ip_wire.specs.Pseudo.{pseudo}
 use Rattle.ip_address.specs.declared.protocol.IpProtocol.TheVariants as protocol
 use Rattle.control_wire.specs.Icmpv4.{head_with}
 use Rattle.control_wire.specs.declared.icmpv4.Icmpv4Repr.TheVariants.{DstUnreachable}

@@ -1,6 +1,6 @@
 use Rattle.std.proofs.Common.{[], ◌∷◌, refl, sym, ap, None, lit≤}
 use Rattle.std.specs.Prelude.{pos}
-use Rattle.wire_base.specs.Checksum.{word_sum}
+use Rattle.ip_wire.specs.Checksum.{word_sum}
 use Rattle.net_base.specs.Device.{Frame}
 use Rattle.fragmentation.specs.Fragments.{Got, no_fragments}
 use Rattle.fragmentation.specs.Slots.{free_slots, with_slot}

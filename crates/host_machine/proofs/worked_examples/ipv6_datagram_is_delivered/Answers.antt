@@ -1,9 +1,9 @@
 use Rattle.std.proofs.Common.{[], ◌∷◌, refl, Some, None, lit≤, arith}
 use Rattle.std.specs.Prelude.{pos}
 use Rattle.ip_address.specs.Prefixes.{bits}
-use Rattle.wire_base.specs.Checksum.{word_sum}
-use Rattle.wire_base.specs.Pseudo.{pseudo}
-use Rattle.ipv6_wire.specs.Ipv6Packet.{address_at}
+use Rattle.ip_wire.specs.Checksum.{word_sum}
+use Rattle.ip_wire.specs.Pseudo.{pseudo}
+use Rattle.ip_wire.specs.Ipv6Packet.{address_at}
 use Rattle.net_base.specs.Device.{Frame}
 use Rattle.sockets.specs.declared.socket.SocketOf.TheVariants as kind
 use Rattle.host_machine.specs.Sockets.Udp as udp

@@ -1,9 +1,9 @@
 use Rattle.std.proofs.Common.{[], refl, lit≤}
 use Rattle.ip_address.specs.Prefixes.{bits}
-use Rattle.wire_base.specs.Checksum.{word_sum}
-use Rattle.wire_base.specs.Pseudo.{pseudo}
+use Rattle.ip_wire.specs.Checksum.{word_sum}
+use Rattle.ip_wire.specs.Pseudo.{pseudo}
 use Rattle.ip_wire.specs.Udp.{header_with}
-use Rattle.ipv6_wire.specs.Ipv6Packet.{header_text, address_text}
+use Rattle.ip_wire.specs.Ipv6Packet.{header_text, address_text}
 use Rattle.host_machine.specs.Send.Dispatch.{ToSpecified, ByHop, Known, Whole}
 use Rattle.host_machine.specs.Send.Hops.{OnLink}
 use Rattle.host_machine.specs.Examples.ArpAndEcho as example

@@ -1,12 +1,12 @@
 use Rattle.std.proofs.Common.{[], ◌∷◌, refl, Ok, lit≤}
-use Rattle.wire_base.specs.Checksum.{word_sum}
-use Rattle.wire_base.specs.Pseudo.{pseudo}
+use Rattle.ip_wire.specs.Checksum.{word_sum}
+use Rattle.ip_wire.specs.Pseudo.{pseudo}
 use Rattle.ip_wire.specs.Ipv4Packet.{front, back, header_with}
-use Rattle.ipv6_wire.specs.Ipv6Packet.{header_text, address_text}
-use Rattle.ipv6_wire.specs.HopByHop.{option_text}
-use Rattle.icmpv6_wire.specs.Icmpv6.{head_with}
-use Rattle.group_wire.specs.Igmp.{text_with}
-use Rattle.group_wire.specs.Mld.{record_text}
+use Rattle.ip_wire.specs.Ipv6Packet.{header_text, address_text}
+use Rattle.ip_wire.specs.HopByHop.{option_text}
+use Rattle.control_wire.specs.Icmpv6.{head_with}
+use Rattle.control_wire.specs.Igmp.{text_with}
+use Rattle.control_wire.specs.Mld.{record_text}
 use Rattle.host_machine.specs.Send.Dispatch.{ToSpecified, ToMulticast, Whole}
 use Rattle.host_machine.specs.Multicast.Joins.{All, Begins, Reported}
 use Rattle.host_machine.specs.Examples.ArpAndEcho.{identify}

@@ -1,7 +1,7 @@
 use Rattle.std.proofs.Common.{[], ◌∷◌, refl, Ok, lit≤}
-use Rattle.wire_base.specs.Checksum.{word_sum}
+use Rattle.ip_wire.specs.Checksum.{word_sum}
 use Rattle.ip_wire.specs.Ipv4Packet.{front, back, header_with}
-use Rattle.group_wire.specs.Igmp.{text_with}
+use Rattle.control_wire.specs.Igmp.{text_with}
 use Rattle.host_machine.specs.Send.Dispatch.{ToSpecified, ToMulticast, Whole}
 use Rattle.host_machine.specs.Multicast.Joins.{All, Begins, Reported}
 use Rattle.host_machine.specs.Examples.ArpAndEcho.{identify}

@@ -5,11 +5,11 @@ use Rattle.iface_tables.specs.declared.neighbor.Answer.TheVariants.{NotFound}
 use Rattle.iface_tables.specs.Neighbor.{answer_of}
 use Rattle.ip_address.specs.declared.ip.IpAddress.TheVariants.{Ipv6}
 use Rattle.ip_address.specs.Prefixes.{bits}
-use Rattle.wire_base.specs.Checksum.{word_sum}
-use Rattle.wire_base.specs.Pseudo.{pseudo}
-use Rattle.ipv6_wire.specs.Ipv6Packet.{header_text, address_text}
-use Rattle.icmpv6_wire.specs.Icmpv6.{head_with}
-use Rattle.icmpv6_wire.specs.NdiscOption.{lladdr_text}
+use Rattle.ip_wire.specs.Checksum.{word_sum}
+use Rattle.ip_wire.specs.Pseudo.{pseudo}
+use Rattle.ip_wire.specs.Ipv6Packet.{header_text, address_text}
+use Rattle.control_wire.specs.Icmpv6.{head_with}
+use Rattle.control_wire.specs.NdiscOption.{lladdr_text}
 use Rattle.host_machine.specs.Context.Note.{OfDiscovery, OfIdentification, Ask, Identify}
 use Rattle.host_machine.specs.Send.Dispatch.{ToSpecified, ByHop, Unknown}
 use Rattle.host_machine.specs.Send.Hops.{OnLink}

@@ -1,5 +1,5 @@
 use Rattle.std.proofs.Common.{[], ◌∷◌, false, refl, lit≤}
-use Rattle.wire_base.specs.Checksum.{word_sum}
+use Rattle.ip_wire.specs.Checksum.{word_sum}
 use Rattle.ip_wire.specs.Ipv4Packet.{header_with, front, back}
 use Rattle.fragmentation.specs.Cuts.{piece_of}
 use Rattle.host_machine.specs.Context.Note.{OfCuts, Cut, PieceSent}

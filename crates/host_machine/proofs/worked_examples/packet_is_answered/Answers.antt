@@ -1,5 +1,5 @@
 use Rattle.std.proofs.Common.{[], ◌∷◌, drop, refl, Some, Ok, lit≤}
-use Rattle.wire_base.specs.Checksum.{word_sum}
+use Rattle.ip_wire.specs.Checksum.{word_sum}
 use Rattle.ip_wire.specs.Ipv4Packet.{header_with, front, back}
 use Rattle.control_wire.specs.Icmpv4.{head_with, Request}
 use Rattle.control_wire.specs.declared.icmpv4.Icmpv4Repr.TheVariants.{EchoReply}

@@ -1,5 +1,5 @@
 use Rattle.std.proofs.Common.{[], ◌∷◌, refl, Some, Ok, lit≤}
-use Rattle.wire_base.specs.Checksum.{word_sum}
+use Rattle.ip_wire.specs.Checksum.{word_sum}
 use Rattle.ip_wire.specs.Ipv4Packet.{header_with, front, back}
 use Rattle.ip_address.specs.declared.protocol.IpProtocol.TheVariants as protocol
 use Rattle.control_wire.specs.Icmpv4.{head_with}

@@ -1,7 +1,7 @@
 use Rattle.std.proofs.Common.{[], refl, None, lit≤, arith}
-use Rattle.wire_base.specs.Checksum.{word_sum}
+use Rattle.ip_wire.specs.Checksum.{word_sum}
 use Rattle.ip_wire.specs.Ipv4Packet.{header_with, front, back}
-use Rattle.wire_base.specs.Pseudo.{pseudo}
+use Rattle.ip_wire.specs.Pseudo.{pseudo}
 use Rattle.net_base.specs.Device.{Frame}
 use Rattle.host_machine.specs.Sockets.Udp as udp
 use Rattle.host_machine.specs.Receive.Ipv4 as ipv4

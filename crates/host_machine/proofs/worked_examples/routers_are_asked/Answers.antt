@@ -1,9 +1,9 @@
 use Rattle.std.proofs.Common.{[], ◌∷◌, refl, Ok, lit≤}
-use Rattle.wire_base.specs.Checksum.{word_sum}
-use Rattle.wire_base.specs.Pseudo.{pseudo}
-use Rattle.ipv6_wire.specs.Ipv6Packet.{header_text, address_text}
-use Rattle.icmpv6_wire.specs.Icmpv6.{head_with}
-use Rattle.icmpv6_wire.specs.NdiscOption.{lladdr_text}
+use Rattle.ip_wire.specs.Checksum.{word_sum}
+use Rattle.ip_wire.specs.Pseudo.{pseudo}
+use Rattle.ip_wire.specs.Ipv6Packet.{header_text, address_text}
+use Rattle.control_wire.specs.Icmpv6.{head_with}
+use Rattle.control_wire.specs.NdiscOption.{lladdr_text}
 use Rattle.host_machine.specs.Send.Dispatch.{ToSpecified, ToMulticast, Whole}
 use Rattle.host_machine.specs.Discovery.RouterSolicitation.{Goes}
 use Rattle.host_machine.specs.Examples.Slaac.{solicitation}

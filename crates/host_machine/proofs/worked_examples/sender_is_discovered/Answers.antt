@@ -1,7 +1,7 @@
 use Rattle.std.proofs.Common.{[], ◌∷◌, refl, sym, ap, Some, Err, lit≤}
 use Rattle.std.specs.Prelude.{pos}
 use Rattle.ip_wire.specs.Arp.{ipv4_over_ethernet}
-use Rattle.wire_base.specs.Checksum.{word_sum}
+use Rattle.ip_wire.specs.Checksum.{word_sum}
 use Rattle.control_wire.specs.Icmpv4.{Request}
 use Rattle.control_wire.specs.declared.icmpv4.Icmpv4Repr.TheVariants.{EchoReply}
 use Rattle.net_base.specs.Device.{Frame}

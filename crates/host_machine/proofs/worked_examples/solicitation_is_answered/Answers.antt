@@ -5,11 +5,11 @@ use Rattle.std.proofs.lemmas.List.Elements.{All-nil, All-cons}
 use Rattle.net_base.specs.Device.{Frame}
 use Rattle.ip_address.specs.Ip.{address_cmp}
 use Rattle.ip_address.specs.Prefixes.{bits}
-use Rattle.wire_base.specs.Checksum.{word_sum}
-use Rattle.wire_base.specs.Pseudo.{pseudo}
-use Rattle.ipv6_wire.specs.Ipv6Packet.{header_text, address_at, address_text}
-use Rattle.icmpv6_wire.specs.Icmpv6.{Neighbor as Message, head_with}
-use Rattle.icmpv6_wire.specs.NdiscOption.{IsOption, lladdr_text, last_of, options_from}
+use Rattle.ip_wire.specs.Checksum.{word_sum}
+use Rattle.ip_wire.specs.Pseudo.{pseudo}
+use Rattle.ip_wire.specs.Ipv6Packet.{header_text, address_at, address_text}
+use Rattle.control_wire.specs.Icmpv6.{Neighbor as Message, head_with}
+use Rattle.control_wire.specs.NdiscOption.{IsOption, lladdr_text, last_of, options_from}
 use Rattle.iface_tables.specs.declared.neighbor.Neighbor.{Neighbor}
 use Rattle.ip_address.specs.declared.protocol.IpProtocol.TheVariants as protocol
 use Rattle.host_machine.specs.Receive.Reply.{Ip}

@@ -1,5 +1,5 @@
 use Rattle.std.proofs.Common.{◌≡◌, ℤ, Some, of_z, to_z, w64, refl, ap, sym, subst, rules}
-use Rattle.tcp_streams.specs.declared.calls.Handle.{Handle}
+use Rattle.tcp_host.specs.declared.calls.Handle.{Handle}
 use Rattle.iface_streams.specs.Connect.{Connects, connect_refusal}
 use Rattle.iface_c.specs.Addresses.{end_in, listen_end_in}
 use Rattle.iface_c.specs.Handle.{host_in}

@@ -1,6 +1,6 @@
 use Rattle.std.proofs.Common.{◌≡◌, ◌≤◌, ◌++◌, drop, length, map}
 use Rattle.std.specs.Prelude.{filter}
-use Rattle.group_table.specs.declared.groups.Group.{Group}
+use Rattle.iface_tables.specs.declared.groups.Group.{Group}
 use Rattle.host_machine.specs.Context.Membership.{is_unneeded_group}
 use Rattle.iface_context.proofs.membership.idle_groups.Given as goal
 

@@ -1,6 +1,6 @@
 use Rattle.std.proofs.Common.{List, ap, map, ◌∙◌}
 use Rattle.std.specs.Prelude.{filter}
-use Rattle.group_table.specs.declared.groups.Group.{Group}
+use Rattle.iface_tables.specs.declared.groups.Group.{Group}
 use Rattle.host_machine.specs.Context.Membership.{groups_after_joins, groups_after_leaves, is_unneeded_group}
 use Rattle.iface_context.proofs.membership.update_solicited_node_groups.Goals as goal
 

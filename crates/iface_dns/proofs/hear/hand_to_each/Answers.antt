@@ -1,5 +1,5 @@
 use Rattle.std.proofs.Common.{◌∙◌, ◌+◌, ◌-◌, ℕ, ap}
-use Rattle.dns_resolver.specs.Places.{Queries}
+use Rattle.dns_client.specs.DnsResolver.Places.{Queries}
 use Rattle.iface_dns.specs.Hear.{handed}
 use Rattle.iface_dns.proofs.Loops.{handed_all, handed_one}
 use Rattle.iface_dns.proofs.hear.hand_to_each.Goals as goal

@@ -1,5 +1,5 @@
 use Rattle.std.proofs.Common.{ℕ, ◌-◌}
-use Rattle.dns_resolver.specs.Places.{Queries}
+use Rattle.dns_client.specs.DnsResolver.Places.{Queries}
 use Rattle.iface_host.specs.declared.host.Host.{Host}
 use Rattle.iface_dns.specs.Hear.{HearsAll}
 use Rattle.iface_dns.proofs.hear.hear_all.Given as goal

@@ -1,5 +1,5 @@
 use Rattle.sockets.specs.Kinds.{down_icmp}
-use Rattle.network_sockets.specs.Icmp as socket
+use Rattle.sockets.specs.Icmp as socket
 use Rattle.host_machine.specs.Icmp.Delivery.{storage_after_delivery}
 use Rattle.iface_icmp.proofs.SocketIteration.{not_accepted}
 use Rattle.iface_icmp.proofs.delivery.deliver_at.Goals as goal

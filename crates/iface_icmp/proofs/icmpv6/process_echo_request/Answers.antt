@@ -1,7 +1,7 @@
 use Rattle.std.proofs.Common.{ℕ, List, [], Some, drop, refl}
 use Rattle.ip_address.specs.declared.ip.IpAddress.TheVariants.{Ipv6}
 use Rattle.control_wire.specs.declared.icmp.IcmpRepr.TheVariants.{Ipv6 as Ipv6Message}
-use Rattle.icmpv6_wire.specs.Icmpv6.{Request, echo_reply_to, echo_request_in}
+use Rattle.control_wire.specs.Icmpv6.{Request, echo_reply_to, echo_request_in}
 use Rattle.socket_set.specs.SocketSet.{with_places}
 use Rattle.host_machine.specs.Sockets.Delivery.{to_each}
 use Rattle.host_machine.specs.Context.Host.{SocketSet, no_sockets}

@@ -1,6 +1,6 @@
 use Rattle.std.proofs.Common.{[], refl}
-use Rattle.icmpv6_wire.specs.declared.icmpv6.Icmpv6Repr.TheVariants.{Ndisc}
-use Rattle.icmpv6_wire.specs.Icmpv6.{Neighbor}
+use Rattle.control_wire.specs.declared.icmpv6.Icmpv6Repr.TheVariants.{Ndisc}
+use Rattle.control_wire.specs.Icmpv6.{Neighbor}
 use Rattle.iface_context.specs.Stands.{host_in}
 use Rattle.iface_context.proofs.Processing.{by_rule, unanswered}
 use Rattle.iface_icmp.proofs.Messages.{a_neighbor, of_neighbors}

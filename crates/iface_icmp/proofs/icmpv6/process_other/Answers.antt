@@ -1,5 +1,5 @@
 use Rattle.std.proofs.Common.{ℕ, List, refl, ap, sym, ◌∙◌}
-use Rattle.icmpv6_wire.specs.declared.icmpv6.Icmpv6Repr.{Icmpv6Repr}
+use Rattle.control_wire.specs.declared.icmpv6.Icmpv6Repr.{Icmpv6Repr}
 use Rattle.iface_context.specs.Stands.{host_in}
 use Rattle.iface_context.proofs.Processing.{by_rule, unanswered}
 use Rattle.iface_icmp.proofs.Messages.{no_neighbor}

@@ -1,6 +1,6 @@
 use Rattle.std.proofs.Common.{sym, ◌∙◌}
-use Rattle.group_table.specs.declared.groups.GroupState.TheVariants.{Joining}
-use Rattle.group_table.specs.Groups.{join_reported}
+use Rattle.iface_tables.specs.declared.groups.GroupState.TheVariants.{Joining}
+use Rattle.iface_tables.specs.Groups.{join_reported}
 use Rattle.host_machine.specs.Multicast.Joins.{join_packet}
 use Rattle.iface_multicast.proofs.JoinReports.{none_told, one_reported, told_until}
 use Rattle.iface_multicast.proofs.joins.joins_egress.Goals as goal

@@ -1,6 +1,6 @@
 use Rattle.std.proofs.Common.{true}
-use Rattle.group_table.specs.declared.groups.GroupState.TheVariants.{Joining}
-use Rattle.group_table.specs.Groups.{count_in, join_reported}
+use Rattle.iface_tables.specs.declared.groups.GroupState.TheVariants.{Joining}
+use Rattle.iface_tables.specs.Groups.{count_in, join_reported}
 use Rattle.host_machine.specs.Multicast.Joins.{join_packet}
 use Rattle.iface_send.specs.Offered.{HasPart}
 use Rattle.iface_context.specs.Refines.{RefinesTelling}

@@ -1,6 +1,6 @@
 use Rattle.std.proofs.Common.{sym, ◌∙◌}
-use Rattle.group_table.specs.declared.groups.GroupState.TheVariants.{Leaving}
-use Rattle.group_table.specs.Groups.{leave_reported}
+use Rattle.iface_tables.specs.declared.groups.GroupState.TheVariants.{Leaving}
+use Rattle.iface_tables.specs.Groups.{leave_reported}
 use Rattle.host_machine.specs.Multicast.Joins.{leave_packet}
 use Rattle.iface_multicast.proofs.JoinReports.{none_told, one_reported, told_until}
 use Rattle.iface_multicast.proofs.joins.leaves_egress.Goals as goal

@@ -1,6 +1,6 @@
 use Rattle.std.proofs.Common.{true}
-use Rattle.group_table.specs.declared.groups.GroupState.TheVariants.{Leaving}
-use Rattle.group_table.specs.Groups.{count_in, leave_reported}
+use Rattle.iface_tables.specs.declared.groups.GroupState.TheVariants.{Leaving}
+use Rattle.iface_tables.specs.Groups.{count_in, leave_reported}
 use Rattle.host_machine.specs.Multicast.Joins.{leave_packet}
 use Rattle.iface_send.specs.Offered.{HasPart}
 use Rattle.iface_context.specs.Refines.{RefinesTelling}

@@ -1,5 +1,5 @@
 use Rattle.std.proofs.Common.{refl, ap}
-use Rattle.group_table.specs.Groups.{join_reported}
+use Rattle.iface_tables.specs.Groups.{join_reported}
 use Rattle.host_machine.specs.Context.Host.{with_slots}
 use Rattle.host_machine.specs.Multicast.Joins.{join_packet}
 use Rattle.iface_multicast.proofs.JoinReports.{reported_it}

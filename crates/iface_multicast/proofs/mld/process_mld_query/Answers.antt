@@ -1,6 +1,6 @@
 use Rattle.std.proofs.Common.{◌≡◌, ap, sym, ◌∙◌}
 use Rattle.std.specs.Prelude.{ℤ, pos, ◌+ℤ◌}
-use Rattle.group_table.specs.declared.report.MldReportState.{MldReportState}
+use Rattle.iface_tables.specs.declared.report.MldReportState.{MldReportState}
 use Rattle.host_machine.specs.Context.Host.{Host, no_sockets, with_slots, with_mld_report}
 use Rattle.host_machine.specs.Multicast.Mld.{delay, random_after_draw, mld_report_for}
 use Rattle.iface_context.specs.Stands.{host_in, host_of}

@@ -2,10 +2,10 @@ use Rattle.std.proofs.Common.{◌≡◌, [], ◌∷◌, refl, ◌∙◌, ap, ari
 use Rattle.ip_address.specs.declared.ethernet_address.EthernetAddress.{EthernetAddress}
 use Rattle.ip_address.specs.declared.ipv6.Ipv6Address.{Ipv6Address}
 use Rattle.host_machine.specs.Packet.Packet.{Packet}
-use Rattle.iface_packet.specs.PacketValues as value_of
+use Rattle.iface_context.specs.PacketValues as value_of
 use Rattle.ip_address.specs.declared.hardware.HardwareAddress.TheVariants as hardware
 use Rattle.ip_address.specs.Ipv6.{solicited_node}
-use Rattle.address_selection.specs.Ipv6.{source_v6}
+use Rattle.ip_address.specs.AddressSelection.Ipv6.{source_v6}
 use Rattle.host_machine.specs.Context.Note.{OfDiscovery, OfIdentification, Ask, Identify}
 use Rattle.host_machine.specs.Context.Host.{Host, no_sockets, with_neighbors, with_slots, with_next_id}
 use Rattle.host_machine.specs.Discovery.Ndisc.{solicitation_for}

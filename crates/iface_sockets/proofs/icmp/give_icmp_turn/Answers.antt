@@ -1,5 +1,5 @@
 use Rattle.std.proofs.Common.{◌∙◌, refl, sym, ap}
-use Rattle.network_sockets.specs.Icmp as icmp
+use Rattle.sockets.specs.Icmp as icmp
 use Rattle.sockets.specs.Kinds.{IcmpOffer, up_icmp}
 use Rattle.iface_sockets.proofs.SocketTurns.{none_offered, packet_is, silent, turned_told, turned_untold}
 use Rattle.iface_sockets.proofs.icmp.give_icmp_turn.Goals as goal

@@ -1,5 +1,5 @@
 use Rattle.std.proofs.Common.{◌∙◌, refl, sym, ap}
-use Rattle.network_sockets.specs.Raw as raw
+use Rattle.sockets.specs.Raw as raw
 use Rattle.sockets.specs.Kinds.{RawOffer, up_raw}
 use Rattle.iface_sockets.proofs.SocketTurns.{none_offered, packet_is, silent, turned_told, turned_untold}
 use Rattle.iface_sockets.proofs.raw.give_raw_turn.Goals as goal

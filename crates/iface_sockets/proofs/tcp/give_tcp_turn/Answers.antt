@@ -1,5 +1,5 @@
 use Rattle.std.proofs.Common.{◌∙◌, refl, sym, ap}
-use Rattle.transport_sockets.specs.Tcp as tcp
+use Rattle.sockets.specs.Tcp as tcp
 use Rattle.sockets.specs.Kinds.{TcpOffer, up_tcp}
 use Rattle.iface_sockets.proofs.SocketTurns.{none_offered, packet_is, silent, turned_told, turned_untold}
 use Rattle.iface_sockets.proofs.tcp.give_tcp_turn.Goals as goal

@@ -1,5 +1,5 @@
 use Rattle.std.proofs.Common.{◌∙◌, refl, sym, ap}
-use Rattle.transport_sockets.specs.Udp as udp
+use Rattle.sockets.specs.Udp as udp
 use Rattle.sockets.specs.Kinds.{UdpOffer, up_udp}
 use Rattle.iface_sockets.proofs.SocketTurns.{none_offered, packet_is, silent, turned_told, turned_untold}
 use Rattle.iface_sockets.proofs.udp.give_udp_turn.Goals as goal

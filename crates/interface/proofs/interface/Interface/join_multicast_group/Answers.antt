@@ -1,5 +1,5 @@
 use Rattle.std.proofs.Common.{refl, sym, ◌∙◌, ap}
-use Rattle.group_table.specs.Groups.{is_refused, groups_after_join}
+use Rattle.iface_tables.specs.Groups.{is_refused, groups_after_join}
 use Rattle.host_machine.specs.Context.Host.{Host, with_groups}
 use Rattle.host_machine.specs.Multicast.Joins.{JoinTaken, NoGroup, NoPlace}
 use Rattle.interface.proofs.SettingCalls.{has_none, has_place, kept, led}

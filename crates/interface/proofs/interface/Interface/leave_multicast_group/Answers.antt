@@ -1,5 +1,5 @@
 use Rattle.std.proofs.Common.{refl, sym, ◌∙◌}
-use Rattle.group_table.specs.Groups.{groups_after_leave}
+use Rattle.iface_tables.specs.Groups.{groups_after_leave}
 use Rattle.host_machine.specs.Context.Host.{with_groups}
 use Rattle.host_machine.specs.Multicast.Joins.{LeaveTaken, NoGroupEither}
 use Rattle.interface.proofs.SettingCalls.{kept, led}

@@ -1,5 +1,5 @@
 use Rattle.std.proofs.Common.{refl}
-use Rattle.tcp_streams.specs.declared.turns.Turn.TheVariants.{Idle, Quiet, Sends}
+use Rattle.tcp_host.specs.declared.turns.Turn.TheVariants.{Idle, Quiet, Sends}
 use Rattle.tcp_sockets.proofs.TurnLemmas.{sends_is_due}
 use Rattle.tcp_sockets.proofs.tcp_sockets.TcpSockets.give_turn.Goals as goal
 

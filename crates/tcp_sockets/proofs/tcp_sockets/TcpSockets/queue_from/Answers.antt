@@ -1,5 +1,5 @@
 use Rattle.std.proofs.Common.{sym}
-use Rattle.tcp_packets.specs.Packets.{value_of}
+use Rattle.tcp_sockets.specs.Packets.{value_of}
 use Rattle.tcp_sockets.specs.Polls.{state}
 use Rattle.tcp_sockets.proofs.QueueLemmas.{endless, stranded, queued}
 use Rattle.tcp_sockets.proofs.TurnLemmas.{segment_is}

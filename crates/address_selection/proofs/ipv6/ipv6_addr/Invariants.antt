@@ -1,6 +1,0 @@
-use Rattle.std.proofs.Common.{◌≡◌, drop}
-use Rattle.address_selection.specs.Ipv6.{ipv6_addr}
-use Rattle.address_selection.proofs.ipv6.ipv6_addr.Given as goal
-
-abbrev pub invariant-loop-cidr : goal.invariant-loop-cidr
-invariant-loop-cidr l = ipv6_addr (drop l.cidr-index l.own) ≡ ipv6_addr l.own

@@ -1,0 +1,4 @@
+//! The tests of `dhcp_client`.
+
+mod datagrams;
+mod octets;

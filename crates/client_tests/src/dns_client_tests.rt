@@ -1,0 +1,5 @@
+//! The tests of `dns_client`.
+
+mod answers;
+mod octets;
+mod servers;

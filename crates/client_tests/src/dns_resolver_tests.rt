@@ -1,0 +1,4 @@
+//! The tests of `dns_client`.
+
+mod octets;
+mod queries;

@@ -1,0 +1,91 @@
+//! What a client receives and sends, by sockets.
+ghost use Rattle.std.specs.Prelude.{◌≡◌, is_ok, is_some, OnOk, OnErr, length};
+ghost use Rattle.sockets.specs.Queue.{first_of, is_room};
+ghost use Rattle.sockets.specs.Udp as udp_spec;
+ghost use Rattle.sockets.specs.Raw as raw_spec;
+ghost use Rattle.dhcp_client.specs.Packets.{message_text, packet_of};
+ghost use Rattle.dhcp_client.specs.Datagrams as spec;
+
+use crate::packets::DhcpRoom;
+use crate::{DhcpClient, DhcpMessage};
+use crate::DhcpRepr;
+use crate::message::SERVER_PORT;
+use ip_wire::IpAddress;
+use sockets::{Full, IpEndpoint, SendError, raw, udp};
+
+/// Hands the first datagram of a UDP socket to a client, and drops it. A datagram counts only if it comes from port 67
+/// and is a message of DHCP. Returns whether there was a datagram.
+///
+/// The socket listens at port 68, of any address.
+pub fn receive<L: Drop>(client: &mut DhcpClient, socket: &mut udp::SocketOf<L>) -> bool
+    ensures there { result ≡ is_some (first_of socket.old.rx.packets) }
+    ensures client { spec.Receives (first_of socket.old.rx.packets) client.old client.new }
+    ensures socket { socket.new ≡ udp_spec.socket_after_done socket.old }
+{
+    let is_there = match socket.recv() {
+        None => false,
+        Some((remote, payload)) => {
+            receive_datagram(client, remote.port, payload);
+            true
+        }
+    };
+    socket.done();
+    is_there
+}
+
+/// Hands a datagram from a port to a client. It counts only if the port is 67 and it is a message of DHCP.
+pub fn receive_datagram(client: &mut DhcpClient, port: u16, payload: &[u8])
+    ensures { spec.ReceivesDatagram port payload.now client.old client.new }
+{
+    if port == SERVER_PORT {
+        if let Some((message, _)) = DhcpRepr::parse(payload) {
+            client.receive(&message);
+        }
+    }
+}
+
+/// Queues a message at a raw socket of IPv4 and UDP, as a packet from port 68 of the client's address, which is 0.0.0.0 as
+/// long as it has none. Fails with `Full` exactly if it doesn't fit; then the socket stays unchanged.
+///
+/// For messages to all servers: these don't wait for a neighbour, and a host without an address can send them. The
+/// socket needs no room to receive.
+pub fn send_by_raw<L: Drop>(
+    message: &DhcpMessage,
+    socket: &mut raw::SocketOf<L>,
+    room: &mut DhcpRoom,
+) -> Result<(), Full>
+    ensures fits { is_ok result
+        ≡ is_room socket.old.tx (length (packet_of message.now)) }
+    ensures socket { socket.new
+        ≡ raw_spec.socket_after_send (packet_of message.now) socket.old }
+{
+    room.build_packet(message);
+    socket.send((), room.packet.as_slice())
+}
+
+/// Queues a message at the UDP socket of port 68, for port 67 of its destination. Fails as [`udp::SocketOf::try_send`] does;
+/// then the socket stays unchanged.
+///
+/// For messages to one server: the host has an address then, which the interface takes as the source.
+pub fn send_by_udp<L: Drop>(
+    message: &DhcpMessage,
+    socket: &mut udp::SocketOf<L>,
+    room: &mut DhcpRoom,
+) -> Result<(), SendError>
+    ensures ok { OnOk result (socket.new
+        ≡ udp_spec.socket_after_send (spec.server_of message.now) (message_text message.now) socket.old) }
+    ensures err { OnErr result (socket.new ≡ socket.old) }
+{
+    room.build_message(message);
+    socket.try_send(server_of(message), room.message.as_slice())
+}
+
+/// Port 67 of the address that a message goes to.
+pub fn server_of(message: &DhcpMessage) -> IpEndpoint
+    ensures { result ≡ spec.server_of message.now }
+{
+    IpEndpoint {
+        addr: IpAddress::Ipv4(message.dst),
+        port: SERVER_PORT,
+    }
+}

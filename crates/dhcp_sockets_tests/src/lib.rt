@@ -1,7 +1,0 @@
-//! The tests of `dhcp_sockets`.
-#![tactic(auto)]
-
-#[cfg(test)]
-mod datagrams;
-#[cfg(test)]
-mod octets;

@@ -1,4 +1,0 @@
-pub mod MessageAgain
-pub mod OptionsAgain
-pub mod Reading
-pub mod Texts

@@ -1,5 +1,0 @@
-use Rattle.dhcp_wire.proofs.MessageAgain as again
-use Rattle.dhcp_wire.proofs.message.read_again.Goals as goal
-
-pub returns : goal.returns
-returns c = again.read_again

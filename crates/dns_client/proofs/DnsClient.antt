@@ -1,0 +1,6 @@
+pub mod Asking
+pub mod Ends
+pub mod Reading
+pub mod Spacing
+pub mod Standing
+pub mod Taking

@@ -1,9 +1,0 @@
-//! The tests of `dns_client`.
-#![tactic(auto)]
-
-#[cfg(test)]
-mod answers;
-#[cfg(test)]
-mod octets;
-#[cfg(test)]
-mod servers;

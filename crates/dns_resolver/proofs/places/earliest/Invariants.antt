@@ -1,6 +1,0 @@
-use Rattle.std.proofs.Common.{◌≡◌, None, drop}
-use Rattle.dns_resolver.specs.Resolver.{earliest}
-use Rattle.dns_resolver.proofs.places.earliest.Given as goal
-
-abbrev pub invariant-loop-place : goal.invariant-loop-place
-invariant-loop-place l = earliest l.least (drop l.place-index l.places) ≡ earliest None l.places

@@ -1,5 +1,0 @@
-use Rattle.std.proofs.Common.{◌≡◌, None, replicate}
-use Rattle.dns_resolver.proofs.resolver.Resolver.new.Given as goal
-
-abbrev pub invariant-loop : goal.invariant-loop
-invariant-loop l = l.free.items ≡ replicate l.counter None

@@ -1,5 +1,0 @@
-//! The tests of `dns_sockets`.
-#![tactic(auto)]
-
-#[cfg(test)]
-mod datagrams;

@@ -1,4 +1,0 @@
-pub mod MessageAgain
-pub mod Reading
-pub mod TextAgain
-pub mod Writing

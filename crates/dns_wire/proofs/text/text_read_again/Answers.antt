@@ -1,5 +1,0 @@
-use Rattle.dns_wire.proofs.TextAgain as again
-use Rattle.dns_wire.proofs.text.text_read_again.Goals as goal
-
-pub returns : goal.returns
-returns c = again.read_again

@@ -1,4 +1,0 @@
-pub mod Message
-pub mod Names
-pub mod Record
-pub mod Text

@@ -1,3 +1,0 @@
-pub mod GroupsCounts
-pub mod GroupsLaws
-pub mod GroupsLemmas

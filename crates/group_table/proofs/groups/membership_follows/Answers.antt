@@ -1,5 +1,0 @@
-use Rattle.group_table.proofs.GroupsLaws as laws
-use Rattle.group_table.proofs.groups.membership_follows.Goals as goal
-
-pub returns : goal.returns
-returns c = record { join = laws.joins_member; leave = laws.leaves_no_member }

@@ -1,3 +1,0 @@
-pub mod IgmpAgain
-pub mod MldAgain
-pub mod Times

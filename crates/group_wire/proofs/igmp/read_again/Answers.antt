@@ -1,5 +1,0 @@
-use Rattle.group_wire.proofs.IgmpAgain as again
-use Rattle.group_wire.proofs.igmp.read_again.Goals as goal
-
-pub returns : goal.returns
-returns c = again.read_again

@@ -1,5 +1,0 @@
-use Rattle.group_wire.proofs.MldAgain as again
-use Rattle.group_wire.proofs.mld.read_again.Goals as goal
-
-pub returns : goal.returns
-returns c = again.read_again

@@ -1,2 +1,0 @@
-pub mod Igmp
-pub mod Mld

@@ -1,5 +1,0 @@
-pub mod Icmpv6
-pub mod Ndisc
-pub mod NdiscOption
-pub mod PrefixInformation
-pub mod Router

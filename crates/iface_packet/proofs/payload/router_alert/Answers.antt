@@ -1,7 +1,0 @@
-use Rattle.std.proofs.Common.{refl}
-use Rattle.ipv6_wire.specs.HopByHop.{option_text}
-use Rattle.iface_packet.proofs.payload.router_alert.Goals as goal
-
-pub returns-clause-len : goal.returns-clause-len
-unfolding option_text
-returns-clause-len c = rw (c.push-2.ensures.items, c.push.ensures.items, c.new-options.ensures) refl

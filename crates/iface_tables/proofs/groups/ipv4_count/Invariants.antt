@@ -1,0 +1,9 @@
+use Rattle.std.proofs.Common.{◌≡◌, ◌+◌, ◌≤◌, drop, length}
+use Rattle.iface_tables.specs.Groups.{ipv4_groups}
+use Rattle.iface_tables.proofs.groups.ipv4_count.Given as goal
+
+abbrev pub invariant-loop-g : goal.invariant-loop-g
+invariant-loop-g l = record {
+  counted : l.count + length (ipv4_groups (drop l.g-index l.groups)) ≡ length (ipv4_groups l.groups);
+  within : l.count ≤ l.g-index;
+}

@@ -1,0 +1,5 @@
+use Rattle.ip_wire.proofs.Ipv6Again as again
+use Rattle.ip_wire.proofs.ipv6_packet.quoted_again.Goals as goal
+
+pub returns : goal.returns
+returns c = again.quoted_again

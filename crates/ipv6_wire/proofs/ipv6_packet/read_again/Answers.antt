@@ -1,5 +1,0 @@
-use Rattle.ipv6_wire.proofs.Ipv6Again as again
-use Rattle.ipv6_wire.proofs.ipv6_packet.read_again.Goals as goal
-
-pub returns : goal.returns
-returns c = again.read_again

@@ -1,2 +1,0 @@
-pub mod HopByHop
-pub mod Ipv6Packet

@@ -1,5 +1,0 @@
-use Rattle.machine_laws.proofs.Discovery.Advertisements.{advertisements_learnt}
-use Rattle.machine_laws.proofs.laws.advertisements_are_learnt.Goals as goal
-
-pub returns : goal.returns
-returns c = advertisements_learnt

@@ -1,5 +1,0 @@
-use Rattle.machine_laws.proofs.Receive.FrameRepliesV6.{advertisers_learnt}
-use Rattle.machine_laws.proofs.laws.advertisers_are_learnt.Goals as goal
-
-pub returns : goal.returns
-returns c = advertisers_learnt

@@ -1,5 +1,0 @@
-use Rattle.machine_laws.proofs.Receive.FrameReplies.{arp_served}
-use Rattle.machine_laws.proofs.laws.arp_requests_are_answered.Goals as goal
-
-pub returns : goal.returns
-returns c = arp_served

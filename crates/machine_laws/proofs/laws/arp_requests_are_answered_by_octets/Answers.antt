@@ -1,5 +1,0 @@
-use Rattle.machine_laws.proofs.Receive.ReplyOctets.{arp_by_octets}
-use Rattle.machine_laws.proofs.laws.arp_requests_are_answered_by_octets.Goals as goal
-
-pub returns : goal.returns
-returns c = arp_by_octets

@@ -1,5 +1,0 @@
-use Rattle.machine_laws.proofs.Receive.FrameReplies.{arp_teaches}
-use Rattle.machine_laws.proofs.laws.arp_senders_are_learnt.Goals as goal
-
-pub returns : goal.returns
-returns c = arp_teaches

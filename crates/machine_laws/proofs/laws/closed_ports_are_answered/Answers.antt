@@ -1,5 +1,0 @@
-use Rattle.machine_laws.proofs.Sockets.DatagramDelivery.{ports_told}
-use Rattle.machine_laws.proofs.laws.closed_ports_are_answered.Goals as goal
-
-pub returns : goal.returns
-returns c = ports_told

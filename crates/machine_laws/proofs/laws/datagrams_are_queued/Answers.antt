@@ -1,5 +1,0 @@
-use Rattle.machine_laws.proofs.Sockets.DatagramDelivery.{datagrams_queued}
-use Rattle.machine_laws.proofs.laws.datagrams_are_queued.Goals as goal
-
-pub returns : goal.returns
-returns c = datagrams_queued

@@ -1,5 +1,0 @@
-use Rattle.machine_laws.proofs.Sockets.ManyDelivery.{many_queued}
-use Rattle.machine_laws.proofs.laws.datagrams_to_many_are_queued.Goals as goal
-
-pub returns : goal.returns
-returns c = many_queued

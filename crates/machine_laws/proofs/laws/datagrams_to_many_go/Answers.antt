@@ -1,5 +1,0 @@
-use Rattle.machine_laws.proofs.Sockets.ManyPackets.{many_go}
-use Rattle.machine_laws.proofs.laws.datagrams_to_many_go.Goals as goal
-
-pub returns : goal.returns
-returns c = many_go

@@ -1,5 +1,0 @@
-use Rattle.machine_laws.proofs.Runs.RunRequests.{run_asks}
-use Rattle.machine_laws.proofs.laws.discoveries_are_noted.Goals as goal
-
-pub returns : goal.returns
-returns c = run_asks

@@ -1,5 +1,0 @@
-use Rattle.machine_laws.proofs.Interface.DueWork.{due_done}
-use Rattle.machine_laws.proofs.laws.due_is_done.Goals as goal
-
-pub returns : goal.returns
-returns c = due_done

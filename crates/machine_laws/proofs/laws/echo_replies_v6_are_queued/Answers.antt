@@ -1,5 +1,0 @@
-use Rattle.machine_laws.proofs.Icmp.EchoReplies.{replies_v6_queued}
-use Rattle.machine_laws.proofs.laws.echo_replies_v6_are_queued.Goals as goal
-
-pub returns : goal.returns
-returns c = replies_v6_queued

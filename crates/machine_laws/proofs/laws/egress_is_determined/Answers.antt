@@ -1,5 +1,0 @@
-use Rattle.machine_laws.proofs.Interface.EgressDeterminism.{egress_once}
-use Rattle.machine_laws.proofs.laws.egress_is_determined.Goals as goal
-
-pub returns : goal.returns
-returns c = egress_once

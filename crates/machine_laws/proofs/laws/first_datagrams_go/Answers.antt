@@ -1,5 +1,0 @@
-use Rattle.machine_laws.proofs.Interface.GrantedEgress.{firsts_go}
-use Rattle.machine_laws.proofs.laws.first_datagrams_go.Goals as goal
-
-pub returns : goal.returns
-returns c = firsts_go

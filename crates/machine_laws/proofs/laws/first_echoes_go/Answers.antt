@@ -1,5 +1,0 @@
-use Rattle.machine_laws.proofs.Sockets.FirstPackets.{first_echoes_go}
-use Rattle.machine_laws.proofs.laws.first_echoes_go.Goals as goal
-
-pub returns : goal.returns
-returns c = first_echoes_go

@@ -1,5 +1,0 @@
-use Rattle.machine_laws.proofs.Runs.FragmentArrivals.{run_arrivals}
-use Rattle.machine_laws.proofs.laws.fragments_arrive_in_frames.Goals as goal
-
-pub returns : goal.returns
-returns c = λ first last places run. run_arrivals run

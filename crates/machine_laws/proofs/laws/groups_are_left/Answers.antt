@@ -1,5 +1,0 @@
-use Rattle.machine_laws.proofs.Multicast.SetGroups.{groups_left}
-use Rattle.machine_laws.proofs.laws.groups_are_left.Goals as goal
-
-pub returns : goal.returns
-returns c = groups_left

@@ -1,5 +1,0 @@
-use Rattle.machine_laws.proofs.Runs.FragmentArrivals.{pieces_rebuilt}
-use Rattle.machine_laws.proofs.laws.pieces_are_rebuilt.Goals as goal
-
-pub returns : goal.returns
-returns c = pieces_rebuilt

@@ -1,5 +1,0 @@
-use Rattle.machine_laws.proofs.Runs.TimelyArrivals.{pieces_in_time}
-use Rattle.machine_laws.proofs.laws.pieces_arrive_in_time.Goals as goal
-
-pub returns : goal.returns
-returns c = pieces_in_time

@@ -1,5 +1,0 @@
-use Rattle.machine_laws.proofs.Receive.RequestReading.{pings_read}
-use Rattle.machine_laws.proofs.laws.ping_frames_are_read.Goals as goal
-
-pub returns : goal.returns
-returns c = pings_read

@@ -1,5 +1,0 @@
-use Rattle.machine_laws.proofs.Receive.ReplyOctets.{pings_by_octets}
-use Rattle.machine_laws.proofs.laws.pings_are_answered_by_octets.Goals as goal
-
-pub returns : goal.returns
-returns c = pings_by_octets

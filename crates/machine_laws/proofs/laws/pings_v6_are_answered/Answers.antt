@@ -1,5 +1,0 @@
-use Rattle.machine_laws.proofs.Receive.FrameRepliesV6.{pings_v6_served}
-use Rattle.machine_laws.proofs.laws.pings_v6_are_answered.Goals as goal
-
-pub returns : goal.returns
-returns c = pings_v6_served

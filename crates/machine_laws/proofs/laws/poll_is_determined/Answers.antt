@@ -1,5 +1,0 @@
-use Rattle.machine_laws.proofs.Interface.CallDeterminism.{poll_once}
-use Rattle.machine_laws.proofs.laws.poll_is_determined.Goals as goal
-
-pub returns : goal.returns
-returns c = poll_once

@@ -1,5 +1,0 @@
-use Rattle.machine_laws.proofs.Multicast.HeardQueries.{queries_heard}
-use Rattle.machine_laws.proofs.laws.queries_are_heard.Goals as goal
-
-pub returns : goal.returns
-returns c = queries_heard

@@ -1,5 +1,0 @@
-use Rattle.machine_laws.proofs.Sockets.SocketDelivery.{raw_packets_queued}
-use Rattle.machine_laws.proofs.laws.raw_packets_are_queued.Goals as goal
-
-pub returns : goal.returns
-returns c = raw_packets_queued

@@ -1,5 +1,0 @@
-use Rattle.machine_laws.proofs.Sockets.RebuiltDelivery.{rebuilt_queued}
-use Rattle.machine_laws.proofs.laws.rebuilt_datagrams_are_queued.Goals as goal
-
-pub returns : goal.returns
-returns c = rebuilt_queued

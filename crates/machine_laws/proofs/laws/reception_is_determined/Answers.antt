@@ -1,5 +1,0 @@
-use Rattle.machine_laws.proofs.Receive.ReceiveDeterminism.{received_once}
-use Rattle.machine_laws.proofs.laws.reception_is_determined.Goals as goal
-
-pub returns : goal.returns
-returns c = received_once

@@ -1,5 +1,0 @@
-use Rattle.machine_laws.proofs.Receive.FrameReplies.{request_frames_read}
-use Rattle.machine_laws.proofs.laws.request_frames_are_read.Goals as goal
-
-pub returns : goal.returns
-returns c = request_frames_read

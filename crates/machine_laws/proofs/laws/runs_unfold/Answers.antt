@@ -1,5 +1,0 @@
-use Rattle.machine_laws.proofs.Interface.SingleCalls.{run_unfolds}
-use Rattle.machine_laws.proofs.laws.runs_unfold.Goals as goal
-
-pub returns : goal.returns
-returns c = λ first last places run. run_unfolds run

@@ -1,5 +1,0 @@
-use Rattle.machine_laws.proofs.Receive.RequestReading.{solicitations_read}
-use Rattle.machine_laws.proofs.laws.solicitation_frames_are_read.Goals as goal
-
-pub returns : goal.returns
-returns c = solicitations_read

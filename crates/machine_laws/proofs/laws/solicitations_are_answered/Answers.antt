@@ -1,5 +1,0 @@
-use Rattle.machine_laws.proofs.Receive.FrameRepliesV6.{solicitations_served}
-use Rattle.machine_laws.proofs.laws.solicitations_are_answered.Goals as goal
-
-pub returns : goal.returns
-returns c = solicitations_served

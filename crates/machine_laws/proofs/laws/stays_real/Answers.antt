@@ -1,5 +1,0 @@
-use Rattle.machine_laws.proofs.Runs.SentPieces.{run_real}
-use Rattle.machine_laws.proofs.laws.stays_real.Goals as goal
-
-pub returns : goal.returns
-returns c = run_real

@@ -1,5 +1,0 @@
-use Rattle.machine_laws.proofs.Receive.UnknownProtocols.{options_told}
-use Rattle.machine_laws.proofs.laws.unknown_options_are_answered.Goals as goal
-
-pub returns : goal.returns
-returns c = options_told

@@ -1,5 +1,0 @@
-use Rattle.machine_laws.proofs.Receive.ReplyLaws.{arp_told}
-use Rattle.machine_laws.proofs.restraint.arp_replies_tell_itself.Goals as goal
-
-pub returns : goal.returns
-returns c = arp_told

@@ -1,5 +1,0 @@
-use Rattle.machine_laws.proofs.Receive.ReplyLaws.{errors_caused}
-use Rattle.machine_laws.proofs.restraint.errors_have_cause.Goals as goal
-
-pub returns : goal.returns
-returns c = errors_caused

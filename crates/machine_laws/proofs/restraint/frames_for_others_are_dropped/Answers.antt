@@ -1,5 +1,0 @@
-use Rattle.machine_laws.proofs.Receive.ForeignFrames.{frames_for_others_dropped}
-use Rattle.machine_laws.proofs.restraint.frames_for_others_are_dropped.Goals as goal
-
-pub returns : goal.returns
-returns c = frames_for_others_dropped

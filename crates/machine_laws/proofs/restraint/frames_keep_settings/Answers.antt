@@ -1,5 +1,0 @@
-use Rattle.machine_laws.proofs.Receive.SettingChanges.{frames_keep}
-use Rattle.machine_laws.proofs.restraint.frames_keep_settings.Goals as goal
-
-pub returns : goal.returns
-returns c = frames_keep

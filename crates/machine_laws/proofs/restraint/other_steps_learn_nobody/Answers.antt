@@ -1,5 +1,0 @@
-use Rattle.machine_laws.proofs.Interface.OtherSteps.{learn_nobody}
-use Rattle.machine_laws.proofs.restraint.other_steps_learn_nobody.Goals as goal
-
-pub returns : goal.returns
-returns c = learn_nobody

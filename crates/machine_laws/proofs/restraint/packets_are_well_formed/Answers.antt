@@ -1,5 +1,0 @@
-use Rattle.machine_laws.proofs.Packet.WellFormed.{well_formed}
-use Rattle.machine_laws.proofs.restraint.packets_are_well_formed.Goals as goal
-
-pub returns : goal.returns
-returns c = well_formed

@@ -1,5 +1,0 @@
-use Rattle.machine_laws.proofs.Send.HopsByLists.{go_by_hops}
-use Rattle.machine_laws.proofs.restraint.packets_go_by_hops.Goals as goal
-
-pub returns : goal.returns
-returns c = go_by_hops

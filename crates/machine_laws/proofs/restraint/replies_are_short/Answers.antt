@@ -1,5 +1,0 @@
-use Rattle.machine_laws.proofs.Runs.ReplyLengths.{replies_short}
-use Rattle.machine_laws.proofs.restraint.replies_are_short.Goals as goal
-
-pub returns : goal.returns
-returns c = replies_short

@@ -1,5 +1,0 @@
-use Rattle.machine_laws.proofs.Receive.SettingChanges.{reports_asked}
-use Rattle.machine_laws.proofs.restraint.reports_are_asked.Goals as goal
-
-pub returns : goal.returns
-returns c = reports_asked

@@ -1,5 +1,0 @@
-use Rattle.machine_laws.proofs.Multicast.ReportTimes.{reports_wait}
-use Rattle.machine_laws.proofs.restraint.reports_wait.Goals as goal
-
-pub returns : goal.returns
-returns c = reports_wait

@@ -1,5 +1,0 @@
-use Rattle.machine_laws.proofs.Receive.ReplyLaws.{resets_caused}
-use Rattle.machine_laws.proofs.restraint.resets_have_cause.Goals as goal
-
-pub returns : goal.returns
-returns c = resets_caused

@@ -1,5 +1,0 @@
-use Rattle.machine_laws.proofs.Interface.SettledFields.{sending_settled}
-use Rattle.machine_laws.proofs.restraint.sending_keeps_settings.Goals as goal
-
-pub returns : goal.returns
-returns c = sending_settled

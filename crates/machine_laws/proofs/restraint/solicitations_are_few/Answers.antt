@@ -1,5 +1,0 @@
-use Rattle.machine_laws.proofs.Runs.RouterSolicitations.{run_solicits}
-use Rattle.machine_laws.proofs.restraint.solicitations_are_few.Goals as goal
-
-pub returns : goal.returns
-returns c = run_solicits

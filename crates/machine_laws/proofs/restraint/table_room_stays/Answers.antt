@@ -1,5 +1,0 @@
-use Rattle.machine_laws.proofs.Runs.TableRoom.{room_stays}
-use Rattle.machine_laws.proofs.restraint.table_room_stays.Goals as goal
-
-pub returns : goal.returns
-returns c = room_stays

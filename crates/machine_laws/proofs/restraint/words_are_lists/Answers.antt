@@ -1,5 +1,0 @@
-use Rattle.machine_laws.proofs.Receive.WordsByLists.{words_by_lists}
-use Rattle.machine_laws.proofs.restraint.words_are_lists.Goals as goal
-
-pub returns : goal.returns
-returns c = words_by_lists

@@ -1,4 +1,0 @@
-pub mod Icmp
-pub mod IcmpLending
-pub mod Raw
-pub mod RawLending

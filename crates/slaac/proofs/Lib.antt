@@ -1,2 +1,0 @@
-pub mod SlaacLemmas
-pub mod SyncLemmas

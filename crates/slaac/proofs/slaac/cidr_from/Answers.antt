@@ -1,5 +1,0 @@
-use Rattle.slaac.proofs.SlaacLemmas.{in_range_by}
-use Rattle.slaac.proofs.slaac.cidr_from.Goals as goal
-
-pub returns : goal.returns
-returns c = in_range_by c.args.address c.args.prefix_len _

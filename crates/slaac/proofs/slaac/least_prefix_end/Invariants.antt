@@ -1,8 +1,0 @@
-use Rattle.std.proofs.Common.{◌≡◌, drop}
-use Rattle.net_base.specs.Instants.{earlier_of, earliest_of}
-use Rattle.slaac.specs.Slaac.{prefix_ends}
-use Rattle.slaac.proofs.slaac.least_prefix_end.Given as goal
-
-abbrev pub invariant-loop-prefix : goal.invariant-loop-prefix
-invariant-loop-prefix l =
-    earlier_of l.least (earliest_of (prefix_ends (drop l.prefix-index l.prefixes) l.now)) ≡ earliest_of (prefix_ends l.prefixes l.now)

@@ -1,6 +1,0 @@
-use Rattle.std.proofs.Common.{rules}
-use Rattle.arrayvec.proofs.ArrayVecLemmas.{filter-from_retain}
-use Rattle.slaac.proofs.sync.remove_ended_addrs.Goals as goal
-
-pub returns-clause-list : goal.returns-clause-list
-returns-clause-list c = filter-from_retain _ _ _ (λ x b f' y called. search rules) _ _ c.retain.ensures.filtered

@@ -1,2 +1,0 @@
-pub mod Slaac
-pub mod Sync

@@ -1,7 +1,0 @@
-//! The tests of `slaac`.
-#![tactic(auto)]
-
-#[cfg(test)]
-mod learning;
-#[cfg(test)]
-mod syncing;

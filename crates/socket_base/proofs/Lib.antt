@@ -1,2 +1,0 @@
-pub mod OctetsLemmas
-pub mod QueueLemmas

@@ -1,5 +1,0 @@
-//! The tests of `socket_set`.
-#![tactic(auto)]
-
-#[cfg(test)]
-mod set;

@@ -1,0 +1,3 @@
+pub mod OctetsLemmas
+pub mod QueueLemmas
+pub mod RawLemmas

@@ -1,0 +1,12 @@
+use Rattle.std.proofs.Common.{◌<◌, length, refl, arith}
+use Rattle.std.proofs.lemmas.List.{get_or_read}
+use Rattle.tcp_host.specs.TcpStreams.Host.{no_slot}
+use Rattle.tcp_host.proofs.host.TcpHost.open_at.Goals as goal
+
+pub returns : goal.returns
+returns c =
+    let i = c.self.inside in
+    let v = c.self.view_is in
+    let within : c.args.place < length i.slots.items = grind (arith, c.requires.within, v) in
+    let slot = get_or_read i.slots.items _ _ within c.index_mut.ensures.value no_slot in
+    rw (c.enroll.ensures, c.open.ensures, c.iss-number.ensures, c.link_mss-link.ensures, c.settings_for-settings.ensures.value, slot, ← v) refl

@@ -1,0 +1,9 @@
+use Rattle.std.proofs.Common.{◌≡◌, false, get_or, refl, arith}
+use Rattle.std.specs.Prelude.{nat_lt}
+use Rattle.std.proofs.lemmas.Bool.Decides.{nat_tests}
+use Rattle.tcp_host.proofs.host.TcpHost.turn_at.Goals as goal
+
+pub returns : goal.returns
+returns c =
+    let is_due : nat_lt c.args.now (get_or c.args.self.now.alarms c.args.place 0) ≡ false = grind (arith, nat_tests, c.get.ensures, c.if-get-now.false, c.self.view_is) in
+    rw (is_due, c.ask.ensures, c.advance.ensures, c.expire.ensures) refl

@@ -1,0 +1,92 @@
+-- A segment arrives at a host (RFC 9293 3.10.7): to which connection it goes, or which it begins, or what answers it.
+use Rattle.std.specs.Prelude.{◌≡◌, ◌<◌, ℕ, nat_lt, true, false, List, [], length, Option, Some, None, is_some, if◌then◌else◌, Bool, ◌&&◌}
+use Rattle.net_base.specs.Bucket.{has_token, after_take}
+use Rattle.tcp_machine.specs.Opening.{Arrives, accepted}
+use Rattle.tcp_connection.specs.declared.segment.Segment.{Segment}
+use Rattle.tcp_connection.specs.Segments.{segment_of}
+use Rattle.tcp_host.specs.declared.iss.Endpoints.{Endpoints}
+use Rattle.ip_address.specs.Ip.{is_unicast}
+use Rattle.tcp_host.specs.Iss.{iss}
+use Rattle.tcp_host.specs.Listener as listener
+use Rattle.tcp_host.specs.Backlog.{first_of, after_evicting, evicted}
+use Rattle.tcp_host.specs.declared.resets.Reset.{Reset}
+use Rattle.tcp_host.specs.declared.slot.Owner.TheVariants.{HalfOpen}
+use Rattle.tcp_host.specs.TcpStreams.Host.{Host, connection_at, with_connection, with_alarm, vacated, occupied, default_mss, link_mss, settings_for}
+use Rattle.tcp_host.specs.TcpStreams.Host.{IsFreePlace, listener_at, with_listener}
+use Rattle.tcp_host.specs.Table.{IsPlaceOf, IsNowhere}
+use Rattle.tcp_host.specs.TcpStreams.Resets.{reset_for, begins}
+
+-- It goes to the connection at a place: that alone changes, as its machine says, and something is due there at once
+pub record Delivers (place now : ℕ) (e : Endpoints) (s : Segment) (octets : List ℕ) (old new : Host) : Type 0 where
+  pub arrives : Arrives (default_mss e.remote_addr) (link_mss old.config e.remote_addr) now (segment_of s octets)
+      (connection_at place old) (connection_at place new)
+  pub all_else : new ≡ with_alarm place 0 (with_connection place (connection_at place new) old)
+
+-- nobody wants it: a reset is owed, unless too many were sent
+abbrev pub refused : ℕ → Option Reset → Host → Option Reset × Host
+refused now None h = (None, h)
+refused now (Some r) h = (if has_token now h.resets then Some r else None, record h { resets = after_take now h.resets })
+
+-- the listener for a local end, the first that there is
+pub record IsListenerFor (e : Endpoints) (h : Host) (index : ℕ) : Type 0 where
+  pub within : index < length h.listeners
+  pub listens : listener.listens_at e.local_addr e.local_port (listener_at index h) ≡ true
+
+abbrev pub HasNoListener : Endpoints → Host → Type 0
+HasNoListener e h = (k : ℕ) → k < length h.listeners → listener.listens_at e.local_addr e.local_port (listener_at k h) ≡ false
+
+-- the connection that a SYN begins at a place
+abbrev pub accepted_at : (place index now : ℕ) → Endpoints → Segment → Host → Host
+accepted_at place index now e s h =
+    occupied place e (HalfOpen index)
+    (accepted now (iss h.config.number_key e now) (connection_at place h).transmission.sender.room
+    (length (connection_at place h).reception.receiver.cells) (default_mss e.remote_addr) (link_mss h.config e.remote_addr)
+    (settings_for h.config e.remote_addr) (segment_of s [])) h
+
+-- a place is none of a listener's any more
+abbrev pub vacated_if : Option ℕ → Host → Host
+vacated_if None h = h
+vacated_if (Some place) h = if nat_lt place (length h.slots) then vacated place h else h
+
+-- the place counts as half-open; if that is one too many, the oldest one's connection is gone
+abbrev pub counted : (place index : ℕ) → Host → Host
+counted place index h =
+    vacated_if (evicted (listener_at index h).half_open) (with_listener index (listener.after_syn place (listener_at index h)) h)
+
+-- where no place is free, the oldest half-open connection of the listener gives its place
+abbrev pub without_oldest : ℕ → Host → Host
+without_oldest index h =
+    with_listener index (record (listener_at index h) { half_open = after_evicting (listener_at index h).half_open }) h
+
+abbrev pub if_within : ℕ → Option ℕ → Option ℕ
+if_within n None = None
+if_within n (Some place) = if nat_lt place n then Some place else None
+
+abbrev pub oldest_in : ℕ → Host → Option ℕ
+oldest_in index h = if_within (length h.slots) (first_of (listener_at index h).half_open.places)
+
+-- A SYN begins a connection (RFC 9293 3.10.7.2), if as few as may be wait for the program, and there is a place
+pub data Begins (index now : ℕ) (e : Endpoints) (s : Segment) (old new : Host) : Type 0 where
+  TooMany : listener.has_room (listener_at index old) ≡ false → new ≡ old → Begins index now e s old new
+  InFree : (place : ℕ) → listener.has_room (listener_at index old) ≡ true → IsFreePlace old (Some place) →
+      new ≡ accepted_at place index now e s (counted place index old) → Begins index now e s old new
+  InOldest : listener.has_room (listener_at index old) ≡ true → IsFreePlace old None → (oldest_in index old ≡ None → new ≡ old) →
+      ((place : ℕ) → oldest_in index old ≡ Some place →
+      new ≡ accepted_at place index now e s (counted place index (vacated place (without_oldest index old)))) → Begins index now e s old new
+
+-- both ends are one host's: nothing else begins a connection, and nothing else is answered (RFC 9293 3.9.2.3, RFC 1122 4.2.3.10)
+abbrev pub is_proper : Endpoints → Bool
+is_proper e = is_unicast e.local_addr && is_unicast e.remote_addr
+
+-- where a segment between these ends goes
+pub data Receives (now : ℕ) (e : Endpoints) (s : Segment) (octets : List ℕ) (old : Host) (answer : Option Reset) (new : Host) : Type 0 where
+  Known : (place : ℕ) → IsPlaceOf e old.ends place → answer ≡ None → Delivers place now e s octets old new → Receives now e s octets old answer new
+  Improper : IsNowhere e old.ends → is_proper e ≡ false → answer ≡ None → new ≡ old → Receives now e s octets old answer new
+  Begun : IsNowhere e old.ends → is_proper e ≡ true → (index : ℕ) → IsListenerFor e old index → begins s ≡ true → answer ≡ None →
+      Begins index now e s old new → Receives now e s octets old answer new
+  Unheeded : IsNowhere e old.ends → is_proper e ≡ true → (index : ℕ) → IsListenerFor e old index → begins s ≡ false → is_some s.ack ≡ false → answer ≡ None →
+      new ≡ old → Receives now e s octets old answer new
+  Answered : IsNowhere e old.ends → is_proper e ≡ true → (index : ℕ) → IsListenerFor e old index → is_some s.ack ≡ true →
+      (answer, new) ≡ refused now (reset_for s (length octets)) old → Receives now e s octets old answer new
+  Nobody : IsNowhere e old.ends → is_proper e ≡ true → HasNoListener e old → (answer, new) ≡ refused now (reset_for s (length octets)) old →
+      Receives now e s octets old answer new

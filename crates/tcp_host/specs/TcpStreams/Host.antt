@@ -1,0 +1,130 @@
+-- A host of connections: its places, listeners and timers.
+use Rattle.std.specs.Prelude.{◌≡◌, ◌<◌, ◌≤◌, ℕ, ◌+◌, ◌-◌, ◌%◌, ◌^◌, true, List, [], length, get_or, slice_set, Option, Some, None}
+use Rattle.ip_address.specs.declared.ip.IpAddress.{IpAddress}
+use Rattle.ip_address.specs.declared.ip.IpAddress.TheVariants.{Ipv4, Ipv6}
+use Rattle.net_base.specs.declared.bucket.Bucket.{Bucket}
+use Rattle.tcp_machine.specs.Connection.{Connection}
+use Rattle.tcp_machine.specs.Opening.{opened}
+use Rattle.tcp_machine.specs.declared.settings.Settings.{Settings}
+use Rattle.tcp_host.specs.declared.iss.Endpoints.{Endpoints}
+use Rattle.tcp_host.specs.Listener.{Listener, first}
+use Rattle.tcp_host.specs.declared.slot.Slot.{Slot}
+use Rattle.tcp_host.specs.declared.slot.Owner.{Owner}
+use Rattle.tcp_host.specs.declared.slot.Owner.TheVariants.{Nobody}
+use Rattle.tcp_host.specs.declared.config.Config.{Config}
+use Rattle.tcp_host.specs.TcpStreams.Challenges.{all_challenges}
+
+pub record Host : Type 0 where
+  -- at each place a connection, the ends of it, when something is due, and 0 if the place is free
+  pub slots : List Slot
+  pub ends : List (Option Endpoints)
+  pub alarms : List ℕ
+  pub taken : List ℕ
+  pub listeners : List Listener
+  pub resets : Bucket
+  pub config : Config
+
+-- nothing is due
+abbrev pub never : ℕ
+never = 2 ^ 64 - 1
+
+-- how many routers a packet may pass, unless the program says (RFC 9293 3.9.2)
+abbrev pub default_hop_limit : ℕ
+default_hop_limit = 64
+
+unfoldable pub no_settings : Settings
+no_settings = record {
+  nagle = true;
+  ack_delay = 0;
+  keep_alive = None;
+  timeout = None;
+  shortest_timeout = 0;
+  congestion_control = true;
+  time_wait = 0;
+  own_mss = 0;
+  own_scale = 0;
+}
+
+-- what stands past the last place
+unfoldable pub no_slot : Slot
+no_slot = record {
+  connection = opened 0 0 0 0 0 no_settings;
+  owner = Nobody;
+  generation = 0;
+  challenges = all_challenges;
+  hop_limit = default_hop_limit;
+}
+
+abbrev pub slot_at : ℕ → Host → Slot
+slot_at place h = get_or h.slots place no_slot
+
+abbrev pub connection_at : ℕ → Host → Connection
+connection_at place h = (slot_at place h).connection
+
+abbrev pub with_slot : ℕ → Slot → Host → Host
+with_slot place s h = record h { slots = slice_set h.slots place s }
+
+abbrev pub with_connection : ℕ → Connection → Host → Host
+with_connection place c h = with_slot place (record (slot_at place h) { connection = c }) h
+
+abbrev pub with_owner : ℕ → Owner → Host → Host
+with_owner place o h = with_slot place (record (slot_at place h) { owner = o }) h
+
+abbrev pub with_alarm : ℕ → ℕ → Host → Host
+with_alarm place instant h = record h { alarms = slice_set h.alarms place instant }
+
+-- the place is free
+abbrev pub vacated : ℕ → Host → Host
+vacated place h = record h {
+  slots = slice_set h.slots place (record (slot_at place h) { owner = Nobody });
+  ends = slice_set h.ends place None;
+  alarms = slice_set h.alarms place never;
+  taken = slice_set h.taken place 0;
+}
+
+-- a place has these ends, and something is due there at once
+abbrev pub enrolled : ℕ → Endpoints → Host → Host
+enrolled place e h = record h {
+  ends = slice_set (slice_set h.ends place None) place (Some e);
+  alarms = slice_set h.alarms place 0;
+  taken = slice_set h.taken place 1;
+}
+
+-- a connection with these ends begins at the place, of the next generation
+abbrev pub occupied : ℕ → Endpoints → Owner → Connection → Host → Host
+occupied place e owner c h =
+    enrolled place e
+    (with_slot place (record {
+      connection = c;
+      owner = owner;
+      generation = ((slot_at place h).generation + 1) % 2 ^ 64;
+      challenges = all_challenges;
+      hop_limit = default_hop_limit;
+    }) h)
+
+-- what is said of the family of an address: the MSS of a peer that tells none (RFC 9293 3.7.1), and the most octets of a segment
+abbrev pub default_mss : IpAddress → ℕ
+default_mss (Ipv4 a) = 536
+default_mss (Ipv6 a) = 1220
+
+abbrev pub link_mss : Config → IpAddress → ℕ
+link_mss c (Ipv4 a) = c.mss_v4
+link_mss c (Ipv6 a) = c.mss_v6
+
+abbrev pub settings_for : Config → IpAddress → Settings
+settings_for c address = record c.settings { own_mss = link_mss c address }
+
+-- a free place, and none only if each is taken
+abbrev pub IsFreePlace : Host → Option ℕ → Type 0
+IsFreePlace h (Some place) = (place < length h.taken) × (get_or h.taken place 0 ≡ 0)
+IsFreePlace h None = (place : ℕ) → place < length h.taken → 1 ≤ get_or h.taken place 0
+
+-- listeners by their index
+unfoldable pub no_listener : Listener
+no_listener = first 0 None 0
+
+abbrev pub listener_at : ℕ → Host → Listener
+listener_at index h = get_or h.listeners index no_listener
+
+abbrev pub with_listener : ℕ → Listener → Host → Host
+with_listener index l h = record h { listeners = slice_set h.listeners index l }

@@ -1,0 +1,244 @@
+//! A segment arrives at a host (RFC 9293 3.10.7).
+ghost use Rattle.std.specs.Prelude.{◌≡◌, ◌≤◌, ◌<◌, ◌^◌, ℕ, length, Some, None, IfSome, IsNone, true};
+ghost use Rattle.tcp_host.specs.TcpStreams.Arrivals as spec;
+ghost use Rattle.tcp_host.specs.TcpStreams.Resets.{reset_for};
+ghost use Rattle.tcp_host.specs.TcpStreams.Host.{vacated, listener_at};
+ghost use Rattle.tcp_host.specs.Listener as listener;
+ghost use Rattle.tcp_host.specs.Table.{IsNowhere};
+ghost use Rattle.tcp_host.specs.declared.iss.Endpoints.{Endpoints};
+
+use crate::host::{TcpHost, default_mss};
+use crate::resets::{Reset, begins, reset_for};
+use crate::slot::Owner;
+use tcp_connection::segment::Segment;
+use crate::iss::{Endpoints, iss};
+
+impl TcpHost {
+    /// A segment between these ends arrives, the remote one being where it came from (RFC 9293 3.10.7). It goes to the
+    /// connection with these ends. Without one, a SYN for a listener begins one. Otherwise a reset is owed, with the numbers
+    /// that are returned, unless the segment is a reset, or too many resets were sent. All other connections stay.
+    pub fn receive_segment(
+        &mut self,
+        now: u64,
+        endpoints: &Endpoints,
+        segment: &Segment,
+        octets: &[u8],
+    ) -> Option<Reset>
+        requires { length octets.now < 2 ^ 32 }
+        ensures { spec.Receives now endpoints.now segment.now octets.now self.old result self.new }
+    {
+        match self.table.find(endpoints) {
+            Some(place) => {
+                self.deliver(place, now, endpoints, segment, octets);
+                None
+            }
+            None if is_proper(endpoints) => self.receive_new(now, endpoints, segment, octets),
+            None => None,
+        }
+    }
+
+    // A segment arrives that belongs to no connection.
+    fn receive_new(
+        &mut self,
+        now: u64,
+        endpoints: &Endpoints,
+        segment: &Segment,
+        octets: &[u8],
+    ) -> Option<Reset>
+        requires few { length octets.now < 2 ^ 32 }
+        requires new { IsNowhere endpoints.now self.old.ends }
+        requires proper { spec.is_proper endpoints.now ≡ true }
+        ensures { spec.Receives now endpoints.now segment.now octets.now self.old result self.new }
+    {
+        match self.listener_for(endpoints) {
+            None => self.refuse(now, segment, octets.len()),
+            Some(_) if segment.ack.is_some() => self.refuse(now, segment, octets.len()),
+            Some(index) => {
+                if begins(segment) {
+                    self.begin(index, now, endpoints, segment);
+                }
+                None
+            }
+        }
+    }
+
+    // The index of the first listener for a local end.
+    fn listener_for(&self, endpoints: &Endpoints) -> Option<usize>
+        ensures some { IfSome result (spec.IsListenerFor endpoints.now self.now) }
+        ensures none { IsNone result → spec.HasNoListener endpoints.now self.now }
+    {
+        for index in 0..self.listeners.len() {
+            if self.listeners[index].listens_at(&endpoints.local_addr, endpoints.local_port) {
+                return Some(index);
+            }
+        }
+        None
+    }
+
+    // A SYN begins a connection of a listener.
+    fn begin(&mut self, index: usize, now: u64, endpoints: &Endpoints, segment: &Segment)
+        requires within { index < length self.old.listeners }
+        requires new { IsNowhere endpoints.now self.old.ends }
+        ensures { spec.Begins index now endpoints.now segment.now self.old self.new }
+    {
+        if !self.has_room(index) {
+            return;
+        }
+        match self.free_place() {
+            Some(place) => self.begin_at(place, index, now, endpoints, segment),
+            None => self.begin_in_oldest(index, now, endpoints, segment),
+        }
+    }
+
+    // The same, where no place is free.
+    fn begin_in_oldest(&mut self, index: usize, now: u64, endpoints: &Endpoints, segment: &Segment)
+        requires within { index < length self.old.listeners }
+        requires new { IsNowhere endpoints.now self.old.ends }
+        ensures none { spec.oldest_in index self.old ≡ None → self.new ≡ self.old }
+        ensures some { (place : ℕ) → spec.oldest_in index self.old ≡ Some place → self.new
+            ≡ spec.accepted_at place index now endpoints.now segment.now (spec.counted place index (vacated place (spec.without_oldest index self.old))) }
+    {
+        if let Some(place) = self.oldest_in(index) {
+            self.make_room(place, index);
+            self.begin_at(place, index, now, endpoints, segment);
+        }
+    }
+
+    // Whether a listener takes a SYN.
+    fn has_room(&self, index: usize) -> bool
+        requires { index < length self.now.listeners }
+        ensures { result ≡ listener.has_room (listener_at index self.now) }
+    {
+        self.listeners[index].has_room()
+    }
+
+    // The place of the oldest half-open connection of a listener.
+    fn oldest_in(&self, index: usize) -> Option<usize>
+        requires { index < length self.now.listeners }
+        ensures value { result ≡ spec.oldest_in index self.now }
+        ensures within { IfSome result (λ place. place < length self.now.slots) }
+    {
+        let oldest = self.listeners[index].oldest();
+        match oldest {
+            Some(place) if place < self.slots.len() => Some(place),
+            _ => None,
+        }
+    }
+
+    // The oldest half-open connection of a listener gives its place.
+    fn make_room(&mut self, place: usize, index: usize)
+        requires within { index < length self.old.listeners }
+        requires place { place < length self.old.slots }
+        ensures value { self.new ≡ vacated place (spec.without_oldest index self.old) }
+        ensures nowhere { (e : Endpoints) → IsNowhere e self.old.ends → IsNowhere e self.new.ends }
+    {
+        self.listeners[index].evict();
+        self.vacate(place);
+    }
+
+    // A connection of a listener begins at a free place.
+    fn begin_at(
+        &mut self,
+        place: usize,
+        index: usize,
+        now: u64,
+        endpoints: &Endpoints,
+        segment: &Segment,
+    )
+        requires within { index < length self.old.listeners }
+        requires place { place < length self.old.slots }
+        requires new { IsNowhere endpoints.now self.old.ends }
+        ensures { self.new ≡ spec.accepted_at place index now endpoints.now segment.now (spec.counted place index self.old) }
+    {
+        let oldest = self.listeners[index].begin(place);
+        self.vacate_if(oldest);
+        self.accept_at(place, index, now, endpoints, segment);
+    }
+
+    // A place is none of a listener's any more.
+    fn vacate_if(&mut self, place: Option<usize>)
+        ensures value { self.new ≡ spec.vacated_if place self.old }
+        ensures nowhere { (e : Endpoints) → IsNowhere e self.old.ends → IsNowhere e self.new.ends }
+    {
+        if let Some(place) = place {
+            if place < self.slots.len() {
+                self.vacate(place);
+            }
+        }
+    }
+
+    // The connection that a SYN begins at a place.
+    fn accept_at(
+        &mut self,
+        place: usize,
+        index: usize,
+        now: u64,
+        endpoints: &Endpoints,
+        segment: &Segment,
+    )
+        requires within { place < length self.old.slots }
+        requires new { IsNowhere endpoints.now self.old.ends }
+        ensures { self.new ≡ spec.accepted_at place index now endpoints.now segment.now self.old }
+    {
+        let number = iss(&self.config.number_key, now, endpoints);
+        let default = default_mss(&endpoints.remote_addr);
+        let link = self.link_mss(&endpoints.remote_addr);
+        let settings = self.settings_for(&endpoints.remote_addr);
+        self.slots[place].accept(
+            Owner::HalfOpen(index),
+            now,
+            number,
+            default,
+            link,
+            &settings,
+            segment,
+        );
+        self.enroll(place, endpoints);
+    }
+
+    /// A segment goes to the connection at a place.
+    pub(crate) fn deliver(
+        &mut self,
+        place: usize,
+        now: u64,
+        endpoints: &Endpoints,
+        segment: &Segment,
+        octets: &[u8],
+    )
+        requires within { place < length self.old.slots }
+        requires few { length octets.now < 2 ^ 32 }
+        ensures { spec.Delivers place now endpoints.now segment.now octets.now self.old self.new }
+    {
+        let default = default_mss(&endpoints.remote_addr);
+        let link = self.link_mss(&endpoints.remote_addr);
+        self.slots[place]
+            .connection
+            .receive(now, default, link, segment, octets);
+        self.alarms.set(place, 0);
+    }
+
+    /// Nobody wants a segment with so many octets: a reset is owed (RFC 9293 3.10.7.1), unless too many were sent.
+    pub(crate) fn refuse(&mut self, now: u64, segment: &Segment, len: usize) -> Option<Reset>
+        requires { len < 2 ^ 32 }
+        ensures { (result, self.new) ≡ spec.refused now (reset_for segment.now len) self.old }
+    {
+        let reset = reset_for(segment, len);
+        match reset {
+            None => None,
+            Some(reset) => {
+                if self.resets.take(now) {
+                    Some(reset)
+                } else {
+                    None
+                }
+            }
+        }
+    }
+}
+
+/// Whether both ends are one host's: neither a group's, nor broadcast or unspecified.
+pub(crate) fn is_proper(endpoints: &Endpoints) -> bool
+    ensures { result ≡ spec.is_proper endpoints.now }
+{
+    endpoints.local_addr.is_unicast() && endpoints.remote_addr.is_unicast()
+}

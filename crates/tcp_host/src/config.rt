@@ -1,0 +1,23 @@
+//! What is chosen for a host.
+
+use crate::sip_hash::SipKey;
+use tcp_machine::settings::Settings;
+
+/// What is chosen for a host of connections.
+#[derive(Clone, Copy, Debug)]
+pub struct Config {
+    /// How many octets each connection may hold that aren't acknowledged, at most 2^30.
+    pub send_room: usize,
+    /// How many octets each connection may hold that aren't read, at most 2^30.
+    pub receive_room: usize,
+    /// The most octets of a segment over IPv4: what the link carries, less 40.
+    pub mss_v4: u16,
+    /// The same over IPv6: what the link carries, less 60.
+    pub mss_v6: u16,
+    /// What each connection begins with. The host sets `own_mss` by the family.
+    pub settings: Settings,
+    /// The secret of initial numbers (RFC 6528 3).
+    pub number_key: [u8; 32],
+    /// The secret by which ends are hashed.
+    pub table_key: SipKey,
+}

@@ -1,0 +1,146 @@
+//! What a host has at a place.
+ghost use Rattle.std.specs.Prelude.{◌≡◌, ◌≤◌, ◌+◌, ◌%◌, ◌^◌, [], length};
+ghost use Rattle.tcp_machine.specs.Opening.{accepted, opened};
+ghost use Rattle.tcp_connection.specs.Segments.{segment_of};
+ghost use Rattle.tcp_connection.specs.Actions.{after_sending};
+ghost use Rattle.tcp_connection.specs.Asked.{is_only_challenged};
+ghost use Rattle.tcp_host.specs.declared.slot.Owner.TheVariants.{Program};
+ghost use Rattle.tcp_host.specs.TcpStreams.Challenges as spec;
+ghost use Rattle.tcp_host.specs.TcpStreams.Challenges.{all_challenges};
+ghost use Rattle.tcp_host.specs.TcpStreams.Host.{default_hop_limit};
+
+use tcp_connection::connection::Connection;
+use tcp_connection::segment::Segment;
+use tcp_machine::settings::Settings;
+use net_base::bucket::{Bucket, few_are_taken};
+
+/// How many challenges a connection may send at once, and the interval in which one more may be, in microseconds: at most ten
+/// in any second (RFC 5961 7).
+pub(crate) const CHALLENGES: Bucket = Bucket {
+    interval: 200_000,
+    depth: 5,
+    full_at: 0,
+};
+
+/// How many routers a packet may pass, unless the program says (RFC 9293 3.9.2).
+pub(crate) const HOP_LIMIT: u8 = 64;
+
+/// Whose a connection is.
+#[derive(Clone, Copy, Debug, PartialEq, Eq)]
+pub enum Owner {
+    /// There is none.
+    Nobody,
+    /// The listener of this index, and the handshake isn't complete.
+    HalfOpen(usize),
+    /// The listener of this index, and the program hasn't accepted it.
+    Waiting(usize),
+    /// The program, which has a handle.
+    Program,
+    /// Nobody any more: the program let go of it, and it ends by itself.
+    Itself,
+}
+
+/// A place for a connection.
+#[derive(Drop)]
+pub struct Slot {
+    pub connection: Connection,
+    pub owner: Owner,
+    /// How often the place was given to another connection: a handle with another generation names nothing.
+    pub generation: u64,
+    /// How many challenges the connection may send.
+    pub challenges: Bucket,
+    /// How many routers its packets may pass.
+    pub hop_limit: u8,
+}
+
+impl Slot {
+    /// A connection begins that a SYN asks for.
+    pub(crate) fn accept(
+        &mut self,
+        owner: Owner,
+        now: u64,
+        number: u32,
+        default: u16,
+        link: u16,
+        settings: &Settings,
+        segment: &Segment,
+    )
+        requires { settings.now.own_scale ≤ 14 }
+        ensures { self.new ≡ record {
+          connection = accepted now number self.old.connection.transmission.sender.room
+              (length self.old.connection.reception.receiver.cells) default link settings.now (segment_of segment.now []);
+          owner = owner;
+          generation = (self.old.generation + 1) % 2 ^ 64;
+          challenges = all_challenges;
+          hop_limit = default_hop_limit;
+        } }
+    {
+        self.connection
+            .accept(now, number, default, link, settings, segment);
+        self.owner = owner;
+        self.generation = self.generation.wrapping_add(1);
+        self.challenges = CHALLENGES;
+        self.hop_limit = HOP_LIMIT;
+    }
+
+    /// The program opens a connection.
+    pub(crate) fn open(&mut self, now: u64, number: u32, link: u16, settings: &Settings)
+        requires { settings.now.own_scale ≤ 14 }
+        ensures { self.new ≡ record {
+          connection = opened now number self.old.connection.transmission.sender.room
+              (length self.old.connection.reception.receiver.cells) link settings.now;
+          owner = Program;
+          generation = (self.old.generation + 1) % 2 ^ 64;
+          challenges = all_challenges;
+          hop_limit = default_hop_limit;
+        } }
+    {
+        self.connection.open(now, number, link, settings);
+        self.owner = Owner::Program;
+        self.generation = self.generation.wrapping_add(1);
+        self.challenges = CHALLENGES;
+        self.hop_limit = HOP_LIMIT;
+    }
+
+    /// Whether what the connection sends now is a challenge that it may not send.
+    pub(crate) fn is_challenge_left(&self, now: u64) -> bool
+        ensures { result ≡ spec.is_challenge_left now self.now }
+    {
+        let mut challenges = self.challenges;
+        self.connection.is_only_challenged(now) && !challenges.take(now)
+    }
+
+    /// What the connection sends now counts as sent, as if the link had lost it.
+    pub(crate) fn leave(&mut self, now: u64)
+        ensures { self.new ≡ record self.old { connection = after_sending now self.old.connection } }
+    {
+        after_sending(&mut self.connection, now);
+    }
+
+    /// What the connection sends now was sent, if it sends anything. A challenge is counted.
+    pub(crate) fn sent(&mut self, now: u64)
+        ensures { self.new ≡ spec.slot_after_sending now self.old }
+    {
+        if self.connection.is_only_challenged(now) {
+            let _is_there = self.challenges.take(now);
+        }
+        after_sending(&mut self.connection, now);
+    }
+}
+
+/// In any second a connection sends at most ten challenges: so many tokens its bucket has for the instants of a second, in whatever
+/// order they come.
+pub fn challenges_are_few()
+    ensures { spec.AtMostTen }
+{
+    few_are_taken();
+}
+
+// What a connection sends now was sent, if it sends anything.
+fn after_sending(connection: &mut Connection, now: u64)
+    ensures { connection.new ≡ after_sending now connection.old }
+{
+    if let Some(action) = connection.next_action(now) {
+        connection.sent(now, &action);
+    }
+}

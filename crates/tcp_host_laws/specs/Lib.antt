@@ -1,0 +1,7 @@
+pub mod Lives
+pub mod Calls
+pub mod Turns
+pub mod Laws
+pub mod Pairs
+pub mod Readings
+pub mod TcpNetworks

@@ -1,5 +1,0 @@
-use Rattle.tcp_packets.proofs.ResetLemmas as lemmas
-use Rattle.tcp_packets.proofs.again.resets_are_read_again.Goals as goal
-
-pub returns : goal.returns
-returns c = lemmas.resets_are_read_again

@@ -1,5 +1,0 @@
-use Rattle.tcp_packets.proofs.AgainLemmas as lemmas
-use Rattle.tcp_packets.proofs.again.segments_are_read_again.Goals as goal
-
-pub returns : goal.returns
-returns c = lemmas.segments_are_read_again

@@ -1,6 +1,0 @@
-pub mod Again
-pub mod Arrivals
-pub mod Destinations
-pub mod Packets
-pub mod Receiving
-pub mod Sending

@@ -1,5 +1,0 @@
-use Rattle.tcp_runs.proofs.PollTurns as lemmas
-use Rattle.tcp_runs.proofs.polls_live_on.Goals as goal
-
-pub returns : goal.returns
-returns g c = lemmas.polls_live_on

@@ -1,6 +1,0 @@
-pub mod Lives
-pub mod Calls
-pub mod Turns
-pub mod Laws
-pub mod Pairs
-pub mod Readings

@@ -1,9 +1,0 @@
-use Rattle.std.proofs.Common.{List, Option, sym, ap, subst}
-use Rattle.tcp_host.specs.declared.iss.Endpoints.{Endpoints}
-use Rattle.tcp_host.specs.Table.{IsNowhere}
-use Rattle.tcp_streams.specs.Host.{Host}
-use Rattle.tcp_streams.proofs.host.TcpHost.make_room.Goals as goal
-
-pub returns-clause-nowhere : goal.returns-clause-nowhere
-returns-clause-nowhere c = λ e n.
-    c.vacate.ensures.nowhere e (subst (λ (xs : List (Option Endpoints)). IsNowhere e xs) (sym (ap (λ (h : Host). h.ends) c.self.view_is)) n)

@@ -1,3 +1,0 @@
-pub mod OctetCells
-pub mod Pseudos
-pub mod Sums

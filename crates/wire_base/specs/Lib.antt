@@ -1,3 +1,0 @@
-pub mod Checksum
-pub mod Octets
-pub mod Pseudo
