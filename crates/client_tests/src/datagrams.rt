@@ -1,11 +1,9 @@
-use dns_client::DnsResult;
 use dns_client::dns_resolver::{QueryHandle, Resolver};
-use dns_client::{port_of, receive, send};
-use dns_client::DnsType;
+use dns_client::{DnsResult, DnsType, port_of, receive, send};
 use ip_address::{IpAddress, Ipv4Address};
+use ip_wire::emit::FrameBuffer;
 use sockets::{IpEndpoint, Queue, udp};
 use tcp_host::sip_hash::SipKey;
-use ip_wire::emit::FrameBuffer;
 
 const SERVERS: [IpAddress; 1] = [IpAddress::Ipv4(Ipv4Address { bits: 0x7f00_0001 })];
 

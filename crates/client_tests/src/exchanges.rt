@@ -2,8 +2,7 @@ use crate::servers::{
     ADDRESS, EVERYBODY, HARDWARE, MASK, NOBODY, OTHER, SECOND, SERVER, ack, answer, is_leased, nak,
     offer,
 };
-use dhcp_client::{DhcpClient, DhcpEvent, DhcpLease, DhcpMessage};
-use dhcp_client::DhcpMessageType;
+use dhcp_client::{DhcpClient, DhcpEvent, DhcpLease, DhcpMessage, DhcpMessageType};
 use ip_address::{EthernetAddress, Ipv4Address};
 
 /// The type of a message, where it goes, its number, the address that it asks for, and the server that it names.

@@ -1,6 +1,5 @@
 use crate::servers::{HARDWARE, SECOND, SERVER, nak, offer};
-use dhcp_client::{DhcpClient, DhcpMessage};
-use dhcp_client::DhcpMessageType;
+use dhcp_client::{DhcpClient, DhcpMessage, DhcpMessageType};
 
 /// Whether a message is of this type.
 fn is_of(message: Option<DhcpMessage>, message_type: DhcpMessageType) -> bool {

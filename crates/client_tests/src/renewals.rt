@@ -1,8 +1,7 @@
 use crate::servers::{
     ADDRESS, EVERYBODY, HARDWARE, OTHER, SECOND, SERVER, ack, is_leased, nak, offer,
 };
-use dhcp_client::{DhcpClient, DhcpEvent, DhcpMessage};
-use dhcp_client::DhcpMessageType;
+use dhcp_client::{DhcpClient, DhcpEvent, DhcpMessage, DhcpMessageType};
 use ip_address::Ipv4Address;
 
 /// A client with a lease of so many seconds from instant 0 on.

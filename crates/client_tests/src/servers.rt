@@ -1,6 +1,5 @@
 //! What servers answer in these tests: those of 192.168.69.1 and of 192.168.69.2, to the client 02-00-00-00-00-01.
-use dhcp_client::DhcpLease;
-use dhcp_client::{DhcpMessageType, DhcpOptions, DhcpRepr};
+use dhcp_client::{DhcpLease, DhcpMessageType, DhcpOptions, DhcpRepr};
 use ip_address::{EthernetAddress, Ipv4Address};
 
 pub const HARDWARE: EthernetAddress = EthernetAddress([2, 0, 0, 0, 0, 1]);

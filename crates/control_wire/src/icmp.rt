@@ -2,8 +2,8 @@
 ghost use Rattle.std.specs.Prelude.{◌≡◌};
 ghost use Rattle.control_wire.specs.Icmp as spec;
 
-use crate::icmpv4::Icmpv4Repr;
 use crate::Icmpv6Repr;
+use crate::icmpv4::Icmpv4Repr;
 use ip_address::IpVersion;
 
 /// The values of a message, of either family.

@@ -7,13 +7,13 @@ ghost use Rattle.std.proofs.Common.{rules};
 ghost use Rattle.ip_wire.specs.Checksum.{folded_sum, word_sum};
 ghost use Rattle.control_wire.specs.Icmpv6 as spec;
 
+use crate::mld::MldRepr;
 use crate::ndisc::NdiscRepr;
 use crate::router::RouterRepr;
-use crate::mld::MldRepr;
 use ip_address::IpAddress;
-use ip_wire::ipv6_packet::Ipv6Repr;
 use ip_wire::checksum::{long_sum_with, part_sum, sum_with};
 use ip_wire::emit::FrameBuffer;
+use ip_wire::ipv6_packet::Ipv6Repr;
 use ip_wire::octets::{u16_at, u32_at};
 use ip_wire::pseudo::pseudo_sum;
 

@@ -4,9 +4,9 @@ ghost use Rattle.std.specs.Option.{SomeIff};
 ghost use Rattle.control_wire.specs.Igmp as spec;
 
 use ip_address::Ipv4Address;
-use net_base::time::Duration;
 use ip_wire::checksum::checksum;
 use ip_wire::octets::u32_at;
+use net_base::time::Duration;
 
 /// The length of a message, in octets (RFC 2236 2).
 pub const HEADER_LEN: usize = 8;

@@ -6,10 +6,9 @@ ghost use Rattle.sockets.specs.Raw as raw_spec;
 ghost use Rattle.dhcp_client.specs.Packets.{message_text, packet_of};
 ghost use Rattle.dhcp_client.specs.Datagrams as spec;
 
-use crate::packets::DhcpRoom;
-use crate::{DhcpClient, DhcpMessage};
-use crate::DhcpRepr;
 use crate::message::SERVER_PORT;
+use crate::packets::DhcpRoom;
+use crate::{DhcpClient, DhcpMessage, DhcpRepr};
 use ip_wire::IpAddress;
 use sockets::{Full, IpEndpoint, SendError, raw, udp};
 

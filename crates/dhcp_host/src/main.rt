@@ -7,8 +7,9 @@ ghost use Rattle.net_base.specs.Time.{IsMoment};
 
 use anyhow::Result;
 use arrayvec::ArrayVec;
-use dhcp_client::{DhcpClient, DhcpEvent, DhcpLease, DhcpMessage};
-use dhcp_client::{DhcpRoom, receive, send_by_raw, send_by_udp};
+use dhcp_client::{
+    DhcpClient, DhcpEvent, DhcpLease, DhcpMessage, DhcpRoom, receive, send_by_raw, send_by_udp,
+};
 use interface::{Config, Interface, SocketHandle, SocketSet};
 use ip_wire::{EthernetAddress, IpCidr, IpProtocol, IpVersion, Ipv4Address, Ipv4Cidr};
 use net_base::MemoryDevice;

@@ -4,9 +4,9 @@ ghost use Rattle.dns_client.specs.Answers as spec;
 ghost use Rattle.dns_client.specs.Message.{is_question};
 
 use crate::found::found_in;
-use crate::query::{DnsFailure, DnsQuery, DnsResult};
 use crate::message::{HEADER_LEN, SERVER_PORT};
 use crate::name::is_same_name;
+use crate::query::{DnsFailure, DnsQuery, DnsResult};
 use crate::{DnsHeader, DnsQuestion};
 use ip_address::IpAddress;
 

@@ -2,8 +2,8 @@
 ghost use Rattle.std.specs.Prelude.{◌≡◌, ◌+◌, ◌<◌, ◌≤◌, length};
 ghost use Rattle.dns_client.specs.Found as spec;
 
-use crate::query::{DnsFailure, DnsResult, MAX_ADDRESSES};
 use crate::name::is_same_name;
+use crate::query::{DnsFailure, DnsResult, MAX_ADDRESSES};
 use crate::{DnsData, DnsRecord, DnsType};
 use ip_address::IpAddress;
 

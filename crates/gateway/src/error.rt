@@ -1,9 +1,9 @@
 //! The errors that a gateway sends.
 
 use crate::transit::Packet;
-use ip_wire::{IpProtocol, Ipv4Address, Ipv4Fragment, Ipv4Repr};
 use ip_wire::checksum::sum_with;
 use ip_wire::emit::FrameBuffer;
+use ip_wire::{IpProtocol, Ipv4Address, Ipv4Fragment, Ipv4Repr};
 
 /// How many octets of a packet an error has at most, so that it isn't longer than 576 (RFC 1812 4.3.2.3).
 const QUOTED_LEN: usize = 548;

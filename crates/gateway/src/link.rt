@@ -13,12 +13,12 @@ use ip_wire::{
     Ipv4Cidr,
 };
 use net_base::MemoryDevice;
+use net_base::bucket::Bucket;
 use net_base::phy::{ChecksumCapabilities, DeviceCapabilities, Medium};
 use net_base::time::{Duration, Instant};
 use sockets::{Queue, icmp, raw};
 use std::alloc::Global;
 use std::mem;
-use net_base::bucket::Bucket;
 
 /// A link: Ethernet, with packets of at most 1500 octets.
 const CAPABILITIES: DeviceCapabilities = DeviceCapabilities {

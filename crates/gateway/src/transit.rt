@@ -3,10 +3,10 @@ ghost use Rattle.std.specs.Prelude.{◌≡◌, ◌≤◌, ◌<◌, IfOk, length}
 ghost use Rattle.gateway.specs.Transit as spec;
 
 use anyhow::Result;
-use ip_wire::{IpProtocol, Ipv4Address, Ipv4Cidr, Ipv4Fragment, Ipv4Repr};
-use std::alloc::Global;
 use ip_wire::checksum::checksum;
 use ip_wire::octets::u16_at;
+use ip_wire::{IpProtocol, Ipv4Address, Ipv4Cidr, Ipv4Fragment, Ipv4Repr};
+use std::alloc::Global;
 
 /// The length of a header without options, in octets.
 const HEADER_LEN: usize = 20;

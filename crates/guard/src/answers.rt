@@ -5,9 +5,9 @@ ghost use Rattle.guard.specs.Guard.{micros};
 
 use crate::guard::take;
 use crate::kind::{message_of, octet_at};
-use net_base::time::Instant;
-use net_base::bucket::Bucket;
 use ip_wire::octets::u16_at;
+use net_base::bucket::Bucket;
+use net_base::time::Instant;
 
 /// What a frame in response is.
 #[derive(Clone, Copy, Debug, PartialEq, Eq)]

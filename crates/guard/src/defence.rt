@@ -4,8 +4,8 @@ ghost use Rattle.guard.specs.Defence as spec;
 
 use crate::guard::micros;
 use ip_address::{EthernetAddress, HardwareAddress, Ipv4Address};
-use net_base::time::Instant;
 use ip_wire::octets::{u16_at, u32_at};
+use net_base::time::Instant;
 
 /// Whether own addresses are defended, and what is owed: a claim of an own IPv4 address by ARP is answered by one announcement,
 /// if none was owed for so long before. An announcement is a broadcast from the own hardware address, which others on the link

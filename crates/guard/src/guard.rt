@@ -13,9 +13,9 @@ use crate::queries::{Delays, Waits};
 use iface_tables::neighbor::Cache;
 use ip_address::{HardwareAddress, IpAddress, IpCidr, IpVersion, Ipv6Address};
 use ip_wire::ipv6_packet::address_at;
-use net_base::time::Instant;
-use net_base::bucket::Bucket;
 use ip_wire::octets::{u16_at, u32_at};
+use net_base::bucket::Bucket;
+use net_base::time::Instant;
 
 /// How long an answer to a request for a hardware address is expected, in microseconds.
 const ANSWER_TIME: u64 = 3_000_000;

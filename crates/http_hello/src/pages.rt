@@ -4,9 +4,9 @@ use crate::answer::{Answer, answer_to};
 use line_host::connections::Connections;
 use line_host::limits::Limits;
 use std::alloc::{AllocError, Global};
-use tcp_machine::state::State;
 use tcp_host::calls::Handle;
 use tcp_host::host::TcpHost;
+use tcp_machine::state::State;
 
 /// The port of the service.
 const PORT: u16 = 80;

@@ -16,9 +16,8 @@ use crate::status::{
     BAD_ARGUMENT, BAD_NAME, HAS_CLIENT, NO_CLIENT, NO_HOST, NO_SERVER, NOT_THERE, OK, code,
 };
 use arrayvec::ArrayVec;
-use dns_client::{DnsFailure, DnsResult};
 use dns_client::dns_resolver::QueryHandle;
-use dns_client::DnsType;
+use dns_client::{DnsFailure, DnsResult, DnsType};
 use iface_dns::{Dns, StartRefusal};
 use ip_wire::IpAddress;
 use std::alloc::Global;

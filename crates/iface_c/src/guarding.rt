@@ -14,8 +14,8 @@ use crate::handle::Iface;
 use crate::status::{BAD_ARGUMENT, NO_HOST, NOT_THERE, OK, code};
 use guard::{Answers, Counts, Defence, Delays, Guard, Pins, Watch};
 use ip_wire::EthernetAddress;
-use std::alloc::Global;
 use net_base::bucket::Bucket;
+use std::alloc::Global;
 
 /// A rate: one in each interval, and so many at once.
 #[repr(C)]

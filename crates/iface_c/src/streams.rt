@@ -16,9 +16,9 @@ use crate::streams_handle::IfaceStreams;
 use iface_host::Room;
 use iface_streams::{ConnectRefusal, StreamSettings, Streams};
 use std::alloc::Global;
+use tcp_host::calls::Handle;
 use tcp_host::sip_hash::SipKey;
 use tcp_machine::settings::Settings;
-use tcp_host::calls::Handle;
 
 /// How connections are to be made.
 #[repr(C)]

@@ -11,10 +11,10 @@ ghost use Rattle.iface_tables.specs.Slaac.{IsLifetime, slaac_after_message, slaa
 use crate::context::Context;
 use crate::settings::follow_addrs;
 use control_wire::NdiscPrefixInformation;
-use ip_wire::Ipv6Address;
-use net_base::time::{Duration, Instant};
 use iface_tables::Slaac;
 use iface_tables::sync::{sync_addrs, sync_routes};
+use ip_wire::Ipv6Address;
+use net_base::time::{Duration, Instant};
 
 impl Context {
     ghost use Rattle.std.specs.Prelude.{◌≡◌};

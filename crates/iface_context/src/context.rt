@@ -9,22 +9,22 @@ ghost use Rattle.host_machine.specs.Context.Host.{is_assigned, no_sockets};
 ghost use Rattle.host_machine.specs.Context.Addresses as addresses;
 ghost use Rattle.host_machine.specs.Context.Real.{IsPart, are_parts-prop};
 
-use crate::membership::Membership;
-use ip_address::address_selection::{get_source_address_ipv6, ipv6_addr};
-use arrayvec::ArrayVec;
-use fragmentation::Fragmenter;
 use crate::addresses::{
     ends_a_network, has_solicited_node, ipv4_addr, is_assigned, is_loopback, link_local_addr,
     on_link_addr,
 };
+use crate::membership::Membership;
+use arrayvec::ArrayVec;
+use fragmentation::Fragmenter;
+use iface_tables::Slaac;
 use iface_tables::neighbor::Cache;
 use iface_tables::route::Routes;
+use iface_tables::sync::MAX_ADDR_COUNT;
+use ip_address::address_selection::{get_source_address_ipv6, ipv6_addr};
 use ip_wire::{HardwareAddress, IpAddress, IpCidr, Ipv4Address, Ipv6Address};
 use net_base::phy::{ChecksumCapabilities, DeviceCapabilities};
 use net_base::rand::Rand;
 use net_base::time::{Duration, Instant};
-use iface_tables::Slaac;
-use iface_tables::sync::MAX_ADDR_COUNT;
 use sockets::SocketContext;
 
 /// The maximum number of addresses of a list that the crate `interface` hands to a function, smoltcp's.

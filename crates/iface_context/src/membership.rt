@@ -6,12 +6,12 @@ ghost use Rattle.iface_tables.specs.declared.report.MldReportState.TheVariants a
 ghost use Rattle.host_machine.specs.Context.Membership as spec;
 ghost use Rattle.iface_context.specs.Multicast.{interval_of};
 
+use crate::addresses::has_solicited_node;
 use arrayvec::ArrayVec;
 use iface_tables::{
     Group, Groups, IFACE_MAX_MULTICAST_GROUP_COUNT, IgmpReportState, MAX_GROUP_COUNT,
     MldReportState,
 };
-use crate::addresses::has_solicited_node;
 use ip_wire::{HardwareAddress, IpAddress, IpCidr, Ipv6Address};
 
 /// The groups of an interface, for how many there is room, and the reports that answer queries of routers.

@@ -11,16 +11,17 @@ ghost use Rattle.iface_context.specs.PacketValues as value_of;
 
 use arrayvec::ArrayVec;
 use control_wire::icmpv4::{EchoRequest, Icmpv4DstUnreachable, Icmpv4Repr};
-use control_wire::{IgmpRepr, MldRepr};
 use control_wire::icmpv6::emit_parts;
 use control_wire::ndisc_option::{NdiscOptionType, lladdr_option};
-use control_wire::{Icmpv6DstUnreachable, Icmpv6Repr, NdiscNeighborFlags, NdiscRepr, echo};
-use ip_wire::emit::FrameBuffer;
-use ip_wire::{
-    EthernetAddress, IpProtocol, IpRepr, Ipv4Repr, Ipv6Address, Ipv6Repr, TcpRepr, UdpRepr,
+use control_wire::{
+    Icmpv6DstUnreachable, Icmpv6Repr, IgmpRepr, MldRepr, NdiscNeighborFlags, NdiscRepr, echo,
 };
+use ip_wire::emit::FrameBuffer;
 use ip_wire::ipv6_packet::address_octets;
-use ip_wire::{Ipv6HopByHopRepr, Ipv6OptionRepr};
+use ip_wire::{
+    EthernetAddress, IpProtocol, IpRepr, Ipv4Repr, Ipv6Address, Ipv6HopByHopRepr, Ipv6OptionRepr,
+    Ipv6Repr, TcpRepr, UdpRepr,
+};
 use net_base::phy::DeviceCapabilities;
 
 /// The payload of an IP packet. Where its kind is a type, the code that builds the packet's frame is compiled for that

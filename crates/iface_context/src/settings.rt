@@ -20,17 +20,16 @@ use crate::context::Context;
 use crate::membership::{Membership, update_solicited_node_groups};
 use arrayvec::ArrayVec;
 use fragmentation::Fragmenter;
-use iface_tables::MAX_GROUP_COUNT;
 use host_machine::Capacities;
 use iface_tables::neighbor::{Cache, Hints, Neighbor};
 use iface_tables::route::{Route, Routes};
 use iface_tables::route_trie::RouteNode;
+use iface_tables::sync::MAX_ADDR_COUNT;
+use iface_tables::{MAX_GROUP_COUNT, Slaac};
 use ip_wire::{HardwareAddress, IpAddress, IpCidr};
 use net_base::phy::DeviceCapabilities;
 use net_base::rand::Rand;
 use net_base::time::{Duration, Instant};
-use iface_tables::Slaac;
-use iface_tables::sync::MAX_ADDR_COUNT;
 
 /// The context of a new interface over a device with these capabilities: no address, route, neighbour or group, and
 /// nothing learnt from routers. `iface_tables` says whether it takes addresses from routers.

@@ -5,8 +5,8 @@ ghost use Rattle.dhcp_client.specs.Client as client;
 ghost use Rattle.iface_dhcp.specs.Dhcp as spec;
 ghost use Rattle.iface_host.specs.declared.refusal.Refusal.{Refusal};
 
-use dhcp_client::{DhcpClient, DhcpLease};
 use dhcp_client::message::CLIENT_PORT;
+use dhcp_client::{DhcpClient, DhcpLease};
 use iface_host::{Host, Leased, Refusal, Room, Rooms};
 use ip_wire::Ipv4Address;
 use net_base::rand::Rand;

@@ -3,8 +3,7 @@ ghost use Rattle.std.specs.Prelude.{◌≡◌};
 ghost use Rattle.iface_dhcp.specs.Hear.{Hears, HearsAll};
 
 use crate::dhcp::RECEIVED_LEN;
-use dhcp_client::DhcpClient;
-use dhcp_client::receive_datagram;
+use dhcp_client::{DhcpClient, receive_datagram};
 use iface_host::Host;
 
 /// Hands the first so many datagrams of a socket to a client, one after another, and drops them.

@@ -5,8 +5,7 @@ ghost use Rattle.dhcp_client.specs.Packets as packets;
 ghost use Rattle.iface_dhcp.specs.Send as spec;
 
 use crate::dhcp::Dhcp;
-use dhcp_client::DhcpMessage;
-use dhcp_client::{DhcpRoom, server_of};
+use dhcp_client::{DhcpMessage, DhcpRoom, server_of};
 use iface_host::{Host, Room, Rooms};
 use ip_wire::{IpProtocol, IpVersion};
 

@@ -15,10 +15,9 @@ ghost use Rattle.iface_context.specs.Refines.{RefinesReplying};
 
 use bitflags::Flags;
 use control_wire::{NdiscNeighborFlags, NdiscRepr};
-use iface_context::Context;
 use iface_context::neighbors::{fill_neighbor, is_known};
-use iface_context::PacketV6;
 use iface_context::payload::NeighborAdvert;
+use iface_context::{Context, PacketV6};
 use iface_send::dispatch::dispatch;
 use ip_wire::emit::FrameBuffer;
 use ip_wire::{EthernetAddress, HardwareAddress, IpAddress, Ipv6Address, Ipv6Repr};

@@ -10,9 +10,8 @@ ghost use Rattle.iface_send.specs.Offered.{HasPart};
 ghost use Rattle.iface_context.specs.Refines.{RefinesTelling};
 
 use control_wire::{Icmpv6Repr, RouterRepr};
-use iface_context::Context;
 use iface_context::autoconfiguration::rs_sent;
-use iface_context::{IpPayload, Packet, PacketV6};
+use iface_context::{Context, IpPayload, Packet, PacketV6};
 use iface_send::transmit::send_packet;
 use ip_wire::emit::FrameBuffer;
 use ip_wire::{EthernetAddress, HardwareAddress, Ipv6Address};

@@ -6,8 +6,8 @@ use crate::dns::Dns;
 use dns_client::dns_resolver::{DnsMessage, QueryHandle};
 use dns_client::message::SERVER_PORT;
 use iface_host::Host;
-use sockets::IpEndpoint;
 use ip_wire::emit::FrameBuffer;
+use sockets::IpEndpoint;
 
 impl Dns {
     /// Lets a query do what is due at an instant, and queues its message at its socket, if it sends one now. A message for which

@@ -7,8 +7,8 @@ ghost use Rattle.iface_host.specs.declared.refusal.Refusal.{Refusal};
 
 use crate::dns::Dns;
 use crate::hear::RECEIVED_LEN;
-use dns_client::dns_resolver::QueryHandle;
 use dns_client::DnsType;
+use dns_client::dns_resolver::QueryHandle;
 use dns_client::message::MAX_QUERY_LEN;
 use dns_client::text::{Name, name_of};
 use iface_host::streams::micros_of;

@@ -16,8 +16,8 @@ use ip_wire::IpAddress;
 use net_base::phy::Checksum;
 use socket_set::{SocketHandle, SocketSet, by_index};
 use sockets::raw;
-use tcp_sockets::{SocketPair, TcpSockets};
 use tcp_host::host::TcpHost;
+use tcp_sockets::{SocketPair, TcpSockets};
 
 /// The two raw sockets of TCP of a family.
 #[derive(Clone, Copy, Debug)]

@@ -9,9 +9,8 @@ ghost use Rattle.iface_context.specs.Stands.{host_of};
 use crate::icmpv6::parameter_problem;
 use control_wire::Icmpv6ParamProblem;
 use iface_context::Context;
-use ip_wire::Ipv6Repr;
 use ip_wire::emit::FrameBuffer;
-use ip_wire::Ipv6OptionFailureType;
+use ip_wire::{Ipv6OptionFailureType, Ipv6Repr};
 
 /// Builds the answer to a packet with an unrecognized option, in an empty buffer, by the two high bits of the option's
 /// type. That is a parameter problem for 10, and for 11 unless the packet's destination is multicast.

@@ -16,13 +16,12 @@ ghost use Rattle.iface_send.specs.Offered.{HasPart};
 ghost use Rattle.iface_context.specs.Refines.{RefinesTelling};
 
 use crate::timeout::{has_passed, later_of};
-use iface_tables::IgmpReportState;
 use control_wire::igmp::{max_resp_time, query_version};
 use control_wire::{IgmpRepr, IgmpVersion};
-use iface_context::Context;
 use iface_context::multicast::set_igmp_report;
-use iface_context::{IpPayload, Packet, PacketV4};
+use iface_context::{Context, IpPayload, Packet, PacketV4};
 use iface_send::transmit::send_packet;
+use iface_tables::IgmpReportState;
 use ip_wire::emit::FrameBuffer;
 use ip_wire::{IpAddress, Ipv4Address, Ipv4Repr};
 use net_base::phy::Device;

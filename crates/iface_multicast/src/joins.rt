@@ -15,12 +15,11 @@ ghost use Rattle.iface_context.specs.Refines.{RefinesTelling};
 
 use crate::igmp::{igmp_packet, igmp_report};
 use crate::mld::send_record;
-use iface_tables::GroupState;
 use control_wire::{IgmpRepr, IgmpVersion, MldRecordType};
-use iface_context::Context;
 use iface_context::multicast::{join_reported, leave_reported};
-use iface_context::Packet;
+use iface_context::{Context, Packet};
 use iface_send::transmit::send_packet;
+use iface_tables::GroupState;
 use ip_wire::emit::FrameBuffer;
 use ip_wire::{IpAddress, Ipv4Address};
 use net_base::phy::Device;

@@ -15,12 +15,11 @@ ghost use Rattle.iface_context.specs.Refines.{RefinesTelling};
 
 use crate::timeout::has_passed;
 use arrayvec::ArrayVec;
-use iface_tables::{Group, MldReportState};
 use control_wire::{MldAddressRecordRepr, MldRecordType, MldRepr};
-use iface_context::Context;
 use iface_context::multicast::set_mld_report;
-use iface_context::{IpPayload, Packet, PacketV6};
+use iface_context::{Context, IpPayload, Packet, PacketV6};
 use iface_send::transmit::send_packet;
+use iface_tables::{Group, MldReportState};
 use ip_wire::emit::FrameBuffer;
 use ip_wire::{IpAddress, Ipv6Address, Ipv6Repr};
 use net_base::phy::Device;

@@ -21,8 +21,9 @@ use iface_sockets::raw;
 use iface_sockets::tcp::process_tcp;
 use iface_sockets::udp::process_udp;
 use ip_wire::emit::FrameBuffer;
-use ip_wire::{HardwareAddress, IpProtocol, IpRepr, Ipv6Repr};
-use ip_wire::{Ipv6HopByHopRepr, Ipv6OptionFailureType};
+use ip_wire::{
+    HardwareAddress, IpProtocol, IpRepr, Ipv6HopByHopRepr, Ipv6OptionFailureType, Ipv6Repr,
+};
 use socket_set::SocketSet;
 use sockets::SocketContext;
 

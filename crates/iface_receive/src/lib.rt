@@ -8,12 +8,8 @@ pub mod ethernet;
 pub mod ipv4;
 pub mod ipv6;
 
-pub use iface_discovery::polling as discovery_polling;
-pub use iface_discovery::router_solicitation;
-pub use iface_multicast::{igmp, joins, mld};
-pub use iface_multicast::polling as group_polling;
-pub use iface_sockets::polling;
-pub use iface_sockets::turns;
-pub use ip_wire::emit;
-pub use ip_wire::{HardwareAddress, IpAddress, IpCidr, Ipv4Address, Ipv6Address};
+pub use iface_discovery::{polling as discovery_polling, router_solicitation};
+pub use iface_multicast::{igmp, joins, mld, polling as group_polling};
+pub use iface_sockets::{polling, turns};
+pub use ip_wire::{HardwareAddress, IpAddress, IpCidr, Ipv4Address, Ipv6Address, emit};
 pub use sockets::SocketContext;

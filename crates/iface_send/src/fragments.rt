@@ -14,9 +14,9 @@ ghost use Rattle.iface_context.specs.Stands.{host_of};
 
 use crate::transmit::send_frame;
 use iface_context::context::Context;
-use iface_context::pieces::{emit_next_piece, fragment_packet};
 use iface_context::packet::PacketV4;
 use iface_context::payload::IpPayload;
+use iface_context::pieces::{emit_next_piece, fragment_packet};
 use ip_wire::HardwareAddress;
 use ip_wire::emit::FrameBuffer;
 use net_base::phy::Device;

@@ -14,8 +14,8 @@ ghost use Rattle.iface_context.specs.Refines.{RefinesBuilding};
 ghost use Rattle.iface_context.specs.Stands.{host_of};
 
 use crate::hops::group_address_v6;
-use host_machine::DispatchError;
 use control_wire::{Icmpv6Repr, NdiscRepr};
+use host_machine::DispatchError;
 use iface_context::context::Context;
 use iface_context::identification::take_id;
 use iface_context::neighbors::limit_rate;

@@ -9,8 +9,8 @@ ghost use Rattle.iface_send.specs.Offered.{HasPart, IsOffered};
 ghost use Rattle.iface_context.specs.Refines.{RefinesTelling};
 
 use crate::dispatch::dispatch;
-use iface_context::context::Context;
 use iface_context::Packet;
+use iface_context::context::Context;
 use ip_wire::emit::FrameBuffer;
 use net_base::phy::{Device, PacketMeta};
 use sockets::SocketContext;

@@ -12,11 +12,9 @@ ghost use Rattle.iface_context.specs.Refines.{RefinesTelling};
 ghost use Rattle.iface_sockets.specs.Turns.{HasTurn};
 
 use crate::offers::{outcome, packet_between, send_if};
-use control_wire::{IcmpRepr, Icmpv4Repr};
+use control_wire::{IcmpRepr, Icmpv4Repr, Icmpv6Repr};
 use host_machine::Turn;
-use control_wire::Icmpv6Repr;
-use iface_context::Context;
-use iface_context::{IpPayload, Packet};
+use iface_context::{Context, IpPayload, Packet};
 use ip_wire::emit::FrameBuffer;
 use net_base::phy::Device;
 use sockets::{SocketContext, icmp};

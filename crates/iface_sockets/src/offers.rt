@@ -8,8 +8,7 @@ ghost use Rattle.iface_context.specs.Refines.{RefinesTelling};
 ghost use Rattle.iface_sockets.specs.Turns.{OfferHasTurn, outcome_of};
 
 use host_machine::Turn;
-use iface_context::Context;
-use iface_context::{AnyPacket, IpPayload, Packet, PacketV4, PacketV6};
+use iface_context::{AnyPacket, Context, IpPayload, Packet, PacketV4, PacketV6};
 use iface_send::dispatch::dispatch;
 use iface_send::transmit::send_frame;
 use ip_wire::IpAddress;

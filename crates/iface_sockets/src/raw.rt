@@ -16,8 +16,7 @@ ghost use Rattle.iface_sockets.specs.Turns.{HasTurn};
 
 use crate::offers::{outcome, send};
 use host_machine::Turn;
-use iface_context::Context;
-use iface_context::{IpPayload, Packet};
+use iface_context::{Context, IpPayload, Packet};
 use ip_wire::IpRepr;
 use ip_wire::emit::FrameBuffer;
 use net_base::phy::Device;

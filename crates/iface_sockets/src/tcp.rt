@@ -18,9 +18,8 @@ ghost use Rattle.iface_sockets.specs.Turns.{HasTurn};
 
 use crate::offers::{outcome, packet_between, send_if};
 use host_machine::Turn;
-use iface_context::Context;
 use iface_context::payload::Segment;
-use iface_context::{IpPayload, Packet, PacketV4, PacketV6};
+use iface_context::{Context, IpPayload, Packet, PacketV4, PacketV6};
 use iface_send::dispatch::dispatch;
 use ip_wire::emit::FrameBuffer;
 use ip_wire::{IpRepr, TcpControl, TcpRepr};

@@ -17,10 +17,9 @@ ghost use Rattle.iface_sockets.specs.Turns.{HasTurn, OfferHasTurn};
 
 use crate::offers::{outcome, send};
 use host_machine::Turn;
-use iface_context::Context;
-use iface_icmp::unreachable::send_port_unreachable;
 use iface_context::payload::Datagram;
-use iface_context::{Packet, PacketV4, PacketV6};
+use iface_context::{Context, Packet, PacketV4, PacketV6};
+use iface_icmp::unreachable::send_port_unreachable;
 use ip_wire::emit::FrameBuffer;
 use ip_wire::{IpAddress, IpRepr, UdpRepr};
 use net_base::phy::Device;

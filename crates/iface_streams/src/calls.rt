@@ -6,10 +6,10 @@ ghost use Rattle.iface_streams.specs.Calls as spec;
 
 use crate::streams::Streams;
 use iface_host::Refusal;
+use tcp_host::calls::Handle;
 use tcp_host::iss::Endpoints;
 use tcp_machine::state::State;
 use tcp_machine::timers::Ending;
-use tcp_host::calls::Handle;
 
 impl Streams {
     /// Queues the first octets, as many as there is room for, and returns their number. It is 0 once the program closed or the

@@ -14,8 +14,8 @@ use iface_host::{Host, Refusal};
 use ip_wire::IpAddress;
 use sockets::{IpEndpoint, IpListenEndpoint};
 use std::alloc::Global;
-use tcp_host::iss::Endpoints;
 use tcp_host::calls::{ConnectError, Handle};
+use tcp_host::iss::Endpoints;
 
 /// Why a connection isn't opened.
 #[derive(Clone, Copy, Debug, PartialEq, Eq)]

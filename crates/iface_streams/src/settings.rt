@@ -3,9 +3,9 @@ ghost use Rattle.std.specs.Prelude.{◌≡◌, ◌≤◌};
 ghost use Rattle.iface_streams.specs.Settings as spec;
 
 use iface_host::Room;
+use tcp_host::config::Config;
 use tcp_host::sip_hash::SipKey;
 use tcp_machine::settings::Settings;
-use tcp_host::config::Config;
 
 /// The most connections, and the most octets of each that a host keeps each way.
 pub const MOST: usize = 1 << 30;

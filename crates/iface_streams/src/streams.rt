@@ -13,8 +13,8 @@ use ip_wire::IpVersion;
 use net_base::phy::Checksum;
 use sockets::raw;
 use std::alloc::Global;
-use tcp_sockets::{SocketPair, TcpSockets, far_socket, near_socket};
 use tcp_host::host::TcpHost;
+use tcp_sockets::{SocketPair, TcpSockets, far_socket, near_socket};
 
 /// Connections of a host.
 #[derive(Drop)]

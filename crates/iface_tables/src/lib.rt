@@ -11,6 +11,8 @@ pub mod slaac;
 pub mod store;
 pub mod sync;
 
-pub use groups::{Group, GroupState, GroupTableFull, Groups, IFACE_MAX_MULTICAST_GROUP_COUNT, MAX_GROUP_COUNT};
+pub use groups::{
+    Group, GroupState, GroupTableFull, Groups, IFACE_MAX_MULTICAST_GROUP_COUNT, MAX_GROUP_COUNT,
+};
 pub use report::{IgmpReportState, MldReportState};
 pub use slaac::{Phase, Slaac};

@@ -6,9 +6,9 @@ ghost use Rattle.ip_address.specs.LinkPrefix as made;
 ghost use Rattle.iface_tables.specs.Slaac.{is_prefix_valid, is_route_valid};
 ghost use Rattle.iface_tables.specs.Sync as spec;
 
+use crate::route as table;
 use crate::slaac::{Prefix, Route};
 use arrayvec::ArrayVec;
-use crate::route as table;
 use ip_address::{HardwareAddress, IpAddress, IpCidr, Ipv6Cidr};
 use net_base::time::Instant;
 

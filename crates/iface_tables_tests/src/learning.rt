@@ -1,7 +1,7 @@
 use control_wire::{NdiscPrefixInfoFlags, NdiscPrefixInformation};
+use iface_tables::{Phase, Slaac};
 use ip_address::Ipv6Address;
 use net_base::time::{Duration, Instant};
-use iface_tables::{Phase, Slaac};
 
 // fe80::1 and fe80::2.
 const ROUTER: Ipv6Address = Ipv6Address {

@@ -7,8 +7,8 @@ use guard::queries::Waits;
 use guard::watch::{Conflict, Watch};
 use iface_tables::neighbor::Cache;
 use ip_wire::{EthernetAddress, IpAddress, Ipv4Address};
-use net_base::time::Instant;
 use net_base::bucket::Bucket;
+use net_base::time::Instant;
 
 // A frame at this many milliseconds, and why it is dropped.
 type Row<'a> = (u32, &'a [u8], Option<Reason>);

@@ -1,12 +1,12 @@
 use arrayvec::ArrayVec;
 use control_wire::{NdiscPrefixInfoFlags, NdiscPrefixInformation};
+use iface_tables::Slaac;
 use iface_tables::route::{Route as Stored, Routes};
+use iface_tables::sync::{MAX_ADDR_COUNT, sync_addrs, sync_routes};
 use ip_address::{
     EthernetAddress, HardwareAddress, IpCidr, Ipv4Address, Ipv4Cidr, Ipv6Address, Ipv6Cidr,
 };
 use net_base::time::{Duration, Instant};
-use iface_tables::Slaac;
-use iface_tables::sync::{MAX_ADDR_COUNT, sync_addrs, sync_routes};
 
 const HARDWARE: HardwareAddress = HardwareAddress::Ethernet(EthernetAddress([2, 0, 0, 0, 0, 1]));
 

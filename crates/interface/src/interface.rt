@@ -27,25 +27,24 @@ use iface_context::settings::{
     set_neighbor_storage, set_reassembly_timeout, set_route_storage,
 };
 use iface_context::{Context, settings};
-use iface_receive::router_solicitation::ndisc_rs_egress;
+use iface_receive::emit::FrameBuffer;
+use iface_receive::ethernet::process_frame;
 use iface_receive::igmp::igmp_egress;
 use iface_receive::joins::{joins_egress, leaves_egress};
 use iface_receive::mld::mld_egress;
-use iface_receive::ethernet::process_frame;
+use iface_receive::router_solicitation::ndisc_rs_egress;
+use iface_receive::turns::socket_egress;
+use iface_receive::{HardwareAddress, IpAddress, IpCidr, Ipv4Address, Ipv6Address, SocketContext};
 use iface_send::fragments::ipv4_egress;
 use iface_send::hops::has_neighbor;
 use iface_send::transmit::send_frame;
-use iface_receive::turns::socket_egress;
 use iface_tables::neighbor::{Cache, Hints, Neighbor};
 use iface_tables::route::{Route, Routes};
 use iface_tables::route_trie::RouteNode;
-use iface_receive::emit::FrameBuffer;
-use iface_receive::{HardwareAddress, IpAddress, IpCidr, Ipv4Address, Ipv6Address};
 use net_base::phy::{Device, DeviceCapabilities, FRAME_BUFFER_SIZE, Medium};
 use net_base::rand::Rand;
 use net_base::time::{Duration, Instant};
 use socket_set::SocketSet;
-use iface_receive::SocketContext;
 
 /// The settings an interface is created with.
 #[derive(Clone, Copy, Debug, PartialEq, Eq)]

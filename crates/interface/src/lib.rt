@@ -17,9 +17,8 @@ pub use host_machine::{
     AddrError, AddrListError, Answer, Capacities, Command, HardwareError, MulticastError, NewError,
     PollIngressSingleResult, PollResult, TimeoutError,
 };
-pub use iface_context::Context;
 pub use iface_context::packet::icmp_reply_payload_len;
-pub use iface_context::{IpPayload, Packet, PacketV4, PacketV6};
+pub use iface_context::{Context, IpPayload, Packet, PacketV4, PacketV6};
 pub use iface_tables::neighbor;
 pub use iface_tables::neighbor::{Hints, Neighbor};
 pub use iface_tables::route::{Route, RouteTableFull, Routes};

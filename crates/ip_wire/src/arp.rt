@@ -3,10 +3,10 @@ ghost use Rattle.std.specs.Prelude.{◌≡◌, ◌+◌, ◌≤◌, ◌++◌, len
 ghost use Rattle.std.specs.Option.{SomeIff};
 ghost use Rattle.ip_wire.specs.Arp as spec;
 
-use crate::ethernet::address_at;
-use ip_address::{EthernetAddress, Ipv4Address};
 use crate::emit::FrameBuffer;
+use crate::ethernet::address_at;
 use crate::octets::{u16_at, u32_at};
+use ip_address::{EthernetAddress, Ipv4Address};
 
 /// The operation of an ARP packet.
 #[derive(Clone, Copy, Debug, PartialEq, Eq)]

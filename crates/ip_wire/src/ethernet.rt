@@ -5,9 +5,9 @@ ghost use Rattle.std.specs.Cmp.Rules.{comparing};
 ghost use Rattle.std.proofs.Common.{rules};
 ghost use Rattle.ip_wire.specs.Ethernet as spec;
 
-use ip_address::EthernetAddress;
 use crate::emit::FrameBuffer;
 use crate::octets::u16_at;
+use ip_address::EthernetAddress;
 
 /// The length of a frame's header, in octets.
 pub const HEADER_LEN: usize = 14;

@@ -3,10 +3,10 @@ ghost use Rattle.std.specs.Prelude.{◌≡◌, ◌+◌, ◌%◌, ◌≤◌, ◌�
 ghost use Rattle.std.specs.Option.{SomeIff, option_map};
 ghost use Rattle.ip_wire.specs.HopByHop as spec;
 
-use arrayvec::ArrayVec;
-use ip_address::IpProtocol;
 use crate::emit::FrameBuffer;
 use crate::octets::u16_at;
+use arrayvec::ArrayVec;
+use ip_address::IpProtocol;
 
 /// How many options of a header are parsed. Those after them are ignored.
 pub const MAX_OPTIONS: usize = 4;

@@ -2,9 +2,9 @@
 ghost use Rattle.std.specs.Prelude.{◌≡◌};
 ghost use Rattle.ip_wire.specs.IpPacket as spec;
 
+use crate::Ipv6Repr;
 use crate::ipv4_packet::Ipv4Repr;
 use ip_address::{IpAddress, IpProtocol, IpVersion};
-use crate::Ipv6Repr;
 
 /// The values of a packet's header, of either family.
 #[derive(Clone, Copy, Debug, PartialEq, Eq)]

@@ -4,10 +4,10 @@ ghost use Rattle.std.specs.Option.{SomeIff, option_map};
 ghost use Rattle.ip_wire.specs.Checksum.{folded_sum, word_sum};
 ghost use Rattle.ip_wire.specs.Ipv4Packet as spec;
 
-use ip_address::{IpProtocol, Ipv4Address};
 use crate::checksum::{fold, sum_with};
 use crate::emit::FrameBuffer;
 use crate::octets::{u16_at, u32_at};
+use ip_address::{IpProtocol, Ipv4Address};
 
 /// The length of a header without options, in octets.
 pub const HEADER_LEN: usize = 20;

@@ -4,9 +4,9 @@ ghost use Rattle.std.specs.Int.{w64, to_be_bytes};
 ghost use Rattle.std.specs.Option.{SomeIff, option_map};
 ghost use Rattle.ip_wire.specs.Ipv6Packet as spec;
 
-use ip_address::{IpProtocol, Ipv6Address};
 use crate::emit::FrameBuffer;
 use crate::octets::u16_at;
+use ip_address::{IpProtocol, Ipv6Address};
 
 /// The length of a header, in octets.
 pub const HEADER_LEN: usize = 40;

@@ -17,7 +17,10 @@ pub mod udp;
 pub use arp::{ArpOperation, ArpRepr};
 pub use ethernet::{EthernetProtocol, EthernetRepr};
 pub use hop_by_hop::{Ipv6HopByHopRepr, Ipv6OptionFailureType, Ipv6OptionRepr};
-pub use ip_address::{EthernetAddress, HardwareAddress, IpAddress, IpCidr, IpProtocol, IpVersion, Ipv4Address, Ipv4Cidr, Ipv6Address, Ipv6Cidr, cidr, hardware, ip, ipv4, ipv6, protocol};
+pub use ip_address::{
+    EthernetAddress, HardwareAddress, IpAddress, IpCidr, IpProtocol, IpVersion, Ipv4Address,
+    Ipv4Cidr, Ipv6Address, Ipv6Cidr, cidr, hardware, ip, ipv4, ipv6, protocol,
+};
 pub use ip_packet::IpRepr;
 pub use ipv4_packet::{Ipv4Fragment, Ipv4Repr};
 pub use ipv6_packet::Ipv6Repr;

@@ -5,12 +5,12 @@ ghost use Rattle.ip_wire.specs.Checksum.{folded_sum, word_sum};
 ghost use Rattle.ip_wire.specs.Pseudo.{pseudo};
 ghost use Rattle.ip_wire.specs.Tcp as spec;
 
-use ip_address::IpAddress;
-use std::fmt;
 use crate::checksum::{part_sum, sum_with};
 use crate::emit::FrameBuffer;
 use crate::octets::{u16_at, u32_at};
 use crate::pseudo::pseudo_sum;
+use ip_address::IpAddress;
+use std::fmt;
 
 /// The length of a header without options, in octets.
 pub const HEADER_LEN: usize = 20;

@@ -5,11 +5,11 @@ ghost use Rattle.ip_wire.specs.Checksum.{folded_sum, word_sum};
 ghost use Rattle.ip_wire.specs.Pseudo.{pseudo};
 ghost use Rattle.ip_wire.specs.Udp as spec;
 
-use ip_address::IpAddress;
 use crate::checksum::{long_sum_with, sum_with};
 use crate::emit::FrameBuffer;
 use crate::octets::u16_at;
 use crate::pseudo::pseudo_sum;
+use ip_address::IpAddress;
 
 /// The length of a header, in octets.
 pub const HEADER_LEN: usize = 8;

@@ -16,11 +16,11 @@ use net_base::phy::{ChecksumCapabilities, DeviceCapabilities, Medium};
 use net_base::time::{Duration, Instant};
 use std::alloc::Global;
 use std::io::Write;
+use tcp_host::config::Config;
+use tcp_host::host::TcpHost;
 use tcp_host::sip_hash::SipKey;
 use tcp_machine::settings::Settings;
 use tcp_sockets::{SocketPair, TcpSockets, far_socket, near_socket};
-use tcp_host::config::Config;
-use tcp_host::host::TcpHost;
 
 /// Its link: Ethernet, with frames of at most 1514 octets.
 const CAPABILITIES: DeviceCapabilities = DeviceCapabilities {

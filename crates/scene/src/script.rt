@@ -49,6 +49,7 @@ use crate::words::{
 };
 use arrayvec::ArrayVec;
 use host_machine::TimeoutError;
+use iface_tables::Phase;
 use iface_tables::route::{Route, RouteTableFull};
 use interface::{
     AddrError, Answer, Command, HardwareError, MulticastError, NewError, PollIngressSingleResult,
@@ -57,7 +58,6 @@ use interface::{
 use ip_wire::{HardwareAddress, IpAddress};
 use net_base::phy::{ChecksumCapabilities, Device, DeviceCapabilities};
 use net_base::time::{Duration, Instant};
-use iface_tables::Phase;
 use std::alloc::Global;
 
 /// What came of a script.

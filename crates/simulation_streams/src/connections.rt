@@ -10,11 +10,11 @@ use net_base::phy::Checksum;
 use simulation_script::script::{HostLine, Script};
 use socket_set::SocketSet;
 use std::alloc::Global;
+use tcp_host::config::Config;
+use tcp_host::host::TcpHost;
 use tcp_host::sip_hash::SipKey;
 use tcp_machine::settings::Settings;
 use tcp_sockets::{SocketPair, TcpSockets, far_socket, near_socket};
-use tcp_host::config::Config;
-use tcp_host::host::TcpHost;
 
 /// How many octets a connection may hold that aren't acknowledged, or aren't read.
 const ROOM: usize = 262_144;

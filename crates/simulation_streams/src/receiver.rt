@@ -3,10 +3,10 @@ ghost use Rattle.std.specs.Prelude.{◌≡◌, ◌+◌, ◌-◌, ◌^◌, ℕ, m
 ghost use Rattle.simulation_streams.specs.Pattern.{AreFrom, IsFirstWrong};
 
 use crate::pattern;
-use tcp_host::iss::Endpoints;
-use tcp_machine::state::State;
 use tcp_host::calls::Handle;
 use tcp_host::host::TcpHost;
+use tcp_host::iss::Endpoints;
+use tcp_machine::state::State;
 
 /// The most pieces that it reads in a turn.
 const MOST_PIECES: usize = 64;

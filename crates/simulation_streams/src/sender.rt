@@ -2,11 +2,11 @@
 
 use crate::pattern;
 use simulation_script::script::Stream;
+use tcp_host::calls::{ConnectError, Handle};
+use tcp_host::host::TcpHost;
 use tcp_host::iss::Endpoints;
 use tcp_machine::state::State;
 use tcp_machine::timers::Ending;
-use tcp_host::calls::{ConnectError, Handle};
-use tcp_host::host::TcpHost;
 
 /// The port from which the first stream of a script connects; the next one has the next port.
 pub const FIRST_PORT: u16 = 49_152;

@@ -6,14 +6,13 @@ ghost use Rattle.ip_address.specs.Ip.{is_unspecified};
 ghost use Rattle.sockets.specs.Queue.{is_room, first_of};
 ghost use Rattle.sockets.specs.Icmp as spec;
 
-use control_wire::{IcmpRepr, Icmpv4DstUnreachable, Icmpv4Repr};
-use control_wire::{Icmpv6DstUnreachable, Icmpv6Repr};
-use ip_wire::octets::u16_at;
-use ip_wire::{IpAddress, IpProtocol, IpRepr};
 use crate::buffers::Buffers;
 use crate::context::{SocketContext, source_address};
 use crate::poll_at::PollAt;
 use crate::queue::{Full, Queue};
+use control_wire::{IcmpRepr, Icmpv4DstUnreachable, Icmpv4Repr, Icmpv6DstUnreachable, Icmpv6Repr};
+use ip_wire::octets::u16_at;
+use ip_wire::{IpAddress, IpProtocol, IpRepr};
 use std::marker::{Model, PhantomData};
 use thiserror::Error;
 

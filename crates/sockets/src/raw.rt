@@ -5,10 +5,10 @@ ghost use Rattle.ip_wire.specs.IpPacket.{TellsLength};
 ghost use Rattle.sockets.specs.Queue.{is_room, first_of};
 ghost use Rattle.sockets.specs.Raw as spec;
 
-use ip_wire::{IpProtocol, IpRepr, IpVersion, Ipv4Fragment, Ipv4Repr, Ipv6Repr};
 use crate::buffers::Buffers;
 use crate::poll_at::PollAt;
 use crate::queue::{Full, Queue};
+use ip_wire::{IpProtocol, IpRepr, IpVersion, Ipv4Fragment, Ipv4Repr, Ipv6Repr};
 use std::marker::{Model, PhantomData};
 
 /// A packet to send, of either family; its payload stays in the socket.

@@ -3,10 +3,9 @@ ghost use Rattle.std.specs.Prelude.{◌≡◌, Option, IfSome, is_some};
 ghost use Rattle.std.specs.Option.{option_copied, option_copied_mut};
 ghost use Rattle.std.specs.Borrow.{sem, LendsIf};
 
-use crate::{icmp, raw};
 use crate::context::SocketContext;
 use crate::poll_at::PollAt;
-use crate::{tcp, udp};
+use crate::{icmp, raw, tcp, udp};
 
 /// A socket of any kind, with its lifetime as a type parameter.
 #[derive(Drop)]

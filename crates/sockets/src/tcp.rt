@@ -7,14 +7,14 @@ ghost use Rattle.sockets.specs.Queue.{is_room, first_of};
 ghost use Rattle.sockets.specs.SendError.{refusal};
 ghost use Rattle.sockets.specs.Tcp as spec;
 
-use crate::send_error::{SendError, refusal};
-use ip_wire::{IpAddress, TcpControl, TcpRepr, TcpSeqNumber};
-use net_base::time::Instant;
 use crate::buffers::Buffers;
 use crate::context::{SocketContext, source_address};
 use crate::endpoint::{IpEndpoint, IpListenEndpoint};
 use crate::poll_at::PollAt;
 use crate::queue::{Full, Queue};
+use crate::send_error::{SendError, refusal};
+use ip_wire::{IpAddress, TcpControl, TcpRepr, TcpSeqNumber};
+use net_base::time::Instant;
 use std::marker::{Model, PhantomData};
 
 /// A segment without its payload.

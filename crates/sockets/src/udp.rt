@@ -7,13 +7,13 @@ ghost use Rattle.sockets.specs.Queue.{is_room, first_of};
 ghost use Rattle.sockets.specs.SendError.{refusal};
 ghost use Rattle.sockets.specs.Udp as spec;
 
-use crate::send_error::{SendError, refusal};
-use ip_wire::IpAddress;
 use crate::buffers::Buffers;
 use crate::context::{SocketContext, source_address};
 use crate::endpoint::{IpEndpoint, IpListenEndpoint};
 use crate::poll_at::PollAt;
 use crate::queue::{Full, Queue};
+use crate::send_error::{SendError, refusal};
+use ip_wire::IpAddress;
 use std::marker::{Model, PhantomData};
 
 /// A datagram to send; its payload stays in the socket.

@@ -3,9 +3,9 @@
 use line_host::connections::Connections;
 use line_host::limits::Limits;
 use std::alloc::{AllocError, Global};
-use tcp_machine::state::State;
 use tcp_host::calls::{Handle, WrongHandle};
 use tcp_host::host::TcpHost;
+use tcp_machine::state::State;
 
 /// The port of the service (RFC 862).
 const PORT: u16 = 7;

@@ -8,10 +8,10 @@ ghost use Rattle.tcp_host.specs.Table.{IsNowhere};
 ghost use Rattle.tcp_host.specs.declared.iss.Endpoints.{Endpoints};
 
 use crate::host::{TcpHost, default_mss};
+use crate::iss::{Endpoints, iss};
 use crate::resets::{Reset, begins, reset_for};
 use crate::slot::Owner;
 use tcp_connection::segment::Segment;
-use crate::iss::{Endpoints, iss};
 
 impl TcpHost {
     /// A segment between these ends arrives, the remote one being where it came from (RFC 9293 3.10.7). It goes to the

@@ -11,11 +11,11 @@ ghost use Rattle.tcp_host.specs.TcpStreams.Handles as spec;
 
 use crate::arrivals::is_proper;
 use crate::host::TcpHost;
+use crate::iss::{Endpoints, iss};
+use crate::listener::Listener;
 use crate::slot::Owner;
 use ip_address::IpAddress;
 use std::alloc::{AllocError, Global};
-use crate::iss::{Endpoints, iss};
-use crate::listener::Listener;
 use tcp_machine::state::State;
 use tcp_machine::timers::Ending;
 

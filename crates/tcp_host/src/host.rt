@@ -4,18 +4,18 @@ ghost use Rattle.tcp_host.specs.TcpStreams.Host as spec;
 ghost use Rattle.tcp_host.specs.Table.{IsNowhere, IsPlaceOf};
 ghost use Rattle.tcp_host.specs.declared.iss.Endpoints.{Endpoints};
 
+use crate::alarms::{Alarms, NEVER};
 use crate::config::Config;
+use crate::iss::Endpoints;
+use crate::listener::Listener;
 use crate::slot::{CHALLENGES, HOP_LIMIT, Owner, Slot};
+use crate::table::Table;
 use ip_address::IpAddress;
+use net_base::bucket::Bucket;
 use std::alloc::{AllocError, Global};
 use std::marker::Model;
 use tcp_connection::connection::Connection;
-use crate::alarms::{Alarms, NEVER};
-use crate::iss::Endpoints;
-use crate::listener::Listener;
-use crate::table::Table;
 use tcp_machine::settings::Settings;
-use net_base::bucket::Bucket;
 
 /// How many resets may be sent at once, and the interval in which one more may be, in microseconds (RFC 5961 7).
 const RESETS: Bucket = Bucket {

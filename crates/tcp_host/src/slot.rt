@@ -9,10 +9,10 @@ ghost use Rattle.tcp_host.specs.TcpStreams.Challenges as spec;
 ghost use Rattle.tcp_host.specs.TcpStreams.Challenges.{all_challenges};
 ghost use Rattle.tcp_host.specs.TcpStreams.Host.{default_hop_limit};
 
+use net_base::bucket::{Bucket, few_are_taken};
 use tcp_connection::connection::Connection;
 use tcp_connection::segment::Segment;
 use tcp_machine::settings::Settings;
-use net_base::bucket::{Bucket, few_are_taken};
 
 /// How many challenges a connection may send at once, and the interval in which one more may be, in microseconds: at most ten
 /// in any second (RFC 5961 7).

@@ -7,13 +7,13 @@ ghost use Rattle.tcp_host.specs.Table.{ends_at};
 ghost use Rattle.tcp_host.specs.TcpStreams.Host.{slot_at, connection_at};
 ghost use Rattle.tcp_host.specs.TcpStreams.Turns as spec;
 
+use crate::alarms::NEVER;
 use crate::host::TcpHost;
+use crate::iss::Endpoints;
 use crate::slot::Owner;
 use tcp_connection::connection::Connection;
 use tcp_connection::outgoing::{Action, Header};
 use tcp_connection::states::{is_closed, is_synchronized};
-use crate::alarms::NEVER;
-use crate::iss::Endpoints;
 use tcp_machine::sack::SackBlock;
 
 /// For how long who sent something counts as heard: a minute, in microseconds.

@@ -4,8 +4,8 @@ ghost use Rattle.ip_address.specs.declared.protocol.IpProtocol.TheVariants as pr
 
 use crate::destinations::FAR_PACKETS;
 use ip_wire::{IpProtocol, IpVersion};
-use sockets::raw;
 use sockets::queue::{NoMemory, Queue};
+use sockets::raw;
 use std::alloc::Global;
 
 /// A raw socket of TCP with room for so many packets and octets each way. It fails exactly if the memory is refused.

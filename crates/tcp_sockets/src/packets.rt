@@ -11,9 +11,9 @@ use ip_wire::{
 };
 use tcp_connection::outgoing::Header;
 use tcp_host::iss::Endpoints;
-use tcp_machine::sack::SackBlock;
 use tcp_host::resets::Reset;
 use tcp_host::turns::Outgoing;
+use tcp_machine::sack::SackBlock;
 use tcp_wire::{SackRange, TcpOptions, TcpRepr};
 
 /// The hop limit of a reset of no connection (RFC 9293 3.9.2).

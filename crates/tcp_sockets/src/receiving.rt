@@ -8,8 +8,8 @@ ghost use Rattle.tcp_sockets.specs.Receiving as spec;
 use crate::arrivals::{Arrival, arrival_in};
 use ip_wire::{IpCidr, IpVersion};
 use sockets::raw;
-use tcp_host::iss::Endpoints;
 use tcp_host::host::TcpHost;
+use tcp_host::iss::Endpoints;
 use tcp_host::resets::Reset;
 
 /// A reset that answers a segment, between the ends of that.

@@ -8,8 +8,8 @@ use crate::destinations::Destinations;
 use crate::packets::{MOST_OCTETS, write_headers};
 use ip_wire::emit::FrameBuffer;
 use ip_wire::{IpAddress, IpCidr, IpVersion};
-use sockets::raw;
 use sockets::queue::Full;
+use sockets::raw;
 use tcp_host::iss::Endpoints;
 use tcp_host::turns::Outgoing;
 

@@ -9,6 +9,10 @@ ghost use Rattle.tcp_sockets.specs.Packets.{value_of};
 ghost use Rattle.tcp_sockets.specs.Polls as spec;
 ghost use Rattle.net_base.specs.Checksum.{is_tx};
 
+use crate::destinations::Destinations;
+use crate::packets::reset_between;
+use crate::receiving::{Answer, receive};
+use crate::sending::{send, send_far, version_between};
 use arrayvec::ArrayVec;
 use ip_wire::emit::FrameBuffer;
 use ip_wire::{IpAddress, IpCidr, IpVersion};
@@ -18,10 +22,6 @@ use sockets::raw;
 use std::marker::Model;
 use tcp_connection::instants::later;
 use tcp_connection::outgoing::Action;
-use crate::destinations::Destinations;
-use crate::packets::reset_between;
-use crate::receiving::{Answer, receive};
-use crate::sending::{send, send_far, version_between};
 use tcp_host::host::TcpHost;
 use tcp_host::turns::{Outgoing, Turn};
 

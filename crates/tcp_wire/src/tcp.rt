@@ -7,11 +7,11 @@ ghost use Rattle.tcp_wire.specs.Tcp as spec;
 
 use crate::options::TcpOptions;
 use ip_address::IpAddress;
-pub use ip_wire::tcp::HEADER_LEN;
-use ip_wire::{TcpControl, TcpSeqNumber, tcp};
 use ip_wire::checksum::{part_sum, sum_with};
 use ip_wire::emit::FrameBuffer;
 use ip_wire::pseudo::pseudo_sum;
+pub use ip_wire::tcp::HEADER_LEN;
+use ip_wire::{TcpControl, TcpSeqNumber, tcp};
 
 /// The values of a segment's header with its options.
 #[derive(Clone, Copy, Debug, PartialEq, Eq)]

@@ -2,9 +2,9 @@ use bitflags::Flags;
 use control_wire::icmpv6::{Icmpv6DstUnreachable, Icmpv6ParamProblem, Icmpv6Repr};
 use control_wire::ndisc::{NdiscNeighborFlags, NdiscRepr};
 use ip_address::{EthernetAddress, IpAddress, IpProtocol, Ipv6Address};
+use ip_wire::emit::FrameBuffer;
 use ip_wire::ipv6_packet::Ipv6Repr;
 use std::test::Fail;
-use ip_wire::emit::FrameBuffer;
 
 /// fe80::1, of 02:00:00:00:00:01.
 const FIRST: Ipv6Address = Ipv6Address {

@@ -1,8 +1,8 @@
 use arrayvec::ArrayVec;
 use ip_address::IpProtocol;
+use ip_wire::emit::FrameBuffer;
 use ip_wire::{Ipv6HopByHopRepr, Ipv6OptionFailureType, Ipv6OptionRepr};
 use std::test::Fail;
-use ip_wire::emit::FrameBuffer;
 
 /// What a header is to be read as: its options, and how many octets stand behind it.
 type Expected = Option<(&'static [Ipv6OptionRepr], usize)>;

@@ -1,7 +1,7 @@
 use ip_address::{IpProtocol, Ipv6Address};
 use ip_wire::Ipv6Repr;
-use std::test::Fail;
 use ip_wire::emit::FrameBuffer;
+use std::test::Fail;
 
 const OWN: Ipv6Address = Ipv6Address {
     bits: 0xfe80_0000_0000_0000_0000_0000_0000_0001,

@@ -1,6 +1,6 @@
 use ip_address::{IpAddress, Ipv4Address, Ipv6Address};
-use tcp_wire::{SackRange, TcpControl, TcpOptions, TcpRepr, TcpSeqNumber, TcpTimestamp};
 use ip_wire::emit::FrameBuffer;
+use tcp_wire::{SackRange, TcpControl, TcpOptions, TcpRepr, TcpSeqNumber, TcpTimestamp};
 
 /// The addresses of the host that sent the segments below, 192.168.69.100 and fd00::64.
 const LINUX: IpAddress = IpAddress::Ipv4(Ipv4Address { bits: 0xc0a8_4564 });

@@ -1,7 +1,7 @@
-use crate::dhcp_sockets_tests::octets::{DISCOVER, DISCOVER_OPTIONS, OFFER, OFFER_OPTIONS, message};
-use dhcp_client::DhcpClient;
-use dhcp_client::{DhcpRoom, receive, send_by_raw, send_by_udp};
-use dhcp_client::DhcpMessageType;
+use crate::dhcp_sockets_tests::octets::{
+    DISCOVER, DISCOVER_OPTIONS, OFFER, OFFER_OPTIONS, message,
+};
+use dhcp_client::{DhcpClient, DhcpMessageType, DhcpRoom, receive, send_by_raw, send_by_udp};
 use ip_wire::{EthernetAddress, IpAddress, IpProtocol, IpVersion, Ipv4Address};
 use sockets::{IpEndpoint, Queue, raw, udp};
 

@@ -1,6 +1,7 @@
-use crate::dns_client_tests::octets::{A_ANSWER, AAAA_ANSWER, ALIAS_ANSWER, CASE_ANSWER, NO_NAME, TWO_ANSWER};
-use dns_client::{DnsFailure, DnsQuery, DnsResult};
-use dns_client::DnsType;
+use crate::dns_client_tests::octets::{
+    A_ANSWER, AAAA_ANSWER, ALIAS_ANSWER, CASE_ANSWER, NO_NAME, TWO_ANSWER,
+};
+use dns_client::{DnsFailure, DnsQuery, DnsResult, DnsType};
 use ip_address::{IpAddress, Ipv4Address, Ipv6Address};
 
 const SERVERS: [IpAddress; 2] = [

@@ -1,5 +1,4 @@
-use dns_client::{DnsFailure, DnsQuery, DnsResult};
-use dns_client::DnsType;
+use dns_client::{DnsFailure, DnsQuery, DnsResult, DnsType};
 
 const SECOND: u64 = 1_000_000;
 

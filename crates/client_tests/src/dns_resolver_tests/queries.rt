@@ -1,10 +1,9 @@
 use crate::dns_resolver_tests::octets::{A_ANSWER, NO_NAME};
-use dns_client::{DnsFailure, DnsResult};
 use dns_client::dns_resolver::{NoSuchQuery, QueryHandle, Resolver, StartQueryError};
-use dns_client::DnsType;
+use dns_client::{DnsFailure, DnsResult, DnsType};
 use ip_address::{IpAddress, Ipv4Address};
-use tcp_host::sip_hash::SipKey;
 use ip_wire::emit::FrameBuffer;
+use tcp_host::sip_hash::SipKey;
 
 const SERVERS: [IpAddress; 1] = [IpAddress::Ipv4(Ipv4Address { bits: 0x7f00_0001 })];
 

@@ -5,15 +5,14 @@ ghost use Rattle.std.specs.Result.{result_err};
 ghost use Rattle.dns_client.specs.DnsResolver.Resolver as spec;
 
 use crate::dns_resolver::places::{earliest, free_place, query_at, set_place};
-use arrayvec::ArrayVec;
-use crate::{DnsQuery, DnsResult};
-use crate::DnsType;
 use crate::message::{emit_query, is_whole_name};
+use crate::{DnsQuery, DnsResult, DnsType};
+use arrayvec::ArrayVec;
 use ip_address::IpAddress;
+use ip_wire::emit::FrameBuffer;
 use std::alloc::{AllocError, Global};
 use std::marker::Model;
 use tcp_host::sip_hash::{SipKey, sip_hash};
-use ip_wire::emit::FrameBuffer;
 
 /// The most octets of a name (RFC 1035 2.3.4).
 pub const NAME_LEN: usize = 255;

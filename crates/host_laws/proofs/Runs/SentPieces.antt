@@ -75,7 +75,6 @@ use Rattle.host_laws.proofs.Interface.OwnMessages.{is_own}
 use Rattle.host_laws.proofs.Receive.PacketEffects.{IsByIp, whole_plain, ipv6_plain}
 use Rattle.host_machine.proofs.Send.Reached.{Reached, ByNeighbor, ByGroup, WithoutAddresses}
 use Rattle.host_laws.proofs.Runs.Walk.{sent_frames-append, dispatched, taken, egressed}
-
 use Rattle.host_machine.proofs.Send.Reached.{reached_of}
 
 shows_on : {m : Medium} {fs gs : List (List ℕ)} {xs ys : List CutNote} → Shows m fs xs → Shows m gs ys → Shows m (fs ++ gs) (xs ++ ys)

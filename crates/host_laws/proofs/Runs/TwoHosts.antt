@@ -42,7 +42,6 @@ use Rattle.host_laws.proofs.Receive.SlotEffects.{handed_frames-append}
 use Rattle.host_laws.proofs.Runs.FragmentArrivals.{run_arrivals, receiving_hardware, all_arrivals-append, all_push}
 use Rattle.host_laws.proofs.Receive.FrameReading.{IsWritten, protocol_again, piece_reads, piece_brings}
 use Rattle.host_laws.proofs.Runs.SentPieces.{run_shows, stepped}
-
 use Rattle.host_machine.proofs.Receive.Parts.{size_positive, is_part}
 
 two_ways : (b : Bool) → b ≡ true → b ≡ false → ⊥

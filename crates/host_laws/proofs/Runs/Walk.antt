@@ -82,7 +82,6 @@ use Rattle.host_machine.specs.Send.Fragments as fragments_rules
 use Rattle.host_machine.specs.Interface.Step.{Act, Step, Accepted, Refused, Taken, NotTaken, WithinDay, OverDay}
 use Rattle.host_machine.specs.Interface.Step as step
 use Rattle.host_machine.specs.Interface.Run.{Transition, Run, Ends, Then, notes_in, events_in}
-
 use Rattle.host_machine.proofs.Send.Reached.{Reached, ByNeighbor, ByGroup, WithoutAddresses}
 
 -- a solicited-node group is one of many

@@ -17,7 +17,6 @@ use Rattle.host_machine.specs.declared.results.PollResult.TheVariants as result
 use Rattle.host_machine.specs.Context.Host.{Socket}
 use Rattle.host_machine.specs.Sockets.Polling.{instant_of}
 use Rattle.host_machine.specs.Interface.Run.{Transition}
-
 use Rattle.host_machine.specs.Sockets.Quiet.{IsBefore}
 
 -- no route expires from t0 to before s
