@@ -76,6 +76,14 @@ impl Assembler {
         }
     }
 
+    /// The ranges, in order.
+    pub fn ranges(&self) -> &[Range]
+        ensures value { result.now ≡ self.now }
+        ensures few { length result.now ≤ 4 }
+    {
+        self.ranges.as_slice()
+    }
+
     /// The number of offsets covered from 0 on, up to the first that isn't.
     pub fn peek_front(&self) -> usize
         ensures { result ≡ front self.now }

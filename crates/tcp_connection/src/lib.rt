@@ -3,7 +3,6 @@
 
 pub mod acknowledgements;
 pub mod arrivals;
-pub mod arrived_parts;
 pub mod calls;
 pub mod connection;
 pub mod due;

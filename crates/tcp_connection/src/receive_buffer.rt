@@ -3,11 +3,10 @@ ghost use Rattle.std.specs.Prelude.{◌≡◌, ◌≤◌, ◌<◌, ◌+◌, ◌-
 ghost use Rattle.tcp_machine.specs.Receiving.{filled, stop_from, in_order, next, edge, expected, open_receiver, with_piece, after_read, is_acceptable};
 ghost use Rattle.tcp_machine.specs.Arrivals.{has_gap, has_ended};
 ghost use Rattle.tcp_machine.specs.Sack as sack;
-ghost use Rattle.tcp_connection.specs.Arrived.{with_octets};
+ghost use Rattle.tcp_connection.specs.Arrived.{syn, with_octets};
 ghost use Rattle.tcp_connection.specs.Blocks as blocks;
 
-use crate::arrived_parts::ArrivedParts;
-use net_base::assembler::{Range, refused_touches_none};
+use net_base::assembler::{Assembler, Range, refused_touches_none};
 use std::alloc::{AllocError, Global};
 use std::marker::Model;
 use tcp_machine::ring::rings_stand;
@@ -30,7 +29,7 @@ pub struct ReceiveBuffer {
     start: usize,
     room: usize,
     // The positions that have arrived, SYN and those that were read among them.
-    arrived: ArrivedParts,
+    arrived: Assembler,
     // The position after the last one of them.
     furthest: u64,
     stop: Option<u64>,
@@ -61,7 +60,7 @@ impl ReceiveBuffer {
             items: vec![in alloc; 0; 2 * room]?,
             start: 0,
             room,
-            arrived: ArrivedParts::syn(),
+            arrived: only_syn(),
             furthest: 1,
             stop: None,
         })
@@ -74,7 +73,7 @@ impl ReceiveBuffer {
     {
         self.base = 1;
         self.start = 0;
-        self.arrived = ArrivedParts::syn();
+        self.arrived = only_syn();
         self.furthest = 1;
         self.stop = None;
     }
@@ -94,7 +93,7 @@ impl ReceiveBuffer {
         ensures within { result ≤ edge self.now }
     {
         rings_stand();
-        self.arrived.front() as u64
+        self.arrived.peek_front() as u64
     }
 
     /// The octets in order that aren't read.
@@ -103,7 +102,7 @@ impl ReceiveBuffer {
         ensures { result.now ≡ in_order self.now.cells }
     {
         rings_stand();
-        let len = (self.arrived.front() as u64 - self.base) as usize;
+        let len = (self.arrived.peek_front() as u64 - self.base) as usize;
         &self.items[self.start..self.start + len]
     }
 
@@ -154,7 +153,7 @@ impl ReceiveBuffer {
         ensures { result ≡ has_gap self.now }
     {
         rings_stand();
-        (self.arrived.front() as u64) < self.furthest
+        (self.arrived.peek_front() as u64) < self.furthest
     }
 
     /// The parts beyond a gap, as a selective acknowledgement tells them (RFC 2018 4): first the one that contains a position, if
@@ -254,6 +253,15 @@ impl ReceiveBuffer {
             self.start = 0;
         }
     }
+}
+
+// The positions that have arrived with SYN: its own, alone.
+fn only_syn() -> Assembler
+    ensures { result ≡ syn }
+{
+    let mut arrived = Assembler::new();
+    let _ = arrived.add(0, 1);
+    arrived
 }
 
 // The part at an index, if it begins beyond a position.
