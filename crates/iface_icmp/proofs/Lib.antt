@@ -1,4 +1,1 @@
 mod IcmpRules
-mod Messages
-pub mod OtherPorts
-pub mod SocketIteration

@@ -12,7 +12,7 @@ use sockets::icmp;
 /// Delivers a whole message, with its sender, to each ICMP socket that accepts it. `contents` is the message's data,
 /// and `octets` the whole message.
 #[inline(always)]
-pub(crate) fn deliver(
+pub fn deliver(
     sockets: &mut SocketSet<'_>,
     remote: IpAddress,
     message: &IcmpRepr,

@@ -2,7 +2,7 @@
 //! ICMP sockets receive.
 #![tactic(auto)]
 
-mod delivery;
+pub mod delivery;
 pub mod hop_by_hop;
 pub mod icmpv4;
 pub mod icmpv6;

@@ -1,3 +1,6 @@
 mod FragmentHandling
+mod Icmpv6Rules
+mod Messages
 mod PacketRules
 mod PacketRulesV6
+mod UdpRules

@@ -1,2 +1,3 @@
 pub mod Ipv4
 pub mod Ipv6
+pub mod Messages

@@ -19,6 +19,7 @@ ghost use Rattle.iface_context.specs.Stands.{host_in, host_of};
 ghost use Rattle.iface_receive.specs.Ipv4.{RestsDatagram, end_of_slots};
 ghost use Rattle.iface_context.specs.Refines.{HostRefinesReplying, RefinesBuilding, RefinesReplying, StandsFor};
 
+use crate::udp::process_udp;
 use control_wire::icmpv4::Icmpv4DstUnreachable;
 use fragmentation::{FragKey, PacketAssemblerSet, reassemble};
 use iface_context::Context;
@@ -27,7 +28,6 @@ use iface_icmp::icmpv4::{icmpv4_unreachable, process_icmpv4};
 use iface_multicast::igmp::process_igmp;
 use iface_sockets::raw;
 use iface_sockets::tcp::process_tcp;
-use iface_sockets::udp::process_udp;
 use ip_wire::emit::FrameBuffer;
 use ip_wire::{HardwareAddress, IpProtocol, IpRepr, Ipv4Address, Ipv4Fragment, Ipv4Repr};
 use socket_set::SocketSet;

@@ -12,14 +12,15 @@ ghost use Rattle.host_machine.specs.Receive.Response.{Responds};
 ghost use Rattle.iface_context.specs.Refines.{RefinesBuilding, RefinesReplying};
 ghost use Rattle.iface_context.specs.Stands.{host_of};
 
+use crate::icmpv6::process_icmpv6;
+use crate::udp::process_udp;
 use control_wire::Icmpv6ParamProblem;
 use iface_context::Context;
 use iface_discovery::renewal::renew_sender;
 use iface_icmp::hop_by_hop::answer_unknown_option;
-use iface_icmp::icmpv6::{parameter_problem, process_icmpv6};
+use iface_icmp::icmpv6::parameter_problem;
 use iface_sockets::raw;
 use iface_sockets::tcp::process_tcp;
-use iface_sockets::udp::process_udp;
 use ip_wire::emit::FrameBuffer;
 use ip_wire::{
     HardwareAddress, IpProtocol, IpRepr, Ipv6HopByHopRepr, Ipv6OptionFailureType, Ipv6Repr,

@@ -5,8 +5,10 @@
 #![tactic(auto)]
 
 pub mod ethernet;
+pub mod icmpv6;
 pub mod ipv4;
 pub mod ipv6;
+pub mod udp;
 
 pub use iface_discovery::{polling as discovery_polling, router_solicitation};
 pub use iface_multicast::{igmp, joins, mld, polling as group_polling};

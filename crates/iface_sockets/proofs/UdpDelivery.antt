@@ -9,7 +9,7 @@ use Rattle.sockets.specs.declared.socket.SocketOf.TheVariants.{Raw, Icmp, Udp, T
 use Rattle.socket_set.specs.Datagrams.{is_udp}
 use Rattle.host_machine.specs.Context.Host.{Storage}
 use Rattle.host_machine.specs.Sockets.Udp.{accepts}
-use Rattle.iface_icmp.proofs.SocketIteration.{at_place}
+use Rattle.host_machine.proofs.Sockets.SocketIteration.{at_place}
 
 -- what accepts a datagram is a UDP socket
 pub accepting : (own : List IpCidr) (r : IpRepr) (ports : UdpRepr) (place : Storage) → accepts own r ports place ≡ true → is_udp place ≡ true

@@ -1,14 +1,11 @@
 //! UDP: how a datagram is delivered to a socket, and what UDP sockets send (RFC 768).
-ghost use Rattle.std.specs.Prelude.{◌≡◌, ◌<◌, ◌≤◌, ℕ, [], Some, true, false, length, slice_get, slice_set};
-ghost use Rattle.ip_wire.specs.IpPacket.{TellsLength};
+ghost use Rattle.std.specs.Prelude.{◌≡◌, ◌<◌, ◌≤◌, ℕ, Some, true, false, length, slice_get, slice_set};
 ghost use Rattle.socket_set.specs.SocketSet.{socket_at, with_places};
 ghost use Rattle.host_machine.specs.Sockets.Delivery.{DeliversFirst, NoneAccepts};
-ghost use Rattle.host_machine.specs.Sockets.Udp.{ProcessesUdp, accepts, storage_after_delivery};
+ghost use Rattle.host_machine.specs.Sockets.Udp.{accepts, storage_after_delivery};
 ghost use Rattle.host_machine.specs.Context.Host.{Storage, no_sockets, Socket};
-ghost use Rattle.host_machine.specs.Receive.Response.{Responds};
-ghost use Rattle.host_machine.specs.Icmp.Unreachable.{port_unreachable};
 ghost use Rattle.iface_context.specs.Stands.{host_of};
-ghost use Rattle.iface_context.specs.Refines.{RefinesBuilding, RefinesReplying, RefinesTelling};
+ghost use Rattle.iface_context.specs.Refines.{RefinesTelling};
 ghost use Rattle.sockets.specs.Kinds as kinds;
 ghost use Rattle.sockets.specs.Udp as udp;
 ghost use Rattle.host_machine.specs.Sockets.Offers as egress;
@@ -19,65 +16,16 @@ use crate::offers::{outcome, send};
 use host_machine::Turn;
 use iface_context::payload::Datagram;
 use iface_context::{Context, Packet, PacketV4, PacketV6};
-use iface_icmp::unreachable::send_port_unreachable;
 use ip_wire::emit::FrameBuffer;
 use ip_wire::{IpAddress, IpRepr, UdpRepr};
 use net_base::phy::Device;
 use socket_set::{SocketSet, by_index};
-use sockets::{IpEndpoint, SocketContext, udp};
-
-/// Processes the payload of a packet with this header as a UDP datagram (RFC 768). The first socket that accepts it
-/// gets its payload, with its sender, or drops it for lack of room; no other socket changes. If no socket accepts it,
-/// an error is sent in reply, unless a raw socket accepted the packet. A malformed datagram is dropped. The error is
-/// built in an empty buffer.
-#[inline(always)]
-pub fn process_udp(
-    context: &mut Context,
-    sockets: &mut SocketSet<'_>,
-    header: &IpRepr,
-    octets: &[u8],
-    handled_by_raw_socket: bool,
-    out: &mut FrameBuffer,
-)
-    requires empty { out.old ≡ [] }
-    requires quotable { TellsLength header.now }
-    ensures { RefinesReplying out.new (λ H. ProcessesUdp handled_by_raw_socket header.now H octets.now)
-        (host_of context.old sockets.old) (host_of context.new sockets.new) }
-{
-    let checked = context.capabilities().checksum.udp.rx();
-    let source = header.src_addr();
-    let destination = header.dst_addr();
-    let Some((ports, payload)) = UdpRepr::parse(octets, &source, &destination, checked) else {
-        return;
-    };
-    if !deliver(context, sockets, header, &ports, payload) {
-        refuse_by_copy(context, header, octets, handled_by_raw_socket, out);
-    }
-}
-
-/// Builds the error in reply to a datagram that no socket accepts, with a copy of the packet's header, so that none is
-/// stored for a datagram that is delivered.
-#[inline(always)]
-fn refuse_by_copy(
-    context: &mut Context,
-    header: &IpRepr,
-    octets: &[u8],
-    handled_by_raw_socket: bool,
-    out: &mut FrameBuffer,
-)
-    requires empty { out.old ≡ [] }
-    requires quotable { TellsLength header.now }
-    ensures { RefinesBuilding out.new (Responds (port_unreachable handled_by_raw_socket
-        (host_of context.old no_sockets).ip_addrs header.now octets.now)) context.old context.new }
-{
-    let refused = *header;
-    send_port_unreachable(context, &refused, octets, handled_by_raw_socket, out);
-}
+use sockets::{IpEndpoint, udp};
 
 /// Delivers a datagram to the first socket that accepts it. Returns whether there was one. If it is the only socket, or
 /// the first, no loop is needed.
 #[inline(always)]
-fn deliver(
+pub fn deliver(
     context: &Context,
     sockets: &mut SocketSet<'_>,
     header: &IpRepr,

@@ -1,7 +1,7 @@
 use Rattle.socket_set.specs.SocketSet.{socket_at}
 use Rattle.host_machine.specs.Icmp.Delivery.{accepts}
-use Rattle.iface_icmp.proofs.SocketIteration.{set_kept}
-use Rattle.iface_icmp.proofs.OtherPorts.{none_accepts_at_all, not_icmp}
+use Rattle.host_machine.proofs.Sockets.SocketIteration.{set_kept}
+use Rattle.host_machine.proofs.Sockets.OtherPorts.{none_accepts_at_all, not_icmp}
 use Rattle.iface_icmp.proofs.delivery.deliver.Goals as goal
 
 pub returns-then-not-may_have_portless : goal.returns-then-not-may_have_portless

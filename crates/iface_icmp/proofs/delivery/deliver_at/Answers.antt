@@ -1,7 +1,7 @@
 use Rattle.sockets.specs.Kinds.{down_icmp}
 use Rattle.sockets.specs.Icmp as socket
 use Rattle.host_machine.specs.Icmp.Delivery.{storage_after_delivery}
-use Rattle.iface_icmp.proofs.SocketIteration.{not_accepted}
+use Rattle.host_machine.proofs.Sockets.SocketIteration.{not_accepted}
 use Rattle.iface_icmp.proofs.delivery.deliver_at.Goals as goal
 
 pub returns-in_default-clause-heard : goal.returns-in_default-clause-heard

@@ -1,5 +1,5 @@
 use Rattle.std.proofs.Common.{sym, ◌∙◌}
-use Rattle.iface_icmp.proofs.SocketIteration.{set_kept}
+use Rattle.host_machine.proofs.Sockets.SocketIteration.{set_kept}
 use Rattle.iface_icmp.proofs.delivery.deliver_to_accepting.Goals as goal
 
 pub returns-else-is_accepted : goal.returns-else-is_accepted

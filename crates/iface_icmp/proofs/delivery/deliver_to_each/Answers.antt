@@ -1,8 +1,8 @@
 use Rattle.std.proofs.Common.{◌≡◌, ◌<◌, ◌+◌, None, ap, arith, length, refl, ◌∙◌}
 use Rattle.socket_set.specs.SocketSet.{with_places}
 use Rattle.host_machine.specs.Icmp.Delivery.{accepts, storage_after_delivery}
-use Rattle.iface_icmp.proofs.SocketIteration.{one_heard, all_mapped}
-use Rattle.iface_icmp.proofs.OtherPorts.{not_icmp, walk_passed}
+use Rattle.host_machine.proofs.Sockets.SocketIteration.{one_heard, all_mapped}
+use Rattle.host_machine.proofs.Sockets.OtherPorts.{not_icmp, walk_passed}
 use Rattle.iface_icmp.proofs.delivery.deliver_to_each.Goals as goal
 
 pub loop-index-init : goal.loop-index-init

@@ -2,7 +2,7 @@ use Rattle.std.proofs.Common.{◌≡◌, ◌≤◌, ◌-◌, length}
 use Rattle.socket_set.specs.SocketSet.{with_places}
 use Rattle.host_machine.specs.Sockets.Delivery.{to_this}
 use Rattle.host_machine.specs.Icmp.Delivery.{accepts, storage_after_delivery}
-use Rattle.iface_icmp.proofs.SocketIteration.{mapped}
+use Rattle.host_machine.proofs.Sockets.SocketIteration.{mapped}
 use Rattle.iface_icmp.proofs.delivery.deliver_to_each.Given as goal
 
 -- the sockets below the index got the message, if they take it, and the others are as they were

@@ -1,6 +1,6 @@
 use Rattle.std.proofs.Common.{◌≤◌, ◌-◌, length}
 use Rattle.host_machine.specs.Icmp.Delivery.{accepts}
-use Rattle.iface_icmp.proofs.OtherPorts.{NoneBefore}
+use Rattle.host_machine.proofs.Sockets.OtherPorts.{NoneBefore}
 use Rattle.iface_icmp.proofs.delivery.is_accepted.Given as goal
 
 -- no socket below the index takes it

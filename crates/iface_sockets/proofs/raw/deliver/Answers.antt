@@ -2,8 +2,8 @@ use Rattle.std.proofs.Common.{sym}
 use Rattle.socket_set.specs.SocketSet.{socket_at}
 use Rattle.host_machine.specs.Sockets.Raw.{takes}
 use Rattle.iface_context.specs.Stands.{host_of}
-use Rattle.iface_icmp.proofs.SocketIteration.{none_delivered}
-use Rattle.iface_icmp.proofs.OtherPorts.{none_accepts_at_all, not_raw}
+use Rattle.host_machine.proofs.Sockets.SocketIteration.{none_delivered}
+use Rattle.host_machine.proofs.Sockets.OtherPorts.{none_accepts_at_all, not_raw}
 use Rattle.iface_sockets.proofs.raw.deliver.Goals as goal
 
 pub returns-then-not-may_have_portless-clause-taken : goal.returns-then-not-may_have_portless-clause-taken

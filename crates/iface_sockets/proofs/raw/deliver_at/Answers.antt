@@ -2,7 +2,7 @@ use Rattle.ip_wire.specs.IpPacket.{next_header, version_of}
 use Rattle.sockets.specs.Kinds.{down_raw}
 use Rattle.sockets.specs.Raw as raw
 use Rattle.host_machine.specs.Sockets.Raw.{storage_after_delivery}
-use Rattle.iface_icmp.proofs.SocketIteration.{not_accepted}
+use Rattle.host_machine.proofs.Sockets.SocketIteration.{not_accepted}
 use Rattle.iface_sockets.proofs.raw.deliver_at.Goals as goal
 
 pub returns-in_default-clause-heard : goal.returns-in_default-clause-heard

@@ -1,6 +1,6 @@
 use Rattle.std.proofs.Common.{◌∙◌, sym}
 use Rattle.iface_context.specs.Stands.{host_of}
-use Rattle.iface_icmp.proofs.SocketIteration.{none_delivered}
+use Rattle.host_machine.proofs.Sockets.SocketIteration.{none_delivered}
 use Rattle.iface_sockets.proofs.raw.deliver_to_accepting.Goals as goal
 
 pub returns-then-not-is_accepted-clause-heard : goal.returns-then-not-is_accepted-clause-heard

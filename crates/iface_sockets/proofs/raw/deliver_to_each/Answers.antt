@@ -4,8 +4,8 @@ use Rattle.socket_set.specs.SocketSet.{with_places}
 use Rattle.host_machine.specs.Sockets.Delivery.{to_this}
 use Rattle.host_machine.specs.Sockets.Raw.{storage_after_delivery, takes}
 use Rattle.iface_context.specs.Stands.{host_of}
-use Rattle.iface_icmp.proofs.SocketIteration.{one_heard, one_tested, all_mapped, all_tested}
-use Rattle.iface_icmp.proofs.OtherPorts.{not_raw, test_passed, walk_passed}
+use Rattle.host_machine.proofs.Sockets.SocketIteration.{one_heard, one_tested, all_mapped, all_tested}
+use Rattle.host_machine.proofs.Sockets.OtherPorts.{not_raw, test_passed, walk_passed}
 use Rattle.iface_sockets.proofs.raw.deliver_to_each.Goals as goal
 
 pub loop-index-init : goal.loop-index-init

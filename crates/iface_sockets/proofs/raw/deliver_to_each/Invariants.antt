@@ -2,7 +2,7 @@ use Rattle.std.proofs.Common.{◌≡◌, ◌≤◌, ◌-◌, length}
 use Rattle.socket_set.specs.SocketSet.{with_places}
 use Rattle.host_machine.specs.Sockets.Delivery.{to_this}
 use Rattle.host_machine.specs.Sockets.Raw.{storage_after_delivery, takes}
-use Rattle.iface_icmp.proofs.SocketIteration.{mapped, any_of}
+use Rattle.host_machine.proofs.Sockets.SocketIteration.{mapped, any_of}
 use Rattle.iface_sockets.proofs.raw.deliver_to_each.Given as goal
 
 -- the sockets below the index got the packet, if they take it, and the others are as they were

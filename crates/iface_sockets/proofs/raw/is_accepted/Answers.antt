@@ -1,8 +1,8 @@
 use Rattle.std.proofs.Common.{◌≡◌, ◌∙◌, arith, length, sym}
 use Rattle.socket_set.specs.SocketSet.{socket_at}
 use Rattle.host_machine.specs.Sockets.Raw.{takes}
-use Rattle.iface_icmp.proofs.SocketIteration.{one_meets}
-use Rattle.iface_icmp.proofs.OtherPorts.{nobody, none_passed, not_raw, one_passed}
+use Rattle.host_machine.proofs.Sockets.SocketIteration.{one_meets}
+use Rattle.host_machine.proofs.Sockets.OtherPorts.{nobody, none_passed, not_raw, one_passed}
 use Rattle.iface_sockets.proofs.raw.is_accepted.Goals as goal
 
 pub loop-index-init : goal.loop-index-init

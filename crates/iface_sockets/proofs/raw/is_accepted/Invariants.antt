@@ -1,6 +1,6 @@
 use Rattle.std.proofs.Common.{◌≤◌, ◌-◌, length}
 use Rattle.host_machine.specs.Sockets.Raw.{takes}
-use Rattle.iface_icmp.proofs.OtherPorts.{NoneBefore}
+use Rattle.host_machine.proofs.Sockets.OtherPorts.{NoneBefore}
 use Rattle.iface_sockets.proofs.raw.is_accepted.Given as goal
 
 -- no socket below the index takes it

@@ -1,6 +1,6 @@
 use Rattle.std.proofs.Common.{refl, sym, ◌∙◌}
 use Rattle.host_machine.specs.Sockets.Tcp.{accepts}
-use Rattle.iface_icmp.proofs.SocketIteration.{met_within}
+use Rattle.host_machine.proofs.Sockets.SocketIteration.{met_within}
 use Rattle.iface_sockets.proofs.PayloadRules.{segment_taken}
 use Rattle.iface_sockets.proofs.tcp.deliver.Goals as goal
 

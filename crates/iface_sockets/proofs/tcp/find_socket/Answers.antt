@@ -1,7 +1,7 @@
 use Rattle.std.proofs.Common.{◌∙◌, sym}
 use Rattle.socket_set.specs.SocketSet.{socket_at}
 use Rattle.host_machine.specs.Sockets.Tcp.{accepts}
-use Rattle.iface_icmp.proofs.OtherPorts.{none_passed, not_tcp, one_passed}
+use Rattle.host_machine.proofs.Sockets.OtherPorts.{none_passed, not_tcp, one_passed}
 use Rattle.iface_sockets.proofs.tcp.find_socket.Goals as goal
 
 pub loop-index-init : goal.loop-index-init

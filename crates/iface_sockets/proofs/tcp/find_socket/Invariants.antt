@@ -1,6 +1,6 @@
 use Rattle.std.proofs.Common.{◌≤◌, ◌-◌, length}
 use Rattle.host_machine.specs.Sockets.Tcp.{accepts}
-use Rattle.iface_icmp.proofs.OtherPorts.{NoneBefore}
+use Rattle.host_machine.proofs.Sockets.OtherPorts.{NoneBefore}
 use Rattle.iface_sockets.proofs.tcp.find_socket.Given as goal
 
 -- no place below the index accepts it

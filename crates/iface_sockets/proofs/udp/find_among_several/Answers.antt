@@ -3,7 +3,7 @@ use Rattle.socket_set.specs.SocketSet.{socket_at}
 use Rattle.host_machine.specs.Context.Host.{no_sockets}
 use Rattle.host_machine.specs.Sockets.Udp.{accepts}
 use Rattle.iface_context.specs.Stands.{host_of}
-use Rattle.iface_icmp.proofs.OtherPorts.{none_passed, not_udp, one_passed}
+use Rattle.host_machine.proofs.Sockets.OtherPorts.{none_passed, not_udp, one_passed}
 use Rattle.iface_sockets.proofs.udp.find_among_several.Goals as goal
 
 pub loop-index-init : goal.loop-index-init

@@ -2,7 +2,7 @@ use Rattle.std.proofs.Common.{◌≤◌, ◌-◌, length}
 use Rattle.host_machine.specs.Context.Host.{no_sockets}
 use Rattle.host_machine.specs.Sockets.Udp.{accepts}
 use Rattle.iface_context.specs.Stands.{host_of}
-use Rattle.iface_icmp.proofs.OtherPorts.{NoneBefore}
+use Rattle.host_machine.proofs.Sockets.OtherPorts.{NoneBefore}
 use Rattle.iface_sockets.proofs.udp.find_among_several.Given as goal
 
 -- no place below the index accepts it

@@ -2,9 +2,9 @@ use Rattle.std.proofs.Common.{ℕ, List, refl, ap, sym, ◌∙◌}
 use Rattle.control_wire.specs.declared.icmpv6.Icmpv6Repr.{Icmpv6Repr}
 use Rattle.iface_context.specs.Stands.{host_in}
 use Rattle.iface_context.proofs.Processing.{by_rule, unanswered}
-use Rattle.iface_icmp.proofs.Messages.{no_neighbor}
-use Rattle.iface_icmp.proofs.IcmpRules.{icmpv6_malformed, icmpv6_taken}
-use Rattle.iface_icmp.proofs.icmpv6.process_other.Goals as goal
+use Rattle.iface_receive.proofs.Messages.{no_neighbor}
+use Rattle.iface_receive.proofs.Icmpv6Rules.{icmpv6_malformed, icmpv6_taken}
+use Rattle.iface_receive.proofs.icmpv6.process_other.Goals as goal
 
 pub returns-in_default : goal.returns-in_default
 returns-in_default c =

@@ -19,7 +19,7 @@ use Rattle.host_machine.specs.Sockets.Raw as raw
 use Rattle.host_machine.specs.Icmp.Delivery as icmp
 use Rattle.host_machine.specs.Sockets.Udp as udp
 use Rattle.host_machine.specs.Sockets.Tcp as tcp
-use Rattle.iface_icmp.proofs.SocketIteration.{any_of, any_passed, at_later, at_place, mapped, mapped_passed}
+use Rattle.host_machine.proofs.Sockets.SocketIteration.{any_of, any_passed, at_later, at_place, mapped, mapped_passed}
 
 -- a place with a socket of another own port, or none
 abbrev pub IsElsewhere : Option ℕ → Storage → Type 0

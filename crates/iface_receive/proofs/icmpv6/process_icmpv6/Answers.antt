@@ -2,8 +2,8 @@ use Rattle.std.proofs.Common.{ap, ◌∙◌}
 use Rattle.net_base.specs.Checksum.{is_rx}
 use Rattle.iface_context.specs.Stands.{host_in}
 use Rattle.iface_context.proofs.Processing.{unanswered}
-use Rattle.iface_icmp.proofs.IcmpRules.{icmpv6_malformed}
-use Rattle.iface_icmp.proofs.icmpv6.process_icmpv6.Goals as goal
+use Rattle.iface_receive.proofs.Icmpv6Rules.{icmpv6_malformed}
+use Rattle.iface_receive.proofs.icmpv6.process_icmpv6.Goals as goal
 
 pub returns-then-not-is_sound : goal.returns-then-not-is_sound
 returns-then-not-is_sound c =

@@ -3,9 +3,9 @@ use Rattle.control_wire.specs.declared.icmpv6.Icmpv6Repr.TheVariants.{Ndisc}
 use Rattle.control_wire.specs.Icmpv6.{Neighbor}
 use Rattle.iface_context.specs.Stands.{host_in}
 use Rattle.iface_context.proofs.Processing.{by_rule, unanswered}
-use Rattle.iface_icmp.proofs.Messages.{a_neighbor, of_neighbors}
-use Rattle.iface_icmp.proofs.IcmpRules.{icmpv6_malformed, icmpv6_taken}
-use Rattle.iface_icmp.proofs.icmpv6.process_neighbor.Goals as goal
+use Rattle.iface_receive.proofs.Messages.{a_neighbor, of_neighbors}
+use Rattle.iface_receive.proofs.Icmpv6Rules.{icmpv6_malformed, icmpv6_taken}
+use Rattle.iface_receive.proofs.icmpv6.process_neighbor.Goals as goal
 
 pub returns-in_default : goal.returns-in_default
 returns-in_default c =

@@ -1,8 +1,8 @@
 use Rattle.std.proofs.Common.{refl}
 use Rattle.iface_context.specs.Stands.{host_in}
 use Rattle.iface_context.proofs.Processing.{answered, unanswered}
-use Rattle.iface_icmp.proofs.Messages.{echoed, of_groups, of_routers, unheeded}
-use Rattle.iface_icmp.proofs.icmpv6.process_message.Goals as goal
+use Rattle.iface_receive.proofs.Messages.{echoed, of_groups, of_routers, unheeded}
+use Rattle.iface_receive.proofs.icmpv6.process_message.Goals as goal
 
 pub returns-in-EchoRequest : goal.returns-in-EchoRequest
 returns-in-EchoRequest c = λ sockets.

@@ -3,8 +3,8 @@ use Rattle.net_base.specs.Checksum.{is_rx}
 use Rattle.socket_set.specs.SocketSet.{Sockets}
 use Rattle.iface_context.specs.Stands.{host_in}
 use Rattle.iface_context.proofs.Processing.{answered, unanswered}
-use Rattle.iface_sockets.proofs.PayloadRules.{udp_delivered, udp_malformed, udp_not_accepted}
-use Rattle.iface_sockets.proofs.udp.process_udp.Goals as goal
+use Rattle.iface_receive.proofs.UdpRules.{udp_delivered, udp_malformed, udp_not_accepted}
+use Rattle.iface_receive.proofs.udp.process_udp.Goals as goal
 
 pub returns-in_default : goal.returns-in_default
 returns-in_default c =

@@ -10,9 +10,9 @@ use Rattle.host_machine.specs.Icmp.Icmpv6.{message_back}
 use Rattle.std.proofs.lemmas.List.{take_rest}
 use Rattle.iface_context.specs.Stands.{host_in, host_of}
 use Rattle.iface_context.proofs.Processing.{answered}
-use Rattle.iface_icmp.proofs.Messages.{of_request}
-use Rattle.iface_icmp.proofs.IcmpRules.{icmpv6_taken}
-use Rattle.iface_icmp.proofs.icmpv6.process_echo_request.Goals as goal
+use Rattle.iface_receive.proofs.Messages.{of_request}
+use Rattle.iface_receive.proofs.Icmpv6Rules.{icmpv6_taken}
+use Rattle.iface_receive.proofs.icmpv6.process_echo_request.Goals as goal
 
 pub returns : goal.returns
 returns c =
