@@ -8,8 +8,8 @@ use Rattle.tcp_machine.specs.declared.state.State.{State}
 use Rattle.tcp_machine.specs.declared.state.State.TheVariants as state
 use Rattle.tcp_machine.specs.declared.timers.Ending.{Ending}
 use Rattle.tcp_machine.specs.declared.timers.Ending.TheVariants as ending
-use Rattle.tcp_host.specs.TcpStreams.Handles.{accepting}
-use Rattle.tcp_host.specs.TcpStreams.Host.{IsFreePlace}
+use Rattle.tcp_host.specs.Handles.{accepting}
+use Rattle.tcp_host.specs.Host.{IsFreePlace}
 use Rattle.tcp_host.specs.declared.calls.Handle.{Handle}
 use Rattle.iface_host.specs.declared.host.Host.{Host}
 use Rattle.iface_host.specs.declared.refusal.Refusal.{Refusal}

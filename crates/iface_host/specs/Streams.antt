@@ -5,7 +5,7 @@ use Rattle.std.specs.Option.{is_none}
 use Rattle.socket_set.specs.SocketSet.{first_free}
 use Rattle.tcp_sockets.specs.Polls as tcp
 use Rattle.tcp_sockets.specs.Polls.{Carrier, state}
-use Rattle.tcp_host.specs.TcpStreams.Host as streams
+use Rattle.tcp_host.specs.Host as streams
 use Rattle.ip_address.specs.declared.ip.IpAddress.{IpAddress}
 use Rattle.host_machine.specs.Context.Host.{SocketSet}
 use Rattle.host_machine.specs.Send.Hops.{HasNeighbor}

@@ -8,8 +8,8 @@ use Rattle.tcp_machine.specs.Connection.{Connection}
 use Rattle.tcp_machine.specs.declared.settings.Settings.{Settings}
 use Rattle.tcp_machine.specs.declared.state.State.{State}
 use Rattle.tcp_machine.specs.declared.timers.Ending.{Ending}
-use Rattle.tcp_host.specs.TcpStreams.Handles.{changed, is_named, released, with_hop_limit, with_settings}
-use Rattle.tcp_host.specs.TcpStreams.Host.{connection_at}
+use Rattle.tcp_host.specs.Handles.{changed, is_named, released, with_hop_limit, with_settings}
+use Rattle.tcp_host.specs.Host.{connection_at}
 use Rattle.tcp_host.specs.declared.calls.Handle.{Handle}
 use Rattle.iface_host.specs.declared.refusal.Refusal.{Refusal}
 use Rattle.iface_host.specs.declared.refusal.Refusal.TheVariants.{NoSocket, NotThere}

@@ -7,10 +7,10 @@ use Rattle.sockets.specs.declared.endpoint.IpEndpoint.{IpEndpoint}
 use Rattle.sockets.specs.declared.endpoint.IpListenEndpoint.{IpListenEndpoint}
 use Rattle.tcp_host.specs.Table.{IsNowhere, IsPlaceOf}
 use Rattle.tcp_host.specs.declared.iss.Endpoints.{Endpoints}
-use Rattle.tcp_host.specs.TcpStreams.Handles as handles
-use Rattle.tcp_host.specs.TcpStreams.Handles.{accepting, is_listener, listener_closed, listening, opened_at}
-use Rattle.tcp_host.specs.TcpStreams.Host as streams
-use Rattle.tcp_host.specs.TcpStreams.Host.{IsFreePlace}
+use Rattle.tcp_host.specs.Handles as handles
+use Rattle.tcp_host.specs.Handles.{accepting, is_listener, listener_closed, listening, opened_at}
+use Rattle.tcp_host.specs.Host as streams
+use Rattle.tcp_host.specs.Host.{IsFreePlace}
 use Rattle.tcp_host.specs.declared.calls.Handle.{Handle}
 use Rattle.iface_host.specs.Calls.{source_for}
 use Rattle.iface_host.specs.Refusals.{moment_refusal}

@@ -3,7 +3,7 @@ use Rattle.std.specs.Prelude.{ℕ, ℤ, ◌≡◌, pos, min, Option}
 use Rattle.std.specs.Option.{option_map}
 use Rattle.iface_host.specs.Streams.{PollsStreams}
 use Rattle.iface_host.specs.declared.host.Host.{Host}
-use Rattle.tcp_host.specs.TcpStreams.Turns.{IsPollAt}
+use Rattle.tcp_host.specs.Turns.{IsPollAt}
 use Rattle.iface_streams.specs.declared.streams.Streams.{Streams}
 
 -- they are polled over the host's addresses and sockets

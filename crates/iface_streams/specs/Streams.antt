@@ -8,7 +8,7 @@ use Rattle.ip_address.specs.declared.protocol.IpVersion.TheVariants.{Ipv4, Ipv6}
 use Rattle.sockets.specs.declared.socket.SocketOf.TheVariants.{Raw}
 use Rattle.tcp_sockets.specs.Polls.{Carrier}
 use Rattle.tcp_sockets.specs.declared.tcp_sockets.SocketPair.{SocketPair}
-use Rattle.tcp_host.specs.TcpStreams.Host as streams
+use Rattle.tcp_host.specs.Host as streams
 use Rattle.tcp_host.specs.declared.config.Config.{Config}
 use Rattle.iface_host.specs.Refusals.{close_refusal}
 use Rattle.iface_host.specs.Sockets as sockets

@@ -6,7 +6,7 @@ ghost use Rattle.iface_host.specs.declared.refusal.Refusal.TheVariants.{Empty, N
 ghost use Rattle.iface_streams.specs.Connect as spec;
 ghost use Rattle.iface_streams.specs.declared.connect.ConnectRefusal.TheVariants.{InUse, Refused};
 ghost use Rattle.tcp_host.specs.Table.{IsPlaceOf};
-ghost use Rattle.tcp_host.specs.TcpStreams.Host.{IsFreePlace};
+ghost use Rattle.tcp_host.specs.Host.{IsFreePlace};
 
 use crate::streams::Streams;
 use iface_host::streams::micros_of;

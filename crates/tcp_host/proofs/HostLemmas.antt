@@ -7,7 +7,7 @@ use Rattle.tcp_host.specs.declared.iss.Endpoints.{Endpoints}
 use Rattle.tcp_host.specs.Table.{ends_at, IsNowhere}
 use Rattle.tcp_machine.specs.Connection.{Connection}
 use Rattle.tcp_host.specs.declared.slot.Slot.{Slot}
-use Rattle.tcp_host.specs.TcpStreams.Host.{Host, no_slot, with_connection}
+use Rattle.tcp_host.specs.Host.{Host, no_slot, with_connection}
 
 -- ends that are nowhere are nowhere where a place has none
 pub still_nowhere : (e : Endpoints) (ends : List (Option Endpoints)) (place : ℕ) → IsNowhere e ends → IsNowhere e (set ends place None)

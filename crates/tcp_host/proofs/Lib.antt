@@ -1,5 +1,4 @@
 pub mod AlarmLemmas
-pub mod ChallengeLemmas
 pub mod BacklogLemmas
 pub mod SipHashLemmas
 pub mod TableLemmas

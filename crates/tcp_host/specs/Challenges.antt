@@ -1,29 +1,28 @@
--- How many challenges a host sends (RFC 5961 7): at most ten in any second.
-use Rattle.std.specs.Prelude.{ℕ, ◌+◌, ◌≤◌, ◌<◌, nat_lt, nat_le, Bool, true, List, [], ◌∷◌, ◌++◌, length, drop, get_or, if◌then◌else◌}
+-- How many challenges a connection sends (RFC 5961 7). Each connection has its own limit: from one that all of them shared, an
+-- attacker with a connection of its own could tell what others answer.
+use Rattle.std.specs.Prelude.{ℕ, ◌+◌, ◌≤◌, ◌&&◌, not, Bool, List, if◌then◌else◌}
+use Rattle.net_base.specs.declared.bucket.Bucket.{Bucket}
+use Rattle.net_base.specs.Bucket.{has_token, after_take, taken, AreWithin}
+use Rattle.tcp_connection.specs.Actions.{after_sending}
+use Rattle.tcp_connection.specs.Asked.{is_only_challenged}
+use Rattle.tcp_host.specs.declared.slot.Slot.{Slot}
 
-abbrev pub most : ℕ
-most = 10
+-- five at once, and one more each 200 ms
+abbrev pub all_challenges : Bucket
+all_challenges = record { interval = 200000; depth = 5; full_at = 0 }
 
-abbrev pub second : ℕ
-second = 1000000
+-- what a connection sends now is a challenge, and it has sent as many as it may: it is left, as if the link had lost it
+abbrev pub is_challenge_left : ℕ → Slot → Bool
+is_challenge_left now s = is_only_challenged now s.connection && not (has_token now s.challenges)
 
--- one may be sent now, where these were sent last, the oldest first
-abbrev pub may_send : ℕ → List ℕ → Bool
-may_send now sent = if nat_lt (length sent) most then true else nat_le (get_or sent 0 0 + second) now
+-- what it sends was sent, and a challenge is counted
+abbrev pub slot_after_sending : ℕ → Slot → Slot
+slot_after_sending now s = record s {
+  connection = after_sending now s.connection;
+  challenges = if is_only_challenged now s.connection then after_take now s.challenges else s.challenges;
+}
 
--- ten are remembered
-abbrev pub with_sent : ℕ → List ℕ → List ℕ
-with_sent now sent = (if nat_lt (length sent) most then sent else drop 1 sent) ++ now ∷ []
-
-abbrev pub after_asking : ℕ → List ℕ → List ℕ
-after_asking now sent = if may_send now sent then with_sent now sent else sent
-
--- a host asks at these instants: when it sends
-abbrev pub sent_at : List ℕ → List ℕ → List ℕ
-sent_at sent [] = []
-sent_at sent (now ∷ later) =
-    if may_send now sent then now ∷ sent_at (after_asking now sent) later else sent_at (after_asking now sent) later
-
-pub record ChallengesAreSpaced : Type 0 where
-  pub spaced : (asked : List ℕ) (k : ℕ) → k + 10 < length (sent_at [] asked) →
-      get_or (sent_at [] asked) k 0 + second ≤ get_or (sent_at [] asked) (k + 10) 0
+-- so in any second a connection sends ten at most
+abbrev pub AtMostTen : Type 0
+AtMostTen = (first : ℕ) (instants : List ℕ) (full_at : ℕ) → AreWithin first (first + 1000000) instants →
+    taken (record { interval = 200000; depth = 5; full_at = full_at }) instants ≤ 10

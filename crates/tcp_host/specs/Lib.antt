@@ -7,4 +7,8 @@ pub mod Homes
 pub mod Table
 pub mod Cells
 pub mod Listener
-pub mod TcpStreams
+pub mod Host
+pub mod Resets
+pub mod Arrivals
+pub mod Turns
+pub mod Handles

@@ -1,8 +1,8 @@
 //! A segment arrives at a host (RFC 9293 3.10.7).
 ghost use Rattle.std.specs.Prelude.{◌≡◌, ◌≤◌, ◌<◌, ◌^◌, ℕ, length, Some, None, IfSome, IsNone, true};
-ghost use Rattle.tcp_host.specs.TcpStreams.Arrivals as spec;
-ghost use Rattle.tcp_host.specs.TcpStreams.Resets.{reset_for};
-ghost use Rattle.tcp_host.specs.TcpStreams.Host.{vacated, listener_at};
+ghost use Rattle.tcp_host.specs.Arrivals as spec;
+ghost use Rattle.tcp_host.specs.Resets.{reset_for};
+ghost use Rattle.tcp_host.specs.Host.{vacated, listener_at};
 ghost use Rattle.tcp_host.specs.Listener as listener;
 ghost use Rattle.tcp_host.specs.Table.{IsNowhere};
 ghost use Rattle.tcp_host.specs.declared.iss.Endpoints.{Endpoints};

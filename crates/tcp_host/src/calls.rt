@@ -6,8 +6,8 @@ ghost use Rattle.tcp_host.specs.Table.{IsNowhere, IsPlaceOf};
 ghost use Rattle.tcp_host.specs.Backlog.{first_of};
 ghost use Rattle.tcp_host.specs.Listener.{after_accepting};
 ghost use Rattle.tcp_host.specs.declared.calls.ConnectError.TheVariants.{Unaddressable, InUse, NoPlace};
-ghost use Rattle.tcp_host.specs.TcpStreams.Host.{connection_at, slot_at, listener_at, with_listener, IsFreePlace};
-ghost use Rattle.tcp_host.specs.TcpStreams.Handles as spec;
+ghost use Rattle.tcp_host.specs.Host.{connection_at, slot_at, listener_at, with_listener, IsFreePlace};
+ghost use Rattle.tcp_host.specs.Handles as spec;
 
 use crate::arrivals::is_proper;
 use crate::host::TcpHost;

@@ -2,8 +2,8 @@
 ghost use Rattle.std.specs.Prelude.{◌≡◌, true, false, Some, None};
 ghost use Rattle.tcp_connection.specs.Asked as asked;
 ghost use Rattle.tcp_host.specs.Table.{ends_at};
-ghost use Rattle.tcp_host.specs.TcpStreams.Handles as spec;
-ghost use Rattle.tcp_host.specs.TcpStreams.Host.{connection_at};
+ghost use Rattle.tcp_host.specs.Handles as spec;
+ghost use Rattle.tcp_host.specs.Host.{connection_at};
 
 use crate::calls::Handle;
 use crate::host::TcpHost;

@@ -1,6 +1,6 @@
 //! A host of connections.
 ghost use Rattle.std.specs.Prelude.{◌≡◌, ◌≤◌, ◌<◌, ◌^◌, [], length, replicate, slice_set, Some, None, IfOk, IfSome, IsNone};
-ghost use Rattle.tcp_host.specs.TcpStreams.Host as spec;
+ghost use Rattle.tcp_host.specs.Host as spec;
 ghost use Rattle.tcp_host.specs.Table.{IsNowhere, IsPlaceOf};
 ghost use Rattle.tcp_host.specs.declared.iss.Endpoints.{Endpoints};
 
@@ -40,7 +40,7 @@ pub struct TcpHost {
 
 impl Model for TcpHost {
     ghost use Rattle.std.specs.Prelude.{◌≡◌, ◌≤◌, ◌^◌, length};
-    ghost use Rattle.tcp_host.specs.TcpStreams.Host as spec;
+    ghost use Rattle.tcp_host.specs.Host as spec;
 
     ghost Value = { spec.Host };
 

@@ -5,7 +5,6 @@ pub mod alarms;
 pub mod arrivals;
 pub mod backlog;
 pub mod calls;
-pub mod challenges;
 pub mod config;
 pub mod getters;
 pub mod host;

@@ -1,6 +1,6 @@
 //! Resets for segments that belong to no connection (RFC 9293 3.10.7.1).
 ghost use Rattle.std.specs.Prelude.{◌≡◌, ◌<◌, ◌^◌};
-ghost use Rattle.tcp_host.specs.TcpStreams.Resets as spec;
+ghost use Rattle.tcp_host.specs.Resets as spec;
 
 use tcp_connection::segment::Segment;
 

@@ -5,9 +5,9 @@ ghost use Rattle.tcp_connection.specs.Segments.{segment_of};
 ghost use Rattle.tcp_connection.specs.Actions.{after_sending};
 ghost use Rattle.tcp_connection.specs.Asked.{is_only_challenged};
 ghost use Rattle.tcp_host.specs.declared.slot.Owner.TheVariants.{Program};
-ghost use Rattle.tcp_host.specs.TcpStreams.Challenges as spec;
-ghost use Rattle.tcp_host.specs.TcpStreams.Challenges.{all_challenges};
-ghost use Rattle.tcp_host.specs.TcpStreams.Host.{default_hop_limit};
+ghost use Rattle.tcp_host.specs.Challenges as spec;
+ghost use Rattle.tcp_host.specs.Challenges.{all_challenges};
+ghost use Rattle.tcp_host.specs.Host.{default_hop_limit};
 
 use net_base::bucket::{Bucket, few_are_taken};
 use tcp_connection::connection::Connection;

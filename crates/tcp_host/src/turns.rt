@@ -4,8 +4,8 @@ ghost use Rattle.tcp_machine.specs.Outgoing as outgoing;
 ghost use Rattle.tcp_connection.specs.Actions.{IsHeader, AreBlocks, AreOctets};
 ghost use Rattle.tcp_host.specs.Alarms.{IsLeast};
 ghost use Rattle.tcp_host.specs.Table.{ends_at};
-ghost use Rattle.tcp_host.specs.TcpStreams.Host.{slot_at, connection_at};
-ghost use Rattle.tcp_host.specs.TcpStreams.Turns as spec;
+ghost use Rattle.tcp_host.specs.Host.{slot_at, connection_at};
+ghost use Rattle.tcp_host.specs.Turns as spec;
 
 use crate::alarms::NEVER;
 use crate::host::TcpHost;

@@ -1,7 +1,7 @@
 -- Lists of acts of two sides, with one act more.
 use Rattle.std.proofs.Common.{◌≡◌, ◌∙◌, ℕ, true, List, [], ◌∷◌, ◌++◌, Option, Some, None, refl, ap}
 use Rattle.tcp_machine.specs.Outgoing.{Action, action}
-use Rattle.tcp_host.specs.TcpStreams.Host.{no_settings}
+use Rattle.tcp_host.specs.Host.{no_settings}
 use Rattle.tcp_laws.specs.Machines.{Side, unopened, Act, Opens, Accepts, Writes, Reads, Closes, Aborts, Chooses, Gets, Expires, Sends}
 use Rattle.tcp_laws.specs.Machines.{after_sending, after_act, Move, OfA, OfB, Pair, after_move, after_moves}
 use Rattle.tcp_host_laws.specs.Lives.{Life, after_acts, side_of, with_act}

@@ -11,8 +11,8 @@ use Rattle.tcp_machine.specs.Calls.{after_abort}
 use Rattle.tcp_host.specs.declared.iss.Endpoints.{Endpoints}
 use Rattle.tcp_host.specs.Iss.{iss}
 use Rattle.tcp_host.specs.declared.slot.Owner.TheVariants.{Itself}
-use Rattle.tcp_host.specs.TcpStreams.Handles.{changed, ends_by_itself, opened_at, accepting, listening, listener_closed, with_hop_limit}
-use Rattle.tcp_host.specs.TcpStreams.Host.{Host, connection_at, with_connection, with_owner, with_alarm, link_mss, settings_for}
+use Rattle.tcp_host.specs.Handles.{changed, ends_by_itself, opened_at, accepting, listening, listener_closed, with_hop_limit}
+use Rattle.tcp_host.specs.Host.{Host, connection_at, with_connection, with_owner, with_alarm, link_mss, settings_for}
 use Rattle.tcp_laws.specs.Machines.{Act, Opens, Writes, Reads, Closes, Aborts, Chooses}
 use Rattle.tcp_host_laws.specs.Lives.{Life, side_of, Does, continued, begun, after_events, Tells}
 use Rattle.tcp_host_laws.specs.Calls.{Connect, Send, Receive, Close, Abort, Choose, Limit, Release, Accept, Listen, CloseListener}

@@ -2,8 +2,8 @@
 use Rattle.std.proofs.Common.{◌≡◌, ℕ, Bool, true, false, List, [], ◌∷◌, Option, Some, refl}
 use Rattle.std.specs.Prelude.{if◌then◌else◌}
 use Rattle.std.specs.List.{AllByRecursion}
-use Rattle.tcp_host.specs.TcpStreams.Host.{Host, connection_at}
-use Rattle.tcp_host.specs.TcpStreams.Handles.{ends_by_itself}
+use Rattle.tcp_host.specs.Host.{Host, connection_at}
+use Rattle.tcp_host.specs.Handles.{ends_by_itself}
 use Rattle.tcp_laws.specs.Machines.{Side, Act, Writes, Reads, Closes, Aborts, Chooses}
 use Rattle.tcp_host_laws.specs.Lives.{Life, side_of, Event, Does, after_events}
 use Rattle.tcp_host_laws.specs.Calls.{Calls, Connect, Send, Receive, Close, Abort, Choose, Limit, Release, Accept, Listen, CloseListener, opening}

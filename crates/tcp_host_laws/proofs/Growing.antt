@@ -13,7 +13,7 @@ use Rattle.socket_set.specs.SocketSet.{Sockets}
 use Rattle.tcp_machine.specs.Outgoing.{Action, action}
 use Rattle.tcp_machine.specs.Segments as machine
 use Rattle.tcp_host.specs.declared.iss.Endpoints.{Endpoints}
-use Rattle.tcp_host.specs.TcpStreams.Host.{no_settings}
+use Rattle.tcp_host.specs.Host.{no_settings}
 use Rattle.tcp_sockets.specs.Polls.{State, raw_at}
 use Rattle.tcp_laws.specs.Machines.{Sent, Side, unopened, arrived, Act, Opens, Accepts, Writes, Reads, Closes, Aborts, Chooses, Gets, Expires, Sends}
 use Rattle.tcp_laws.specs.Machines.{after_sending, after_act, sent_as}

@@ -14,9 +14,9 @@ use Rattle.tcp_host.specs.declared.slot.Owner.{Owner}
 use Rattle.tcp_host.specs.declared.slot.Owner.TheVariants.{Nobody, Program}
 use Rattle.tcp_host.specs.declared.slot.Slot.{Slot}
 use Rattle.tcp_host.specs.declared.calls.Handle.{Handle}
-use Rattle.tcp_host.specs.TcpStreams.Handles.{changed, accepting_at, accepting_from, accepting, is_listener, listener_closed, with_hop_limit}
-use Rattle.tcp_host.specs.TcpStreams.Host.{Host, no_slot, slot_at, connection_at, with_slot, with_connection, with_owner, with_alarm, vacated, enrolled}
-use Rattle.tcp_host.specs.TcpStreams.Host.{listener_at, with_listener}
+use Rattle.tcp_host.specs.Handles.{changed, accepting_at, accepting_from, accepting, is_listener, listener_closed, with_hop_limit}
+use Rattle.tcp_host.specs.Host.{Host, no_slot, slot_at, connection_at, with_slot, with_connection, with_owner, with_alarm, vacated, enrolled}
+use Rattle.tcp_host.specs.Host.{listener_at, with_listener}
 use Rattle.tcp_host_laws.proofs.LifeLemmas.{Rests, Steps, Starts, rests_then, steps_rests}
 
 -- one of a list

@@ -17,10 +17,10 @@ use Rattle.tcp_host.specs.declared.slot.Owner.{Owner}
 use Rattle.tcp_host.specs.declared.slot.Owner.TheVariants.{Nobody, HalfOpen, Waiting, Program, Itself}
 use Rattle.tcp_host.specs.declared.turns.Turn.{Turn}
 use Rattle.tcp_host.specs.declared.turns.Turn.TheVariants.{Idle, Quiet, Sends}
-use Rattle.tcp_host.specs.TcpStreams.Challenges.{is_challenge_left, slot_after_sending}
-use Rattle.tcp_host.specs.TcpStreams.Host.{Host, slot_at, connection_at, with_slot, with_connection, with_owner, with_alarm, vacated, listener_at, with_listener}
-use Rattle.tcp_host.specs.TcpStreams.Turns.{expired, completed_in, completed, advanced_by, ended_in, finished_by, again_at, rested, before_sending}
-use Rattle.tcp_host.specs.TcpStreams.Turns.{left_at, turn_by, turn_asked, sent_at, sent_if, postponed, aborted_at, aborted_if, TakesTurn}
+use Rattle.tcp_host.specs.Challenges.{is_challenge_left, slot_after_sending}
+use Rattle.tcp_host.specs.Host.{Host, slot_at, connection_at, with_slot, with_connection, with_owner, with_alarm, vacated, listener_at, with_listener}
+use Rattle.tcp_host.specs.Turns.{expired, completed_in, completed, advanced_by, ended_in, finished_by, again_at, rested, before_sending}
+use Rattle.tcp_host.specs.Turns.{left_at, turn_by, turn_asked, sent_at, sent_if, postponed, aborted_at, aborted_if, TakesTurn}
 use Rattle.tcp_laws.specs.Machines.{Act, Expires, Aborts}
 use Rattle.tcp_laws.specs.Machines as machines
 use Rattle.tcp_host_laws.specs.Lives.{Life, Does, after_events, Tells}

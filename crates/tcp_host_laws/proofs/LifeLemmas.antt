@@ -9,7 +9,7 @@ use Rattle.tcp_machine.specs.Connection.{Connection}
 use Rattle.tcp_machine.specs.Outgoing.{Action, action}
 use Rattle.tcp_host.specs.declared.iss.Endpoints.{Endpoints}
 use Rattle.tcp_host.specs.Table.{ends_at}
-use Rattle.tcp_host.specs.TcpStreams.Host.{Host, no_settings, connection_at}
+use Rattle.tcp_host.specs.Host.{Host, no_settings, connection_at}
 use Rattle.tcp_laws.specs.Machines.{Side, unopened, Act, Opens, Accepts, Writes, Reads, Closes, Aborts, Chooses, Gets, Expires, Sends}
 use Rattle.tcp_laws.specs.Machines.{after_sending, after_act}
 use Rattle.tcp_host_laws.specs.Lives.{Life, after_acts, side_of, newest, with_act, continued, begun, IsLifeOf, Tells}

@@ -4,7 +4,7 @@ use Rattle.std.proofs.lemmas.Bool.{false≢true}
 use Rattle.tcp_machine.specs.declared.settings.Settings.{Settings}
 use Rattle.tcp_machine.specs.Segments as machine
 use Rattle.tcp_machine.specs.Opening.{accepted, after_arrival}
-use Rattle.tcp_host.specs.TcpStreams.Host.{no_settings}
+use Rattle.tcp_host.specs.Host.{no_settings}
 use Rattle.tcp_laws.specs.Machines.{Sent, Side, unopened, arrived, Act, Opens, Accepts, Writes, Reads, Closes}
 use Rattle.tcp_laws.specs.Machines.{Aborts, Chooses, Gets, Expires, Sends, MayAct, with_connection, after_act, Move, OfA, OfB, MayMove}
 use Rattle.tcp_laws.specs.Machines.{Pair, after_move, AreMoves, after_moves, StreamHolds}

@@ -7,7 +7,7 @@ use Rattle.ip_address.specs.declared.cidr.IpCidr.{IpCidr}
 use Rattle.socket_set.specs.SocketSet.{Sockets}
 use Rattle.tcp_machine.specs.Segments as machine
 use Rattle.tcp_host.specs.declared.iss.Endpoints.{Endpoints}
-use Rattle.tcp_host.specs.TcpStreams.Host.{no_settings}
+use Rattle.tcp_host.specs.Host.{no_settings}
 use Rattle.tcp_laws.specs.Machines.{Side, unopened, arrived, Act, Opens, Accepts, Writes, Reads, Closes, Aborts, Chooses, Gets, Expires, Sends}
 use Rattle.tcp_host_laws.specs.Lives.{Life, side_of, Event, Does, Begins, newest, with_act, continued, begun, after_event, after_events}
 use Rattle.tcp_host_laws.specs.Turns.{Came, MayDo, MayBegin, IsBeginning, MayHappen, MayFollow}

@@ -22,8 +22,8 @@ use Rattle.tcp_host.specs.declared.iss.Endpoints.{Endpoints}
 use Rattle.tcp_host.specs.Table.{ends_at}
 use Rattle.tcp_host.specs.declared.turns.Turn.{Turn}
 use Rattle.tcp_host.specs.declared.turns.Turn.TheVariants.{Idle, Quiet, Sends as SendsTurn}
-use Rattle.tcp_host.specs.TcpStreams.Host.{Host, no_settings, connection_at}
-use Rattle.tcp_host.specs.TcpStreams.Turns.{TakesTurn, sent_at, sent_if, postponed, aborted_if}
+use Rattle.tcp_host.specs.Host.{Host, no_settings, connection_at}
+use Rattle.tcp_host.specs.Turns.{TakesTurn, sent_at, sent_if, postponed, aborted_if}
 use Rattle.tcp_sockets.specs.declared.receiving.Answer.{Answer}
 use Rattle.tcp_sockets.specs.Arrivals.{HasSegment, arrived_in}
 use Rattle.tcp_sockets.specs.Packets.{Segment, reset_between}

@@ -1,6 +1,6 @@
 -- The acts of two lives so far, in an order, event by event of the one.
 use Rattle.std.proofs.Common.{◌≡◌, ◌∙◌, ℕ, List, [], ◌∷◌, ◌++◌, Option, Some, None, refl, sym, ap, subst}
-use Rattle.tcp_host.specs.TcpStreams.Host.{no_settings}
+use Rattle.tcp_host.specs.Host.{no_settings}
 use Rattle.tcp_host.specs.declared.iss.Endpoints.{Endpoints}
 use Rattle.tcp_laws.specs.Machines.{Side, unopened, Act, Move, OfA, Pair, after_moves}
 use Rattle.tcp_host_laws.specs.Lives.{Life, after_acts, side_of, Event, Does, Begins, newest, with_act, begun, after_event}

@@ -27,10 +27,10 @@ use Rattle.tcp_host.specs.Backlog.{evicted}
 use Rattle.tcp_host.specs.Listener as listener
 use Rattle.tcp_host.specs.Iss.{iss}
 use Rattle.tcp_host.specs.declared.resets.Reset.{Reset}
-use Rattle.tcp_host.specs.TcpStreams.Resets.{reset_for, begins}
-use Rattle.tcp_host.specs.TcpStreams.Host.{Host, connection_at, with_alarm, with_connection, vacated, default_mss, link_mss, settings_for, listener_at, with_listener}
-use Rattle.tcp_host.specs.TcpStreams.Arrivals.{Delivers, Receives, Known, Improper, Begun, Unheeded, Answered, Nobody, Begins, TooMany, InFree, InOldest}
-use Rattle.tcp_host.specs.TcpStreams.Arrivals.{refused, accepted_at, vacated_if, counted, without_oldest, oldest_in}
+use Rattle.tcp_host.specs.Resets.{reset_for, begins}
+use Rattle.tcp_host.specs.Host.{Host, connection_at, with_alarm, with_connection, vacated, default_mss, link_mss, settings_for, listener_at, with_listener}
+use Rattle.tcp_host.specs.Arrivals.{Delivers, Receives, Known, Improper, Begun, Unheeded, Answered, Nobody, Begins, TooMany, InFree, InOldest}
+use Rattle.tcp_host.specs.Arrivals.{refused, accepted_at, vacated_if, counted, without_oldest, oldest_in}
 use Rattle.tcp_sockets.specs.Arrivals.{HasSegment, is_for_host}
 use Rattle.tcp_laws.specs.Machines.{Sent, Accepts, Gets}
 use Rattle.tcp_host_laws.specs.Lives.{Life, side_of, Event, Does, newest, begun, after_events, IsLifeOf, Tells}

@@ -6,9 +6,9 @@ use Rattle.tcp_machine.specs.Calls.{after_writing, after_reading, after_closing,
 use Rattle.tcp_host.specs.declared.iss.Endpoints.{Endpoints}
 use Rattle.tcp_host.specs.Iss.{iss}
 use Rattle.tcp_host.specs.declared.calls.Handle.{Handle}
-use Rattle.tcp_host.specs.TcpStreams.Handles.{is_named, changed, ends_by_itself, released, opened_at, with_settings, accepting, listening}
-use Rattle.tcp_host.specs.TcpStreams.Handles.{listener_closed, with_hop_limit}
-use Rattle.tcp_host.specs.TcpStreams.Host.{Host, connection_at, IsFreePlace, link_mss, settings_for}
+use Rattle.tcp_host.specs.Handles.{is_named, changed, ends_by_itself, released, opened_at, with_settings, accepting, listening}
+use Rattle.tcp_host.specs.Handles.{listener_closed, with_hop_limit}
+use Rattle.tcp_host.specs.Host.{Host, connection_at, IsFreePlace, link_mss, settings_for}
 use Rattle.tcp_laws.specs.Machines.{Opens, Writes, Reads, Closes, Aborts, Chooses}
 use Rattle.tcp_host_laws.specs.Lives.{Event, Does, Begins}
 

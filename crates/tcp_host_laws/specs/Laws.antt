@@ -2,7 +2,7 @@
 use Rattle.std.specs.Prelude.{ℕ, Bool, List}
 use Rattle.ip_address.specs.declared.ip.IpAddress.{IpAddress}
 use Rattle.ip_address.specs.declared.cidr.IpCidr.{IpCidr}
-use Rattle.tcp_host.specs.TcpStreams.Host.{Host}
+use Rattle.tcp_host.specs.Host.{Host}
 use Rattle.tcp_sockets.specs.Polls.{State, Polls}
 use Rattle.tcp_host_laws.specs.Lives.{Life, Event, after_events, Tells}
 use Rattle.tcp_host_laws.specs.Calls.{Calls}

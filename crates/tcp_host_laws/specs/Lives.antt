@@ -2,7 +2,7 @@
 use Rattle.std.specs.Prelude.{◌≡◌, ℕ, ◌<◌, ◌==◌, List, [], ◌∷◌, ◌++◌, length, Option, Some, None, if◌then◌else◌}
 use Rattle.tcp_host.specs.declared.iss.Endpoints.{Endpoints}
 use Rattle.tcp_host.specs.Table.{ends_at}
-use Rattle.tcp_host.specs.TcpStreams.Host.{Host, no_settings, connection_at}
+use Rattle.tcp_host.specs.Host.{Host, no_settings, connection_at}
 use Rattle.tcp_laws.specs.Machines.{Side, unopened, Act, after_act}
 
 -- A connection's life: the place where it began, its ends, its own initial number, how many octets it may hold that

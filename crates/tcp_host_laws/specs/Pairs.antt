@@ -5,7 +5,7 @@ use Rattle.tcp_machine.specs.Connection.{Connection}
 use Rattle.tcp_machine.specs.Receiving.{next}
 use Rattle.tcp_machine.specs.Segments as machine
 use Rattle.tcp_machine.specs.Segments.{Options}
-use Rattle.tcp_host.specs.TcpStreams.Host.{no_settings}
+use Rattle.tcp_host.specs.Host.{no_settings}
 use Rattle.tcp_laws.specs.Machines.{Sent, Side, unopened, IsPlain, arrived, Act, Opens, Accepts}
 use Rattle.tcp_laws.specs.Machines.{Gets, Move, OfA, OfB, Pair, after_move, StreamHolds}
 use Rattle.tcp_host_laws.specs.Lives.{Life, side_of}

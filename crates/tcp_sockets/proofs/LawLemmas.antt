@@ -6,7 +6,7 @@ use Rattle.ip_address.specs.declared.protocol.IpVersion.{IpVersion}
 use Rattle.tcp_machine.specs.Outgoing as machine
 use Rattle.tcp_host.specs.declared.iss.Endpoints.{Endpoints}
 use Rattle.tcp_host.specs.Table.{ends_at}
-use Rattle.tcp_host.specs.TcpStreams.Turns.{sent_if, postponed}
+use Rattle.tcp_host.specs.Turns.{sent_if, postponed}
 use Rattle.tcp_sockets.specs.Packets.{Segment}
 use Rattle.tcp_sockets.specs.Sending.{version_between}
 use Rattle.tcp_sockets.specs.Polls.{State, segment_at, later_by_pause, is_near_queued, near_queued, fate_if, fate_in, fate_of, after_in, after_queueing, after_fate, after_sending}

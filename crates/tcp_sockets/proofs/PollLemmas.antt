@@ -9,8 +9,8 @@ use Rattle.sockets.specs.Raw.{RawSocket, socket_after_done}
 use Rattle.tcp_host.specs.declared.iss.Endpoints.{Endpoints}
 use Rattle.tcp_host.specs.Table.{ends_at}
 use Rattle.tcp_connection.specs.declared.outgoing.Action.{Action}
-use Rattle.tcp_host.specs.TcpStreams.Host.{Host}
-use Rattle.tcp_host.specs.TcpStreams.Turns.{is_heard}
+use Rattle.tcp_host.specs.Host.{Host}
+use Rattle.tcp_host.specs.Turns.{is_heard}
 use Rattle.tcp_host.specs.declared.turns.Turn.{Turn}
 use Rattle.tcp_host.specs.declared.turns.Turn.TheVariants.{Idle, Quiet, Sends}
 use Rattle.tcp_sockets.specs.declared.receiving.Answer.{Answer}

@@ -6,7 +6,7 @@ use Rattle.ip_address.specs.declared.protocol.IpVersion.{IpVersion}
 use Rattle.tcp_machine.specs.Outgoing as machine
 use Rattle.tcp_host.specs.declared.iss.Endpoints.{Endpoints}
 use Rattle.tcp_host.specs.Table.{ends_at}
-use Rattle.tcp_host.specs.TcpStreams.Turns.{is_heard}
+use Rattle.tcp_host.specs.Turns.{is_heard}
 use Rattle.tcp_sockets.specs.Packets.{Segment}
 use Rattle.tcp_sockets.specs.Sending.{version_between}
 use Rattle.tcp_sockets.specs.declared.tcp_sockets.Fate.{Fate}

@@ -2,7 +2,7 @@
 use Rattle.std.proofs.Common.{ℕ, Bool, List, Option, Some, None, subst}
 use Rattle.ip_address.specs.declared.cidr.IpCidr.{IpCidr}
 use Rattle.sockets.specs.Raw.{Sent}
-use Rattle.tcp_host.specs.TcpStreams.Host.{Host}
+use Rattle.tcp_host.specs.Host.{Host}
 use Rattle.tcp_sockets.specs.declared.receiving.Answer.{Answer}
 use Rattle.tcp_sockets.specs.Arrivals.{Arrived, Arrives}
 use Rattle.tcp_sockets.specs.Receiving.{ReceivesArrival, ReceivesSent}

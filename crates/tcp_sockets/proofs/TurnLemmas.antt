@@ -7,11 +7,11 @@ use Rattle.tcp_connection.specs.declared.outgoing.Action.{Action}
 use Rattle.tcp_connection.specs.Actions.{action_of, header_of, IsHeader, AreBlocks, AreOctets}
 use Rattle.tcp_connection.specs.Blocks.{places_of}
 use Rattle.tcp_connection.specs.declared.outgoing.Header.{Header}
-use Rattle.tcp_host.specs.TcpStreams.Host.{Host, connection_at, slot_at}
+use Rattle.tcp_host.specs.Host.{Host, connection_at, slot_at}
 use Rattle.tcp_host.specs.declared.turns.Turn.{Turn}
 use Rattle.tcp_host.specs.declared.turns.Turn.TheVariants.{Idle, Quiet, Sends}
-use Rattle.tcp_host.specs.TcpStreams.Challenges.{is_challenge_left}
-use Rattle.tcp_host.specs.TcpStreams.Turns.{TakesTurn, turn_by, turn_asked, left_at, before_sending, mss_of, scale_of}
+use Rattle.tcp_host.specs.Challenges.{is_challenge_left}
+use Rattle.tcp_host.specs.Turns.{TakesTurn, turn_by, turn_asked, left_at, before_sending, mss_of, scale_of}
 use Rattle.tcp_host.specs.declared.turns.Outgoing.{Outgoing}
 use Rattle.tcp_sockets.specs.Packets.{value_of}
 use Rattle.tcp_sockets.specs.Polls.{segment_at}

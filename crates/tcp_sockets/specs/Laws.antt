@@ -8,7 +8,7 @@ use Rattle.sockets.specs.Raw.{RawSocket, Sent, packet_in, socket_after_done}
 use Rattle.tcp_machine.specs.Outgoing as machine
 use Rattle.tcp_host.specs.declared.iss.Endpoints.{Endpoints}
 use Rattle.tcp_host.specs.Table.{ends_at}
-use Rattle.tcp_host.specs.TcpStreams.Turns.{sent_if, postponed, aborted_if}
+use Rattle.tcp_host.specs.Turns.{sent_if, postponed, aborted_if}
 use Rattle.tcp_sockets.specs.Arrivals.{HasSegment, is_own}
 use Rattle.tcp_sockets.specs.Sending.{version_between}
 use Rattle.tcp_sockets.specs.Polls.{State, HearsFirst, with_raw, IsNear, after_sending, is_near_queued, segment_at, later_by_pause}

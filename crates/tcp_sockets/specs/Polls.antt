@@ -19,10 +19,10 @@ use Rattle.tcp_connection.specs.Actions.{action_of, header_of}
 use Rattle.tcp_connection.specs.Blocks.{places_of}
 use Rattle.tcp_host.specs.declared.iss.Endpoints.{Endpoints}
 use Rattle.tcp_host.specs.Table.{ends_at}
-use Rattle.tcp_host.specs.TcpStreams.Host.{Host, connection_at, slot_at}
+use Rattle.tcp_host.specs.Host.{Host, connection_at, slot_at}
 use Rattle.tcp_host.specs.declared.turns.Turn.{Turn}
 use Rattle.tcp_host.specs.declared.turns.Turn.TheVariants.{Idle, Quiet, Sends}
-use Rattle.tcp_host.specs.TcpStreams.Turns.{TakesTurn, mss_of, scale_of, is_heard, sent_if, postponed, aborted_if}
+use Rattle.tcp_host.specs.Turns.{TakesTurn, mss_of, scale_of, is_heard, sent_if, postponed, aborted_if}
 use Rattle.tcp_sockets.specs.declared.tcp_sockets.SocketPair.{SocketPair}
 use Rattle.tcp_sockets.specs.declared.tcp_sockets.Fate.{Fate}
 use Rattle.tcp_sockets.specs.declared.tcp_sockets.Fate.TheVariants.{Queued, Waits, Stranded}

@@ -6,8 +6,8 @@ use Rattle.ip_address.specs.declared.protocol.IpVersion.{IpVersion}
 use Rattle.sockets.specs.Raw.{Sent, packet_in}
 use Rattle.tcp_host.specs.declared.iss.Endpoints.{Endpoints}
 use Rattle.tcp_host.specs.declared.resets.Reset.{Reset}
-use Rattle.tcp_host.specs.TcpStreams.Host.{Host}
-use Rattle.tcp_host.specs.TcpStreams.Arrivals as host
+use Rattle.tcp_host.specs.Host.{Host}
+use Rattle.tcp_host.specs.Arrivals as host
 use Rattle.tcp_sockets.specs.declared.receiving.Answer.{Answer}
 use Rattle.tcp_sockets.specs.Arrivals.{Arrived, HasSegment, arrived_in}
 

@@ -2,8 +2,8 @@
 ghost use Rattle.std.specs.Prelude.{◌≡◌, [], Some, false};
 ghost use Rattle.tcp_machine.specs.Outgoing as machine;
 ghost use Rattle.tcp_connection.specs.Actions.{action_of};
-ghost use Rattle.tcp_host.specs.TcpStreams.Host.{Host, connection_at};
-ghost use Rattle.tcp_host.specs.TcpStreams.Turns.{postponed, is_heard};
+ghost use Rattle.tcp_host.specs.Host.{Host, connection_at};
+ghost use Rattle.tcp_host.specs.Turns.{postponed, is_heard};
 ghost use Rattle.tcp_host.specs.Table.{ends_at};
 ghost use Rattle.tcp_sockets.specs.Packets.{value_of};
 ghost use Rattle.tcp_sockets.specs.Polls as spec;

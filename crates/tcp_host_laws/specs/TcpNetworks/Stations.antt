@@ -4,7 +4,7 @@ use Rattle.ip_address.specs.declared.cidr.IpCidr.{IpCidr}
 use Rattle.host_machine.specs.Context.Host.{SocketSet}
 use Rattle.host_machine.specs.Interface.Run.{Transition}
 use Rattle.host_machine.specs.Interface.Step.{Act}
-use Rattle.tcp_host.specs.TcpStreams.Host.{Host as Connections}
+use Rattle.tcp_host.specs.Host.{Host as Connections}
 use Rattle.tcp_sockets.specs.Polls.{Carrier, state}
 use Rattle.tcp_host_laws.specs.Lives.{Life, Event, after_events}
 use Rattle.tcp_host_laws.specs.Calls.{Calls}

@@ -1,7 +1,7 @@
 use Rattle.std.proofs.Common.{◌≡◌, true, arith}
 use Rattle.tcp_host.specs.Listener.{has_room}
-use Rattle.tcp_host.specs.TcpStreams.Host.{listener_at}
-use Rattle.tcp_host.specs.TcpStreams.Arrivals.{InFree}
+use Rattle.tcp_host.specs.Host.{listener_at}
+use Rattle.tcp_host.specs.Arrivals.{InFree}
 use Rattle.tcp_host.proofs.host.TcpHost.begin.Goals as goal
 
 pub returns-in-Some : goal.returns-in-Some

@@ -2,7 +2,7 @@ use Rattle.std.proofs.Common.{◌<◌, List, Option, length, refl, sym, ap, subs
 use Rattle.std.proofs.lemmas.List.{get_or_read}
 use Rattle.tcp_host.specs.declared.iss.Endpoints.{Endpoints}
 use Rattle.tcp_host.specs.Table.{IsNowhere}
-use Rattle.tcp_host.specs.TcpStreams.Host.{Host, no_listener}
+use Rattle.tcp_host.specs.Host.{Host, no_listener}
 use Rattle.tcp_host.proofs.host.TcpHost.begin_at.Goals as goal
 
 pub accept_at-requires-clause-new : goal.accept_at-requires-clause-new

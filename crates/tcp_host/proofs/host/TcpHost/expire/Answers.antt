@@ -3,8 +3,8 @@ use Rattle.std.proofs.lemmas.List.{get_or_read}
 use Rattle.tcp_machine.specs.Connection.{Connection}
 use Rattle.tcp_machine.specs.Timers.{after_timers}
 use Rattle.tcp_host.specs.declared.slot.Slot.{Slot}
-use Rattle.tcp_host.specs.TcpStreams.Host.{Host, no_slot, with_connection}
-use Rattle.tcp_host.specs.TcpStreams.Turns.{expired}
+use Rattle.tcp_host.specs.Host.{Host, no_slot, with_connection}
+use Rattle.tcp_host.specs.Turns.{expired}
 use Rattle.tcp_host.specs.contracts.host.TcpHost.{the_view}
 use Rattle.tcp_host.proofs.HostLemmas.{connection_set}
 use Rattle.tcp_host.proofs.host.TcpHost.expire.Goals as goal

@@ -1,6 +1,6 @@
 use Rattle.std.proofs.Common.{◌≡◌, ◌<◌, ℕ, false}
 use Rattle.tcp_host.specs.Listener.{listens_at}
-use Rattle.tcp_host.specs.TcpStreams.Host.{listener_at}
+use Rattle.tcp_host.specs.Host.{listener_at}
 use Rattle.tcp_host.proofs.host.TcpHost.listener_for.Given as goal
 
 abbrev pub invariant-loop-index : goal.invariant-loop-index

@@ -1,7 +1,7 @@
 use Rattle.std.proofs.Common.{List, Option, sym, ap, subst}
 use Rattle.tcp_host.specs.declared.iss.Endpoints.{Endpoints}
 use Rattle.tcp_host.specs.Table.{IsNowhere}
-use Rattle.tcp_host.specs.TcpStreams.Host.{Host}
+use Rattle.tcp_host.specs.Host.{Host}
 use Rattle.tcp_host.proofs.host.TcpHost.make_room.Goals as goal
 
 pub returns-clause-nowhere : goal.returns-clause-nowhere

@@ -1,6 +1,6 @@
 use Rattle.std.proofs.Common.{◌<◌, length, refl, arith}
 use Rattle.std.proofs.lemmas.List.{get_or_read}
-use Rattle.tcp_host.specs.TcpStreams.Host.{no_slot}
+use Rattle.tcp_host.specs.Host.{no_slot}
 use Rattle.tcp_host.proofs.host.TcpHost.open_at.Goals as goal
 
 pub returns : goal.returns

@@ -1,6 +1,6 @@
 use Rattle.std.proofs.Common.{◌≡◌, true, false, is_some, refl, arith}
-use Rattle.tcp_host.specs.TcpStreams.Resets.{begins}
-use Rattle.tcp_host.specs.TcpStreams.Arrivals.{Begun, Unheeded, Answered}
+use Rattle.tcp_host.specs.Resets.{begins}
+use Rattle.tcp_host.specs.Arrivals.{Begun, Unheeded, Answered}
 use Rattle.tcp_host.proofs.host.TcpHost.receive_new.Goals as goal
 
 pub returns-in-Some : goal.returns-in-Some

@@ -1,8 +1,8 @@
 use Rattle.std.proofs.Common.{List, Option, refl, ap, subst}
 use Rattle.tcp_host.specs.declared.iss.Endpoints.{Endpoints}
 use Rattle.tcp_host.specs.Table.{IsPlaceOf}
-use Rattle.tcp_host.specs.TcpStreams.Host.{Host}
-use Rattle.tcp_host.specs.TcpStreams.Arrivals.{Known}
+use Rattle.tcp_host.specs.Host.{Host}
+use Rattle.tcp_host.specs.Arrivals.{Known}
 use Rattle.tcp_host.proofs.host.TcpHost.receive_segment.Goals as goal
 
 pub returns-in-Some : goal.returns-in-Some

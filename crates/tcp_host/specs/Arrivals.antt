@@ -11,10 +11,10 @@ use Rattle.tcp_host.specs.Listener as listener
 use Rattle.tcp_host.specs.Backlog.{first_of, after_evicting, evicted}
 use Rattle.tcp_host.specs.declared.resets.Reset.{Reset}
 use Rattle.tcp_host.specs.declared.slot.Owner.TheVariants.{HalfOpen}
-use Rattle.tcp_host.specs.TcpStreams.Host.{Host, connection_at, with_connection, with_alarm, vacated, occupied, default_mss, link_mss, settings_for}
-use Rattle.tcp_host.specs.TcpStreams.Host.{IsFreePlace, listener_at, with_listener}
+use Rattle.tcp_host.specs.Host.{Host, connection_at, with_connection, with_alarm, vacated, occupied, default_mss, link_mss, settings_for}
+use Rattle.tcp_host.specs.Host.{IsFreePlace, listener_at, with_listener}
 use Rattle.tcp_host.specs.Table.{IsPlaceOf, IsNowhere}
-use Rattle.tcp_host.specs.TcpStreams.Resets.{reset_for, begins}
+use Rattle.tcp_host.specs.Resets.{reset_for, begins}
 
 -- It goes to the connection at a place: that alone changes, as its machine says, and something is due there at once
 pub record Delivers (place now : ℕ) (e : Endpoints) (s : Segment) (octets : List ℕ) (old new : Host) : Type 0 where

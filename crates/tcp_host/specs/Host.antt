@@ -12,7 +12,7 @@ use Rattle.tcp_host.specs.declared.slot.Slot.{Slot}
 use Rattle.tcp_host.specs.declared.slot.Owner.{Owner}
 use Rattle.tcp_host.specs.declared.slot.Owner.TheVariants.{Nobody}
 use Rattle.tcp_host.specs.declared.config.Config.{Config}
-use Rattle.tcp_host.specs.TcpStreams.Challenges.{all_challenges}
+use Rattle.tcp_host.specs.Challenges.{all_challenges}
 
 pub record Host : Type 0 where
   -- at each place a connection, the ends of it, when something is due, and 0 if the place is free

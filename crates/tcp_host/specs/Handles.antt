@@ -10,9 +10,9 @@ use Rattle.tcp_host.specs.Iss.{iss}
 use Rattle.tcp_host.specs.declared.slot.Owner.{Owner}
 use Rattle.tcp_host.specs.declared.slot.Owner.TheVariants.{Program, Itself}
 use Rattle.tcp_host.specs.declared.calls.Handle.{Handle}
-use Rattle.tcp_host.specs.TcpStreams.Arrivals.{is_proper}
-use Rattle.tcp_host.specs.TcpStreams.Challenges.{all_challenges}
-use Rattle.tcp_host.specs.TcpStreams.Host.{Host, slot_at, connection_at, with_slot, with_connection, with_owner, with_alarm, default_hop_limit, enrolled, link_mss, settings_for, listener_at, with_listener}
+use Rattle.tcp_host.specs.Arrivals.{is_proper}
+use Rattle.tcp_host.specs.Challenges.{all_challenges}
+use Rattle.tcp_host.specs.Host.{Host, slot_at, connection_at, with_slot, with_connection, with_owner, with_alarm, default_hop_limit, enrolled, link_mss, settings_for, listener_at, with_listener}
 use Rattle.ip_address.specs.declared.ip.IpAddress.{IpAddress}
 use Rattle.tcp_host.specs.Backlog.{first_of}
 use Rattle.tcp_host.specs.Listener.{after_accepting, after_closing, first}

@@ -17,8 +17,8 @@ use Rattle.tcp_host.specs.declared.slot.Owner.{Owner}
 use Rattle.tcp_host.specs.declared.slot.Owner.TheVariants.{HalfOpen, Waiting, Program, Itself}
 use Rattle.tcp_host.specs.declared.turns.Turn.{Turn}
 use Rattle.tcp_host.specs.declared.turns.Turn.TheVariants.{Idle, Quiet, Sends}
-use Rattle.tcp_host.specs.TcpStreams.Challenges.{is_challenge_left, slot_after_sending}
-use Rattle.tcp_host.specs.TcpStreams.Host.{Host, never, slot_at, connection_at, with_slot, with_connection, with_owner, with_alarm, vacated, listener_at, with_listener, link_mss}
+use Rattle.tcp_host.specs.Challenges.{is_challenge_left, slot_after_sending}
+use Rattle.tcp_host.specs.Host.{Host, never, slot_at, connection_at, with_slot, with_connection, with_owner, with_alarm, vacated, listener_at, with_listener, link_mss}
 
 -- what timers do that have ended
 abbrev pub expired : (place now : ℕ) → Host → Host

@@ -1,6 +1,0 @@
-pub mod Challenges
-pub mod Host
-pub mod Resets
-pub mod Arrivals
-pub mod Turns
-pub mod Handles
