@@ -1,1 +1,3 @@
+pub mod OtherPorts
 pub mod QuietSockets
+pub mod SocketIteration
