@@ -15,31 +15,14 @@ use Rattle.host_machine.specs.Interface.Ingress.{Ingress}
 use Rattle.host_machine.specs.Interface.Egress.{Egress}
 use Rattle.host_machine.specs.Interface.Polling.{Polls}
 use Rattle.host_machine.specs.Interface.Step.{Step, PolledIngressSingle, PolledEgress, Polled, OwnerActed}
-use Rattle.host_machine.specs.Interface.Run.{Ends, Then, NoAct, ThenAct}
-use Rattle.host_machine.specs.Context.Real.{IsRegular}
-use Rattle.host_laws.specs.Laws.Ran.{Ran}
-use Rattle.host_laws.proofs.Interface.RunConcatenation.{run_laws, ran_on}
+use Rattle.host_machine.specs.Interface.Run.{Ran, Ends, Then, NoAct, ThenAct}
+use Rattle.host_laws.proofs.Interface.RunConcatenation.{ran_on}
 use Rattle.interface.specs.declared.interface.Interface.{Interface}
 use Rattle.interface.specs.Stands.{StandsFor, Refinement}
 use Rattle.interface.specs.Refines.{RefinementTelling}
-use Rattle.host_laws.specs.Progress.{IsSound}
-use Rattle.host_laws.proofs.LessWork.{runs_rest}
-use Rattle.host_laws.proofs.RunTraffic.{runs_keep_datagrams}
 use Rattle.host.specs.Commands.{RefinementOfCommand, HostRefinesCommand}
-use Rattle.host.specs.Driven.{Driven}
 
 module _ {D O : Type 0} (tells : D → List Event → D → Type 0) (did : O → ℕ → SocketSet → SocketSet → O → Type 0) where
-  -- a run keeps the laws of UDP sockets, too
-  pub driven : {d e : D} {o p : O} {commands : List Command} {answers : List Answer} {H : Host} {after : Host → Type 0} →
-      IsRegular H → IsSound H → Ran tells did d e o p commands answers H after → Driven tells did d e o p commands answers H after
-  driven {H = H} regular sound ran = record {
-    regular = regular;
-    ran = ran;
-    datagrams = runs_keep_datagrams H ran.last ran.transitions ran.run;
-    sound = sound;
-    rest = runs_rest H ran.last ran.transitions ran.run;
-  }
-
   -- one command is a run of one place
   pub ran_one : (d e : D) (o p : O) (c : Command) (a : Answer) (H : Host) (after : Host → Type 0) →
       RefinementOfCommand tells did d e o p c a H after → Ran tells did d e o p (c ∷ []) (a ∷ []) H after
@@ -52,7 +35,6 @@ module _ {D O : Type 0} (tells : D → List Event → D → Type 0) (did : O →
     tells_it = rw append-nil went.tells_it;
     owner_did = rw append-nil went.owner_did;
     stands = went.stands;
-    laws = run_laws (Then went.steps Ends);
   }
 
   -- a run goes on by one command

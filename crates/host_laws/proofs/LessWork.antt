@@ -49,7 +49,8 @@ use Rattle.host_laws.proofs.Interface.SlaacPolls.{polls_sync_slaac}
 use Rattle.host_laws.proofs.Interface.GrantedEgress.{all_untouched, dispatched_gone, given_parts, groups_way}
 use Rattle.host_laws.proofs.Interface.GrantedEgress.{routers_way, to_sockets}
 use Rattle.host_laws.proofs.Interface.DueWork.{all_kept, due_done, groups_kept, igmp_kept, mld_kept, piece_gone}
-use Rattle.host_laws.specs.Progress.{ComeToRest, PollsComeToRest, RunsComeToRest, PollsMakeProgress, LeavesWorkDue, IsSound, to_name, work}
+use Rattle.host_laws.specs.Progress.{ComeToRest, PollsComeToRest, RunsComeToRest, PollsMakeProgress, LeavesWorkDue, to_name, work}
+use Rattle.host_machine.specs.Context.Real.{IsSound}
 use Rattle.host_laws.proofs.QueuesAfterTurns.{CallLoads, NoLoad, LessLoad, call_loads, call_works}
 use Rattle.host_laws.proofs.QueuesAfterTurns.{one_less_apart}
 use Rattle.host_laws.proofs.GroupsToName.{groups_for_least, groups_least, igmp_less, igmp_named, join_reported_least}

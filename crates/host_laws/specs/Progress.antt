@@ -18,6 +18,7 @@ use Rattle.host_machine.specs.Interface.Due.{Due}
 use Rattle.host_machine.specs.Interface.Polling.{Polls}
 use Rattle.host_machine.specs.Interface.Run.{Transition, Run}
 use Rattle.host_laws.specs.Laws.Service.{all_granted, waiting_in}
+use Rattle.host_machine.specs.Context.Real.{IsSound}
 
 -- the number of packets that the entry of a socket set has to send
 abbrev pub queued_in : Storage → ℕ
@@ -48,12 +49,6 @@ to_name groups (igmp.ToSpecificQuery version timeout group) = 1
 -- fragments; one for each pending fragment; and one for each group that is still to be named
 abbrev pub work : Host → ℕ
 work H = 8 * queued H.sockets.places + length H.left + to_name H.groups H.igmp_report
-
--- what each interface has: a wait for each entry of its socket set, and a device that takes packets of 576 octets
--- (RFC 791 3.2)
-pub record IsSound (H : Host) : Type 0 where
-  pub waits : length H.sockets.waits ≡ length H.sockets.places
-  pub mtu : 576 ≤ ip_mtu_of H.capabilities
 
 -- a call that sends puts no packet into a queue; and where none leaves one, the pending fragments are those without the
 -- first

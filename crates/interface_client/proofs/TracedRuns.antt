@@ -8,8 +8,8 @@ use Rattle.host_machine.specs.declared.command.Answer.{Answer}
 use Rattle.host_machine.specs.Context.Host.{Host, SocketSet}
 use Rattle.host_laws.specs.Laws.Order.{IsAmong, NoneOfNone, OneOf, NotThis}
 use Rattle.host_laws.specs.Laws.Requests.{requests_at, sent_at}
-use Rattle.host_laws.specs.Laws.Ran.{Ran}
-use Rattle.host_machine.specs.Interface.Run.{Transition, AreSpaced, acts_in, events_in}
+use Rattle.host_laws.specs.Laws.Steps.{RunsKeepLaws}
+use Rattle.host_machine.specs.Interface.Run.{Transition, Ran, AreSpaced, acts_in, events_in}
 use Rattle.host_laws.proofs.Runs.Walk.{sent_frames-append}
 use Rattle.host_laws.specs.Deliveries.{Delivery}
 use Rattle.host_laws.specs.Departures.{Departure, Way, Dropped, InOneFrame, InPieces, frames_by, frames_of}
@@ -46,9 +46,9 @@ module _ {D O : Type 0} (tells : D → List Event → D → Type 0) (did : O →
       (told : (old new : D) (events : List Event) → tells old events new →
       Traces (is_complete old) (listed old) events (is_complete new) (listed new))
       (d e : D) (o p : O) (commands : List Command) (answers : List Answer) (H : Host) (after : Host → Type 0) →
-      RunsKeepQueues → listed d ≡ [] → is_complete e ≡ true →
+      RunsKeepLaws → RunsKeepQueues → listed d ≡ [] → is_complete e ≡ true →
       Driven tells did d e o p commands answers H after → LogsRun H after (listed e)
-  logs_run listed is_complete told d e o p commands answers H after keep empty complete driven = record {
+  logs_run listed is_complete told d e o p commands answers H after laws keep empty complete driven = record {
     transitions = ran.transitions;
     last = ran.last;
     run = ran.run;
@@ -56,7 +56,7 @@ module _ {D O : Type 0} (tells : D → List Event → D → Type 0) (did : O →
     logged = logged;
     spaced = λ quiet. subst (λ events. AreSpaced H.neighbors.silent_until
         (requests_at H.capabilities.medium (sent_at (pos 0) events))) (sym logged)
-        (ran.laws.requests_spaced driven.regular quiet);
+        ((laws H ran.last ran.transitions ran.run).requests_spaced driven.regular quiet);
     datagrams = λ still. datagrams (queues_kept still);
   } where
     ran : Ran tells did d e o p commands answers H after

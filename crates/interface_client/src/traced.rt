@@ -9,6 +9,7 @@ ghost use Rattle.interface_client.specs.Logged.{LogsRun};
 use host::Owner;
 use host::drive::drive;
 use host_laws::datagrams::runs_keep_queues;
+use host_laws::laws::runs_keep_laws;
 use host_machine::{Answer, Command};
 use interface::{Interface, SocketSet};
 use net_base::phy::{Device, Tracer};
@@ -31,6 +32,7 @@ pub fn run_traced<D: Device, O: Owner>(
     ensures logged { (H : Host) → StandsFor interface.old sockets.old H → result ≡ true →
         LogsRun H (StandsFor interface.new sockets.new) (traced_events device.new.log.items) }
 {
+    runs_keep_laws();
     runs_keep_queues();
     drive(interface, device, sockets, owner, commands, answers);
     device.is_complete

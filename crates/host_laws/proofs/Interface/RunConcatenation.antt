@@ -6,8 +6,8 @@ use Rattle.host_machine.specs.declared.command.Command.{Command}
 use Rattle.host_machine.specs.declared.command.Answer.{Answer}
 use Rattle.host_machine.specs.Context.Host.{Host, SocketSet}
 use Rattle.host_machine.specs.Interface.Step.{Act}
-use Rattle.host_machine.specs.Interface.Run.{Transition, Run, Ends, Did, NoAct, ThenAct, events_in, notes_in}
-use Rattle.host_laws.specs.Laws.Ran.{Laws, Ran}
+use Rattle.host_machine.specs.Interface.Run.{Transition, Run, Ran, Ends, Did, NoAct, ThenAct, events_in, notes_in}
+use Rattle.host_laws.specs.Laws.Ran.{Laws}
 use Rattle.host_laws.proofs.Runs.FrameSizes.{run_frames_fit}
 use Rattle.host_laws.proofs.Runs.FragmentArrivals.{run_arrivals}
 use Rattle.host_machine.specs.Context.Note.{cut_notes}
@@ -59,7 +59,6 @@ module _ {D O : Type 0} (tells : D → List Event → D → Type 0) (did : O →
     tells_it = quiet;
     owner_did = NoAct;
     stands = stands;
-    laws = run_laws Ends;
   }
 
   pub ran_on : (d m e : D) (o p q : O) (commands more_commands : List Command) (answers more_answers : List Answer)
@@ -77,5 +76,4 @@ module _ {D O : Type 0} (tells : D → List Event → D → Type 0) (did : O →
         tells_it = rw events_in-append (tells_on d m e (events_in ran.transitions) (events_in more.transitions) ran.tells_it more.tells_it);
         owner_did = rw acts_in-append (did_on ran.owner_did more.owner_did);
         stands = more.stands;
-        laws = run_laws whole;
       }

@@ -1,11 +1,9 @@
 -- What calls one after another are: a run that satisfies the laws.
-use Rattle.std.specs.Prelude.{◌≡◌, ℕ, ◌<◌, ◌^◌, List, length, map}
+use Rattle.std.specs.Prelude.{◌<◌, ◌^◌, List, length}
 use Rattle.std.specs.List.{AllByRecursion}
-use Rattle.net_base.specs.Device.{Event, sent_frames}
-use Rattle.host_machine.specs.declared.command.Command.{Command}
-use Rattle.host_machine.specs.declared.command.Answer.{Answer}
+use Rattle.net_base.specs.Device.{sent_frames}
 use Rattle.host_machine.specs.Context.Note.{asks, identifications, slot_notes, cut_notes}
-use Rattle.host_machine.specs.Context.Host.{Host, SocketSet}
+use Rattle.host_machine.specs.Context.Host.{Host}
 use Rattle.host_machine.specs.Context.Pieces.{piece_size}
 use Rattle.host_laws.specs.Laws.Rebuilding.{first_history, AreRebuilt}
 use Rattle.host_laws.specs.Laws.Order.{IsBeginning, sent_of_this, AreBeginnings, AreCounted}
@@ -17,7 +15,7 @@ use Rattle.host_laws.specs.Laws.Wire.{Shows}
 use Rattle.host_laws.specs.Laws.TwoHosts.{HaveOwnKeys, cuts_in}
 use Rattle.host_laws.specs.Laws.Requests.{NoSocketSpeaks, requests_in}
 use Rattle.host_laws.specs.Laws.Solicitations.{SolicitsSeldom}
-use Rattle.host_machine.specs.Interface.Run.{Transition, Run, Did, AreSpaced, events_in, acts_in, notes_in}
+use Rattle.host_machine.specs.Interface.Run.{Transition, AreSpaced, events_in, notes_in}
 use Rattle.host_laws.specs.Laws.Quiet.{AreQuiet}
 use Rattle.host_laws.specs.Laws.Calls.{IsMadeOfCalls}
 
@@ -56,18 +54,3 @@ pub record Laws (first : Host) (transitions : List Transition) : Type 0 where
   pub frames_fit : IsRegular first → PiecesFit first → FramesFit first transitions
   -- it is made of single calls, each of which serves others and is restrained
   pub calls : IsMadeOfCalls first transitions
-
--- a list of commands was a run: from this host and through these devices and owners, with these answers, to a host
--- that satisfies `after`
-pub record Ran {D O : Type 0} (tells : D → List Event → D → Type 0) (did : O → ℕ → SocketSet → SocketSet → O → Type 0)
-    (device device' : D) (owner owner' : O) (commands : List Command) (answers : List Answer) (first : Host)
-    (after : Host → Type 0) : Type 0 where
-  pub transitions : List Transition
-  pub last : Host
-  pub run : Run first transitions last
-  pub commanded : commands ≡ map (λ p. p.command) transitions
-  pub answered : answers ≡ map (λ p. p.answer) transitions
-  pub tells_it : tells device (events_in transitions) device'
-  pub owner_did : Did did owner (acts_in transitions) owner'
-  pub stands : after last
-  pub laws : Laws first transitions

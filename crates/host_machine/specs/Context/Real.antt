@@ -1,5 +1,5 @@
 -- What holds of each host that an interface stands for.
-use Rattle.std.specs.Prelude.{◌≡◌, ◌≤◌, true, List}
+use Rattle.std.specs.Prelude.{◌≡◌, ◌≤◌, true, List, length}
 use Rattle.std.specs.List.{AllByRecursion, AllByRecursion-prop}
 use Rattle.std.proofs.Props.{props}
 use Rattle.net_base.specs.declared.phy.Medium.{Medium}
@@ -34,3 +34,8 @@ pub record IsRegular (H : Host) : Type 0 where
   pub real : IsReal H
   pub mtu : 576 ≤ ip_mtu_of H.capabilities
   pub left : AllByRecursion (IsPart H.capabilities.medium) H.left
+
+-- each interface has a wait for each entry of its socket set, too
+pub record IsSound (H : Host) : Type 0 where
+  pub waits : length H.sockets.waits ≡ length H.sockets.places
+  pub mtu : 576 ≤ ip_mtu_of H.capabilities

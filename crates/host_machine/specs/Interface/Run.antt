@@ -1,5 +1,5 @@
 -- Runs of the host machine: steps one after another.
-use Rattle.std.specs.Prelude.{ℕ, ℤ, pos, ◌+ℤ◌, ◌≤ℤ◌, List, [], ◌∷◌, ◌++◌}
+use Rattle.std.specs.Prelude.{◌≡◌, ℕ, ℤ, pos, ◌+ℤ◌, ◌≤ℤ◌, List, [], ◌∷◌, ◌++◌, map}
 use Rattle.net_base.specs.Device.{Event}
 use Rattle.host_machine.specs.declared.command.Command.{Command}
 use Rattle.host_machine.specs.declared.command.Answer.{Answer}
@@ -57,3 +57,17 @@ pub data Did {O : Type 0} (did : O → ℕ → SocketSet → SocketSet → O →
 abbrev pub AreSpaced : ℤ → List ℤ → Type 0
 AreSpaced silence [] = Unit {0}
 AreSpaced silence (t ∷ ts) = (silence ≤ℤ t) × AreSpaced (t +ℤ pos 1000000) ts
+
+-- a list of commands was a run: from this host and through these devices and owners, with these answers, to a host
+-- that satisfies `after`
+pub record Ran {D O : Type 0} (tells : D → List Event → D → Type 0) (did : O → ℕ → SocketSet → SocketSet → O → Type 0)
+    (device device' : D) (owner owner' : O) (commands : List Command) (answers : List Answer) (first : Host)
+    (after : Host → Type 0) : Type 0 where
+  pub transitions : List Transition
+  pub last : Host
+  pub run : Run first transitions last
+  pub commanded : commands ≡ map (λ p. p.command) transitions
+  pub answered : answers ≡ map (λ p. p.answer) transitions
+  pub tells_it : tells device (events_in transitions) device'
+  pub owner_did : Did did owner (acts_in transitions) owner'
+  pub stands : after last

@@ -3,7 +3,7 @@ use Rattle.std.proofs.lemmas.List.{take_more, take_more_set, take_all}
 use Rattle.host_machine.specs.Context.Host.{Host}
 use Rattle.host_laws.proofs.Interface.RunConcatenation.{no_commands}
 use Rattle.interface.specs.Stands.{StandsFor}
-use Rattle.host.proofs.DriveSteps.{driven, ran_more}
+use Rattle.host.proofs.DriveSteps.{ran_more}
 use Rattle.host.proofs.drive.drive.Goals as goal
 
 pub loop-i-init : goal.loop-i-init
@@ -25,8 +25,12 @@ returns g c = λ H h.
     let commands : take c.loop-i.i c.args.commands.now ≡ c.args.commands.now = take_all c.loop-i.i c.args.commands.now (omega arith) in
     let answers : take c.loop-i.i c.loop-i.answers ≡ c.loop-i.answers = take_all c.loop-i.i c.loop-i.answers (omega arith) in
     let regular = c.is_on_its_medium.ensures c.args.sockets.now H h in
-    driven g.D.Device.tells g.O.Owner.did regular (record {
-      waits = ap (λ (K : Host). length K.sockets.waits) h.same ∙ c.has_a_wait_for_each.ensures
-          ∙ sym (ap (λ (K : Host). length K.sockets.places) h.same);
-      mtu = regular.mtu;
-    }) (rw (commands, answers) at (c.loop-i.invariant H h))
+    record {
+      regular = regular;
+      sound = record {
+        waits = ap (λ (K : Host). length K.sockets.waits) h.same ∙ c.has_a_wait_for_each.ensures
+            ∙ sym (ap (λ (K : Host). length K.sockets.places) h.same);
+        mtu = regular.mtu;
+      };
+      ran = rw (commands, answers) at (c.loop-i.invariant H h);
+    }

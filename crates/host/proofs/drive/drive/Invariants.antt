@@ -1,6 +1,6 @@
 use Rattle.std.proofs.Common.{take}
 use Rattle.host_machine.specs.Context.Host.{Host}
-use Rattle.host_laws.specs.Laws.Ran.{Ran}
+use Rattle.host_machine.specs.Interface.Run.{Ran}
 use Rattle.interface.specs.Stands.{StandsFor}
 use Rattle.host.proofs.drive.drive.Given as goal
 

@@ -10,5 +10,5 @@ returns g c = record {
   logged = λ H stands complete. logs_run _ g.O.Owner.did (λ t. traced_events t.log.items) (λ t. t.is_complete)
       (λ old new events told. told.1) c.args.device.now c.drive.new.device c.args.owner.now c.drive.new.owner
       c.args.commands.now c.drive.new.answers H (StandsFor c.drive.new.interface c.drive.new.sockets)
-      c.runs_keep_queues.ensures (ap traced_events c.requires.empty) complete (c.drive.ensures H stands);
+      c.runs_keep_laws.ensures c.runs_keep_queues.ensures (ap traced_events c.requires.empty) complete (c.drive.ensures H stands);
 }
