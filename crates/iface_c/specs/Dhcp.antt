@@ -9,7 +9,7 @@ use Rattle.dhcp_client.specs.declared.lease.DhcpEvent.{DhcpEvent}
 use Rattle.dhcp_client.specs.declared.lease.DhcpEvent.TheVariants.{Configured, Deconfigured}
 use Rattle.dhcp_client.specs.declared.lease.DhcpLease.{DhcpLease}
 use Rattle.dhcp_client.specs.declared.lease.LeaseTimes.{LeaseTimes}
-use Rattle.iface_host.specs.declared.host.Host.{Host}
+use Rattle.iface_host.specs.declared.host.IfaceHost.{IfaceHost}
 use Rattle.iface_host.specs.declared.refusal.Refusal.{Refusal}
 use Rattle.iface_host.specs.declared.refusal.Refusal.TheVariants.{Empty}
 use Rattle.iface_dhcp.specs.Apply.{prefix_len_of}
@@ -35,12 +35,12 @@ code_of_one why None = 19
 code_of_one why (Some d) = code_if (why d)
 
 -- of a call of a client and a host
-abbrev pub code_of_both : (Dhcp → Host → Option Refusal) → Option Dhcp → Option Host → ℕ
+abbrev pub code_of_both : (Dhcp → IfaceHost → Option Refusal) → Option Dhcp → Option IfaceHost → ℕ
 code_of_both why None host = 19
 code_of_both why (Some d) host = code_by (why d) host
 
 -- of a call that makes a client: 20 where the handle owns one, 3 where the settings have no meaning
-abbrev pub code_for_new : Option DhcpSettings → Option Dhcp → Option Host → ℕ
+abbrev pub code_for_new : Option DhcpSettings → Option Dhcp → Option IfaceHost → ℕ
 code_for_new settings (Some d) host = 20
 code_for_new None None host = 3
 code_for_new (Some settings) None host = code_by new_refusal host
@@ -57,18 +57,18 @@ pub record DidOne (code : ℕ) (Step : Dhcp → Dhcp → Type 0) (old new : Ifac
   pub refused : code ≢ 0 → dhcp_in new ≡ dhcp_in old
 
 -- there are a client and a host before and after, and they were changed so
-abbrev pub ChangedBoth : (Dhcp → Dhcp → Host → Host → Type 0) → Option Dhcp → Option Dhcp → Option Host → Option Host → Type 0
+abbrev pub ChangedBoth : (Dhcp → Dhcp → IfaceHost → IfaceHost → Type 0) → Option Dhcp → Option Dhcp → Option IfaceHost → Option IfaceHost → Type 0
 ChangedBoth Step d d' (Some old) (Some new) = ChangedOne (λ c c'. Step c c' old new) d d'
 ChangedBoth Step d d' (Some old) None = ⊥
 ChangedBoth Step d d' None new = ⊥
 
-pub record DidBoth (code : ℕ) (Step : Dhcp → Dhcp → Host → Host → Type 0) (d d' : IfaceDhcp) (old new : Iface) : Type 0 where
+pub record DidBoth (code : ℕ) (Step : Dhcp → Dhcp → IfaceHost → IfaceHost → Type 0) (d d' : IfaceDhcp) (old new : Iface) : Type 0 where
   pub done : code ≡ 0 → ChangedBoth Step (dhcp_in d) (dhcp_in d') (host_in old) (host_in new)
   pub client : code ≢ 0 → dhcp_in d' ≡ dhcp_in d
   pub host : code ≢ 0 → host_in new ≡ host_in old
 
 -- the same, where after a refusal the machine's host is the same that the host stands for
-pub record RuledBoth (code : ℕ) (Step : Dhcp → Dhcp → Host → Host → Type 0) (d d' : IfaceDhcp) (old new : Iface) : Type 0 where
+pub record RuledBoth (code : ℕ) (Step : Dhcp → Dhcp → IfaceHost → IfaceHost → Type 0) (d d' : IfaceDhcp) (old new : Iface) : Type 0 where
   pub done : code ≡ 0 → ChangedBoth Step (dhcp_in d) (dhcp_in d') (host_in old) (host_in new)
   pub client : code ≢ 0 → dhcp_in d' ≡ dhcp_in d
   pub host : code ≢ 0 → Keeps (host_in old) (host_in new)
@@ -83,7 +83,7 @@ settings_in seed a =
     }) else None)
 
 -- there was no client, and there is a new one of these settings, with a socket of the host
-abbrev pub IsMade : Option DhcpSettings → Option Dhcp → Option Dhcp → Option Host → Option Host → Type 0
+abbrev pub IsMade : Option DhcpSettings → Option Dhcp → Option Dhcp → Option IfaceHost → Option IfaceHost → Type 0
 IsMade (Some settings) None (Some d) (Some old) (Some new) = IsNew settings d old new
 IsMade (Some settings) None (Some d) (Some old) None = ⊥
 IsMade (Some settings) None (Some d) None new = ⊥
@@ -103,7 +103,7 @@ number_of (Some (Configured lease)) = 1
 number_of (Some Deconfigured) = 2
 
 -- a client was polled, and what has become of its lease was written
-pub record ShowsEvent (now : ℤ) (number : ℕ) (d d' : Dhcp) (old new : Host) : Type 0 where
+pub record ShowsEvent (now : ℤ) (number : ℕ) (d d' : Dhcp) (old new : IfaceHost) : Type 0 where
   pub event : Option DhcpEvent
   pub polled : Polls now event d d' old new
   pub written : number ≡ number_of event
@@ -157,11 +157,11 @@ abbrev pub Resets : Dhcp → Dhcp → Type 0
 Resets old new = new ≡ record old { client = after_reset old.client }
 
 -- a client is freed, and a host that is there has its sockets no more
-abbrev pub FreesOf : Dhcp → Option Host → Option Host → Type 0
+abbrev pub FreesOf : Dhcp → Option IfaceHost → Option IfaceHost → Type 0
 FreesOf d None new = new ≡ None
 FreesOf d (Some old) (Some new) = dhcp.Closes d old new
 FreesOf d (Some old) None = ⊥
 
-abbrev pub Frees : Option Dhcp → Option Host → Option Host → Type 0
+abbrev pub Frees : Option Dhcp → Option IfaceHost → Option IfaceHost → Type 0
 Frees None old new = new ≡ old
 Frees (Some d) old new = FreesOf d old new

@@ -11,7 +11,7 @@ use Rattle.dns_client.specs.declared.query.DnsResult.{DnsResult}
 use Rattle.dns_client.specs.declared.query.DnsResult.TheVariants.{Pending, Addresses, Failed}
 use Rattle.dns_client.specs.DnsResolver.Resolver.{at, result_at}
 use Rattle.tcp_host.specs.declared.sip_hash.SipKey.{SipKey}
-use Rattle.iface_host.specs.declared.host.Host.{Host}
+use Rattle.iface_host.specs.declared.host.IfaceHost.{IfaceHost}
 use Rattle.iface_host.specs.declared.refusal.Refusal.{Refusal}
 use Rattle.iface_host.specs.declared.refusal.Refusal.TheVariants.{NotThere}
 use Rattle.iface_dns.specs.Dns as dns
@@ -36,7 +36,7 @@ code_of_one why None = 19
 code_of_one why (Some d) = code_if (why d)
 
 -- of a call of a client and a host
-abbrev pub code_of_both : (Dns → Host → Option Refusal) → Option Dns → Option Host → ℕ
+abbrev pub code_of_both : (Dns → IfaceHost → Option Refusal) → Option Dns → Option IfaceHost → ℕ
 code_of_both why None host = 19
 code_of_both why (Some d) host = code_by (why d) host
 
@@ -52,12 +52,12 @@ pub record DidOne (code : ℕ) (Step : Dns → Dns → Type 0) (old new : IfaceD
   pub refused : code ≢ 0 → dns_in new ≡ dns_in old
 
 -- there are a client and a host before and after, and they were changed so
-abbrev pub ChangedBoth : (Dns → Dns → Host → Host → Type 0) → Option Dns → Option Dns → Option Host → Option Host → Type 0
+abbrev pub ChangedBoth : (Dns → Dns → IfaceHost → IfaceHost → Type 0) → Option Dns → Option Dns → Option IfaceHost → Option IfaceHost → Type 0
 ChangedBoth Step d d' (Some old) (Some new) = ChangedOne (λ c c'. Step c c' old new) d d'
 ChangedBoth Step d d' (Some old) None = ⊥
 ChangedBoth Step d d' None new = ⊥
 
-pub record DidBoth (code : ℕ) (Step : Dns → Dns → Host → Host → Type 0) (d d' : IfaceDns) (old new : Iface) : Type 0 where
+pub record DidBoth (code : ℕ) (Step : Dns → Dns → IfaceHost → IfaceHost → Type 0) (d d' : IfaceDns) (old new : Iface) : Type 0 where
   pub done : code ≡ 0 → ChangedBoth Step (dns_in d) (dns_in d') (host_in old) (host_in new)
   pub client : code ≢ 0 → dns_in d' ≡ dns_in d
   pub host : code ≢ 0 → host_in new ≡ host_in old
@@ -121,14 +121,14 @@ code_if_start None = 0
 code_if_start (Some refusal) = code_of_start refusal
 
 -- of a call that starts a query: 3 where it has no such type, before all others
-abbrev pub code_for_start : ℤ → List ℕ → Option DnsType → Option Dns → Option Host → ℕ
+abbrev pub code_for_start : ℤ → List ℕ → Option DnsType → Option Dns → Option IfaceHost → ℕ
 code_for_start now text None d host = 3
 code_for_start now text (Some type) None host = 19
 code_for_start now text (Some type) (Some d) None = 1
 code_for_start now text (Some type) (Some d) (Some host) = code_if_start (start_refusal now text d host)
 
 -- a query was started, and its place written
-abbrev pub Started : ℤ → List ℕ → Option DnsType → ℕ → Dns → Dns → Host → Host → Type 0
+abbrev pub Started : ℤ → List ℕ → Option DnsType → ℕ → Dns → Dns → IfaceHost → IfaceHost → Type 0
 Started now text type place d d' old new = IsSomeAnd type (λ t. Starts now text t place d d' old new)
 
 -- no address, as C reads it
@@ -180,15 +180,15 @@ pub record ShowsPollAt (instant : ℤ) (old new : Dns) : Type 0 where
   pub same : new ≡ old
 
 -- a client is freed, and a host that is there has its sockets no more
-pub record ClosesAll (d : Dns) (old new : Host) : Type 0 where
+pub record ClosesAll (d : Dns) (old new : IfaceHost) : Type 0 where
   pub without : Dns
   pub closes : dns.Closes d without old new
 
-abbrev pub FreesOf : Dns → Option Host → Option Host → Type 0
+abbrev pub FreesOf : Dns → Option IfaceHost → Option IfaceHost → Type 0
 FreesOf d None new = new ≡ None
 FreesOf d (Some old) (Some new) = ClosesAll d old new
 FreesOf d (Some old) None = ⊥
 
-abbrev pub Frees : Option Dns → Option Host → Option Host → Type 0
+abbrev pub Frees : Option Dns → Option IfaceHost → Option IfaceHost → Type 0
 Frees None old new = new ≡ old
 Frees (Some d) old new = FreesOf d old new

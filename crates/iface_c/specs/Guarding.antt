@@ -6,7 +6,7 @@ use Rattle.guard.specs.declared.watch.Watch.{Watch}
 use Rattle.guard.specs.Pins.{no_pins}
 use Rattle.guard.specs.Queries.{no_delays}
 use Rattle.guard.specs.Watch.{no_drops}
-use Rattle.iface_host.specs.declared.host.Host.{Host}
+use Rattle.iface_host.specs.declared.host.IfaceHost.{IfaceHost}
 use Rattle.iface_c.specs.Properties.{holds_in}
 use Rattle.iface_c.specs.declared.guarding.IfaceDrops.{IfaceDrops}
 use Rattle.iface_c.specs.declared.guarding.IfaceGuard.{IfaceGuard}
@@ -64,7 +64,7 @@ usual_guard = record {
 }
 
 -- what was dropped and held back, as C reads it
-abbrev pub drops_shown : Host → IfaceDrops
+abbrev pub drops_shown : IfaceHost → IfaceDrops
 drops_shown host = record {
   own_address = host.watch.counts.own_address;
   own_source = host.watch.counts.own_source;
@@ -81,15 +81,15 @@ drops_shown host = record {
 }
 
 -- who claimed an own address last, if somebody did
-abbrev pub conflict_of : Host → Option Conflict
+abbrev pub conflict_of : IfaceHost → Option Conflict
 conflict_of host = host.watch.conflict
 
 -- or a pinned one
-abbrev pub pinned_conflict_of : Host → Option Conflict
+abbrev pub pinned_conflict_of : IfaceHost → Option Conflict
 pinned_conflict_of host = host.watch.pinned_conflict
 
 -- that was written, and nothing changed
-pub record ShowsConflict (of : Host → Option Conflict) (hardware : List ℕ) (at : ℤ) (old new : Host) : Type 0 where
+pub record ShowsConflict (of : IfaceHost → Option Conflict) (hardware : List ℕ) (at : ℤ) (old new : IfaceHost) : Type 0 where
   pub conflict : Conflict
   pub is_there : of old ≡ Some conflict
   pub hardware_is : hardware ≡ conflict.hardware.0

@@ -9,7 +9,7 @@ use Rattle.ip_address.specs.declared.cidr.Ipv6Cidr.{Ipv6Cidr}
 use Rattle.ip_address.specs.declared.ethernet_address.EthernetAddress.{EthernetAddress}
 use Rattle.ip_address.specs.declared.ip.IpAddress.TheVariants.{Ipv6}
 use Rattle.iface_host.specs.TableRefusals.{addresses_refusal}
-use Rattle.iface_host.specs.declared.host.Host.{Host}
+use Rattle.iface_host.specs.declared.host.IfaceHost.{IfaceHost}
 use Rattle.iface_host.specs.declared.refusal.Refusal.{Refusal}
 use Rattle.iface_host.specs.declared.refusal.Refusal.TheVariants.{NotUnicast}
 use Rattle.iface_c.specs.Addresses.{address_for_c, cidr_in}
@@ -25,7 +25,7 @@ cidrs_in (c ∷ cs) =
     (cidr_in c.address c.prefix_len)
 
 -- the code of a call that makes a list the own addresses: 10 where it has more than sixteen; else as that of each other call
-abbrev pub code_for_list : List IfaceCidr → Option Host → ℕ
+abbrev pub code_for_list : List IfaceCidr → Option IfaceHost → ℕ
 code_for_list list host =
     if nat_lt 16 (length list) then 10 else code_with (λ own it. addresses_refusal it own) (cidrs_in list) host
 

@@ -6,7 +6,7 @@ use Rattle.std.specs.Box.Ownership.{box_owns}
 use Rattle.std.specs.contracts.impls.GlobalAllocator.TheImpl.{ghosts}
 use base.Fml.{Fml, ftrue}
 use denote.RawPtr.{Ptr}
-use Rattle.iface_host.specs.contracts.host.Host.{the_row}
+use Rattle.iface_host.specs.contracts.host.IfaceHost.{the_row}
 
 -- the host at a place and the right to free its block, or nothing
 abbrev pub slot_owns : Global → Ptr → Option the_row.Denot → Fml

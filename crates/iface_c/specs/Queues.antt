@@ -1,7 +1,7 @@
 -- What C reads of a socket's queues.
 use Rattle.std.specs.Prelude.{ℕ, ◌≡◌, min, Some}
 use Rattle.iface_host.specs.Queues.{fills_at}
-use Rattle.iface_host.specs.declared.host.Host.{Host}
+use Rattle.iface_host.specs.declared.host.IfaceHost.{IfaceHost}
 use Rattle.iface_host.specs.declared.queues.Fill.{Fill}
 use Rattle.iface_c.specs.declared.queues.IfaceQueue.{IfaceQueue}
 
@@ -16,7 +16,7 @@ fill_for_c fill = record {
 }
 
 -- what waits in the queues of a socket was written, and nothing changed
-pub record ShowsQueues (n : ℕ) (received to_send : IfaceQueue) (old new : Host) : Type 0 where
+pub record ShowsQueues (n : ℕ) (received to_send : IfaceQueue) (old new : IfaceHost) : Type 0 where
   pub fills : Fill × Fill
   pub are_there : fills_at old n ≡ Some fills
   pub received_is : received ≡ fill_for_c fills.0

@@ -8,7 +8,7 @@ use Rattle.sockets.specs.declared.endpoint.IpEndpoint.{IpEndpoint}
 use Rattle.sockets.specs.declared.endpoint.IpListenEndpoint.{IpListenEndpoint}
 use Rattle.sockets.specs.declared.tcp.Segment.{Segment}
 use Rattle.iface_host.specs.Segments as segments
-use Rattle.iface_host.specs.declared.host.Host.{Host}
+use Rattle.iface_host.specs.declared.host.IfaceHost.{IfaceHost}
 use Rattle.iface_c.specs.Addresses.{end_in, listen_end_in, written_end}
 use Rattle.iface_c.specs.declared.addresses.IfaceEndpoint.{IfaceEndpoint}
 use Rattle.iface_c.specs.declared.segments.IfaceSegment.{IfaceSegment}
@@ -65,13 +65,13 @@ segment_for_c s = record {
 }
 
 -- a segment was read, and its values are written
-pub record ReceivesTcp (n : ℕ) (shown : IfaceSegment) (len : ℕ) (out : List ℕ) (old new : Host) : Type 0 where
+pub record ReceivesTcp (n : ℕ) (shown : IfaceSegment) (len : ℕ) (out : List ℕ) (old new : IfaceHost) : Type 0 where
   pub segment : Segment
   pub received : segments.ReceivesTcp n segment len out old new
   pub is_written : shown ≡ segment_for_c segment
 
 -- the first one that came was written so, and nothing changed
-pub record PeeksTcp (n : ℕ) (shown : IfaceSegment) (len : ℕ) (out : List ℕ) (old new : Host) : Type 0 where
+pub record PeeksTcp (n : ℕ) (shown : IfaceSegment) (len : ℕ) (out : List ℕ) (old new : IfaceHost) : Type 0 where
   pub segment : Segment
   pub peeked : segments.PeeksTcp n segment len out old
   pub is_written : shown ≡ segment_for_c segment

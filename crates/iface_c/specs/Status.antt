@@ -1,6 +1,6 @@
 -- The code that each call answers.
 use Rattle.std.specs.Prelude.{◌≡◌, ◌≢◌, ◌==◌, ℕ, Option, Some, None, if◌then◌else◌}
-use Rattle.iface_host.specs.declared.host.Host.{Host}
+use Rattle.iface_host.specs.declared.host.IfaceHost.{IfaceHost}
 use Rattle.iface_host.specs.declared.refusal.Refusal.{Refusal}
 use Rattle.iface_host.specs.declared.refusal.Refusal.TheVariants.{NoMemory, BadMtu, NotUnicast, BadMoment}
 use Rattle.iface_host.specs.declared.refusal.Refusal.TheVariants.{BadAddress, NotThere, TableFull, NoSocket, BadPort}
@@ -29,17 +29,17 @@ code_if None = 0
 code_if (Some refusal) = code_of refusal
 
 -- of a call of the host of a handle: 1 where it owns none
-abbrev pub code_by : (Host → Option Refusal) → Option Host → ℕ
+abbrev pub code_by : (IfaceHost → Option Refusal) → Option IfaceHost → ℕ
 code_by why None = 1
 code_by why (Some host) = code_if (why host)
 
 -- of a call with an argument that may have no meaning: 3 where it has none
-abbrev pub code_with : {A : Type 0} → (A → Host → Option Refusal) → Option A → Option Host → ℕ
+abbrev pub code_with : {A : Type 0} → (A → IfaceHost → Option Refusal) → Option A → Option IfaceHost → ℕ
 code_with why None handle = 3
 code_with why (Some a) handle = code_by (why a) handle
 
 -- of a call that makes a host: 2 where the handle owns one, 3 where the configuration has no meaning
-abbrev pub code_for_new : {A : Type 0} → (A → Option Refusal) → Option A → Option Host → ℕ
+abbrev pub code_for_new : {A : Type 0} → (A → Option Refusal) → Option A → Option IfaceHost → ℕ
 code_for_new why settings (Some host) = 2
 code_for_new why None None = 3
 code_for_new why (Some settings) None = code_if (why settings)

@@ -11,7 +11,7 @@ use Rattle.tcp_machine.specs.declared.timers.Ending.TheVariants as ending
 use Rattle.tcp_host.specs.Handles.{accepting}
 use Rattle.tcp_host.specs.Host.{IsFreePlace}
 use Rattle.tcp_host.specs.declared.calls.Handle.{Handle}
-use Rattle.iface_host.specs.declared.host.Host.{Host}
+use Rattle.iface_host.specs.declared.host.IfaceHost.{IfaceHost}
 use Rattle.iface_host.specs.declared.refusal.Refusal.{Refusal}
 use Rattle.iface_streams.specs.Calls as calls
 use Rattle.iface_streams.specs.Connect as connect
@@ -48,12 +48,12 @@ code_if_meant None code = 3
 code_if_meant (Some a) code = code
 
 -- of a call of connections and a host
-abbrev pub code_of_both : (Streams → Host → Option Refusal) → Option Streams → Option Host → ℕ
+abbrev pub code_of_both : (Streams → IfaceHost → Option Refusal) → Option Streams → Option IfaceHost → ℕ
 code_of_both why None host = 21
 code_of_both why (Some s) host = code_by (why s) host
 
 -- of a call that makes connections: 22 where the handle owns some, 3 where none are made by the settings
-abbrev pub code_for_new : StreamSettings → Option Streams → Option Host → ℕ
+abbrev pub code_for_new : StreamSettings → Option Streams → Option IfaceHost → ℕ
 code_for_new settings (Some s) host = 22
 code_for_new settings None host = if is_proper settings then code_by (new_refusal settings) host else 3
 
@@ -69,12 +69,12 @@ pub record DidOne (code : ℕ) (Step : Streams → Streams → Type 0) (old new 
   pub refused : code ≢ 0 → streams_in new ≡ streams_in old
 
 -- there are connections and a host before and after, and they were changed so
-abbrev pub ChangedBoth : (Streams → Streams → Host → Host → Type 0) → Option Streams → Option Streams → Option Host → Option Host → Type 0
+abbrev pub ChangedBoth : (Streams → Streams → IfaceHost → IfaceHost → Type 0) → Option Streams → Option Streams → Option IfaceHost → Option IfaceHost → Type 0
 ChangedBoth Step s s' (Some old) (Some new) = ChangedOne (λ c c'. Step c c' old new) s s'
 ChangedBoth Step s s' (Some old) None = ⊥
 ChangedBoth Step s s' None new = ⊥
 
-pub record DidBoth (code : ℕ) (Step : Streams → Streams → Host → Host → Type 0) (s s' : IfaceStreams) (old new : Iface) : Type 0 where
+pub record DidBoth (code : ℕ) (Step : Streams → Streams → IfaceHost → IfaceHost → Type 0) (s s' : IfaceStreams) (old new : Iface) : Type 0 where
   pub done : code ≡ 0 → ChangedBoth Step (streams_in s) (streams_in s') (host_in old) (host_in new)
   pub streams : code ≢ 0 → streams_in s' ≡ streams_in s
   pub host : code ≢ 0 → host_in new ≡ host_in old
@@ -135,7 +135,7 @@ usual = record {
 }
 
 -- there were no connections, and there are new ones of these settings, with sockets of the host
-abbrev pub IsMade : StreamSettings → Option Streams → Option Streams → Option Host → Option Host → Type 0
+abbrev pub IsMade : StreamSettings → Option Streams → Option Streams → Option IfaceHost → Option IfaceHost → Type 0
 IsMade settings None (Some s) (Some old) (Some new) = IsNew settings s old new
 IsMade settings None (Some s) (Some old) None = ⊥
 IsMade settings None (Some s) None new = ⊥
@@ -155,12 +155,12 @@ pub record ShowsPollAt (at : ℤ) (old new : Streams) : Type 0 where
   pub same : new ≡ old
 
 -- connections are freed, and a host that is there has their sockets no more
-abbrev pub FreesOf : Streams → Option Host → Option Host → Type 0
+abbrev pub FreesOf : Streams → Option IfaceHost → Option IfaceHost → Type 0
 FreesOf s None new = new ≡ None
 FreesOf s (Some old) (Some new) = streams.Closes s old new
 FreesOf s (Some old) None = ⊥
 
-abbrev pub Frees : Option Streams → Option Host → Option Host → Type 0
+abbrev pub Frees : Option Streams → Option IfaceHost → Option IfaceHost → Type 0
 Frees None old new = new ≡ old
 Frees (Some s) old new = FreesOf s old new
 
@@ -188,7 +188,7 @@ Accepted code listener before after (Some old) (Some new) = AcceptedAt code list
 Accepted code listener before after (Some old) None = ⊥
 
 -- a connection was opened, and its name written; else nothing changed
-abbrev pub IsConnected : ℤ → Option IpListenEndpoint → Option IpEndpoint → IfaceStream → Option Streams → Option Streams → Option Host → Type 0
+abbrev pub IsConnected : ℤ → Option IpListenEndpoint → Option IpEndpoint → IfaceStream → Option Streams → Option Streams → Option IfaceHost → Type 0
 IsConnected now (Some local) (Some remote) shown (Some old) (Some new) (Some host) =
     connect.Connects now local remote host (handle_in shown) old new
 IsConnected now (Some local) (Some remote) shown (Some old) (Some new) None = ⊥
@@ -198,7 +198,7 @@ IsConnected now (Some local) None shown old new host = ⊥
 IsConnected now None remote shown old new host = ⊥
 
 pub record Connected (code : ℕ) (now : ℤ) (local : Option IpListenEndpoint) (remote : Option IpEndpoint) (shown : IfaceStream)
-    (old new : Option Streams) (host : Option Host) : Type 0 where
+    (old new : Option Streams) (host : Option IfaceHost) : Type 0 where
   pub done : code ≡ 0 → IsConnected now local remote shown old new host
   pub refused : code ≢ 0 → new ≡ old
 
@@ -209,7 +209,7 @@ pub record IsCodeBy (first : Option Refusal) (InUse Full : Type 0) (code : ℕ) 
   pub in_use : first ≡ None → code ≡ 23 → InUse
   pub full : first ≡ None → code ≢ 0 → code ≢ 23 → (code ≡ 10) × Full
 
-abbrev pub IsConnectCode : ℤ → Option IpListenEndpoint → Option IpEndpoint → Option Streams → Option Host → ℕ → Type 0
+abbrev pub IsConnectCode : ℤ → Option IpListenEndpoint → Option IpEndpoint → Option Streams → Option IfaceHost → ℕ → Type 0
 IsConnectCode now None remote s host code = code ≡ 3
 IsConnectCode now (Some local) None s host code = code ≡ 3
 IsConnectCode now (Some local) (Some remote) None host code = code ≡ 21

@@ -1,11 +1,11 @@
 //! Handles, each of which owns a host or none.
 ghost use Rattle.std.specs.Prelude.{◌≡◌, Option, Some, None, is_some, IsSome, IsNone};
 ghost use Rattle.std.specs.Option.{option_map};
-ghost use Rattle.iface_host.specs.declared.host.Host.{Host};
+ghost use Rattle.iface_host.specs.declared.host.IfaceHost.{IfaceHost};
 ghost use Rattle.iface_c.specs.Owned.{host_coded, is_tag, slot_owns};
 
 use crate::raw_box::RawBox;
-use iface_host::Host;
+use iface_host::IfaceHost;
 use std::alloc::Global;
 use std::marker::Model;
 
@@ -17,7 +17,7 @@ pub const TAG: u64 = 0x6966_6163_655f_6331;
 pub struct Slot {
     at: *mut u8,
     alloc: Global,
-    pub ghost host: { Option Host } by { host_coded },
+    pub ghost host: { Option IfaceHost } by { host_coded },
 }
 
 impl Model for Slot {
@@ -36,7 +36,7 @@ impl Slot {
     }
 
     /// A place that owns a host.
-    fn of(host: RawBox<Host, Global>) -> Slot
+    fn of(host: RawBox<IfaceHost, Global>) -> Slot
         ensures { result.host ≡ Some host.value }
     {
         let RawBox { at, alloc } = host;
@@ -54,13 +54,13 @@ impl Slot {
     }
 
     /// The host that a place owns.
-    fn into_raw_box(self) -> RawBox<Host, Global>
+    fn into_raw_box(self) -> RawBox<IfaceHost, Global>
         requires { IsSome self.host }
         ensures { Some result.value ≡ self.host }
     {
         let Slot { at, alloc } = self;
         RawBox {
-            at: at as *mut Host,
+            at: at as *mut IfaceHost,
             alloc,
         }
     }
@@ -87,7 +87,7 @@ impl Iface {
     }
 
     /// Takes the host out, if it owns one.
-    pub fn take(&mut self, alloc: Global) -> Option<Box<Host>>
+    pub fn take(&mut self, alloc: Global) -> Option<Box<IfaceHost>>
         ensures host { option_map (λ b. b.value) result ≡ host_in self.old }
         ensures rest { host_in self.new ≡ None }
     {
@@ -103,7 +103,7 @@ impl Iface {
     }
 
     /// Puts a host in, where it owns none.
-    pub fn put(&mut self, host: Box<Host>)
+    pub fn put(&mut self, host: Box<IfaceHost>)
         requires { host_in self.old ≡ None }
         ensures { host_in self.new ≡ Some host.value }
     {

@@ -18,7 +18,7 @@ use crate::handle::Iface;
 use crate::status::{
     BAD_ARGUMENT, BAD_VERSION, HAS_HOST, NO_HOST, NO_MEMORY, NOT_THERE, OK, VERSION, code,
 };
-use iface_host::{Capacities, Host, Settings};
+use iface_host::{Capacities, IfaceHost, Settings};
 use ip_wire::{EthernetAddress, HardwareAddress};
 use net_base::phy::{Checksum, ChecksumCapabilities};
 use net_base::time::Duration;
@@ -229,7 +229,7 @@ pub extern "C" fn iface_new_for(
     let Some(settings) = config.settings() else {
         return BAD_ARGUMENT;
     };
-    match Host::new(alloc, &settings) {
+    match IfaceHost::new(alloc, &settings) {
         Ok(host) => {
             handle.put(host);
             OK

@@ -9,7 +9,7 @@ use Rattle.dhcp_client.specs.Client.{lease}
 use Rattle.dhcp_client.specs.declared.lease.DhcpLease.{DhcpLease}
 use Rattle.iface_host.specs.Leased.{ReplacesLeased, leased_refusal}
 use Rattle.iface_host.specs.Stands.{Follows}
-use Rattle.iface_host.specs.declared.host.Host.{Host}
+use Rattle.iface_host.specs.declared.host.IfaceHost.{IfaceHost}
 use Rattle.iface_host.specs.declared.leased.Leased.{Leased}
 use Rattle.iface_host.specs.declared.refusal.Refusal.{Refusal}
 use Rattle.iface_dhcp.specs.declared.dhcp.Dhcp.{Dhcp}
@@ -56,12 +56,12 @@ is_same (Some a) None = false
 is_same (Some a) (Some b) = is_same_leased a b
 
 -- the host has it in place of what the client gave before, unless that is the same
-abbrev pub Replaces : Bool → Dhcp → Dhcp → Host → Host → Type 0
+abbrev pub Replaces : Bool → Dhcp → Dhcp → IfaceHost → IfaceHost → Type 0
 Replaces true d d' old new = (d' ≡ d) × (new ≡ old)
 Replaces false d d' old new = (d' ≡ record d { leased = leased d }) × Follows (ReplacesLeased d.leased (leased d)) old new
 
-abbrev pub Applies : Dhcp → Dhcp → Host → Host → Type 0
+abbrev pub Applies : Dhcp → Dhcp → IfaceHost → IfaceHost → Type 0
 Applies d = Replaces (is_same d.leased (leased d)) d
 
-abbrev pub apply_refusal : Dhcp → Host → Option Refusal
+abbrev pub apply_refusal : Dhcp → IfaceHost → Option Refusal
 apply_refusal d host = if is_same d.leased (leased d) then None else leased_refusal host d.leased (leased d)

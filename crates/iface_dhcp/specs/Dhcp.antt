@@ -9,7 +9,7 @@ use Rattle.iface_host.specs.Refusals.{close_refusal}
 use Rattle.iface_host.specs.Sockets as sockets
 use Rattle.iface_host.specs.Sockets.{Opens, udp}
 use Rattle.iface_host.specs.TableRefusals.{udp_opening_refusal}
-use Rattle.iface_host.specs.declared.host.Host.{Host}
+use Rattle.iface_host.specs.declared.host.IfaceHost.{IfaceHost}
 use Rattle.iface_host.specs.declared.opening.Rooms.{Rooms}
 use Rattle.iface_host.specs.declared.refusal.Refusal.{Refusal}
 use Rattle.iface_host.specs.declared.refusal.Refusal.TheVariants.{NotThere}
@@ -25,7 +25,7 @@ abbrev pub rooms : Rooms
 rooms = record { received = record { packets = 8; octets = 2944 }; to_send = record { packets = 1; octets = 320 } }
 
 -- it was just made, for a host with a hardware address, which has its socket now
-pub record IsNew (s : DhcpSettings) (dhcp : Dhcp) (old new : Host) : Type 0 where
+pub record IsNew (s : DhcpSettings) (dhcp : Dhcp) (old new : IfaceHost) : Type 0 where
   pub hardware_addr : EthernetAddress
   pub hardware : hardware_of old ≡ Some hardware_addr
   pub opened : Opens (udp port rooms) dhcp.socket old new
@@ -35,11 +35,11 @@ pub record IsNew (s : DhcpSettings) (dhcp : Dhcp) (old new : Host) : Type 0 wher
   pub leased : dhcp.leased ≡ None
 
 -- the host's link has no hardware addresses, or there is no place for a socket
-abbrev pub refusal_for : Option EthernetAddress → Host → Option Refusal
+abbrev pub refusal_for : Option EthernetAddress → IfaceHost → Option Refusal
 refusal_for None host = Some NotThere
 refusal_for (Some address) host = udp_opening_refusal host port
 
-abbrev pub new_refusal : Host → Option Refusal
+abbrev pub new_refusal : IfaceHost → Option Refusal
 new_refusal host = refusal_for (hardware_of host) host
 
 -- when something is due, up to the last moment
@@ -47,20 +47,20 @@ abbrev pub poll_at : Dhcp → Option ℤ
 poll_at dhcp = option_map (λ at. pos (min at 0x4000_0000_0000_0000)) (client.poll_at dhcp.client)
 
 -- what a call of the host does unless it is refused, when it leaves the host as it is
-abbrev pub Unless : Option Refusal → (Host → Host → Type 0) → Host → Host → Type 0
+abbrev pub Unless : Option Refusal → (IfaceHost → IfaceHost → Type 0) → IfaceHost → IfaceHost → Type 0
 Unless None Step old new = Step old new
 Unless (Some refusal) Step old new = new ≡ old
 
 -- a socket is closed, if it is open
-abbrev pub ClosesOne : ℕ → Host → Host → Type 0
+abbrev pub ClosesOne : ℕ → IfaceHost → IfaceHost → Type 0
 ClosesOne n old new = Unless (close_refusal old n) (sockets.Closes n) old new
 
-abbrev pub ClosesIf : Option ℕ → Host → Host → Type 0
+abbrev pub ClosesIf : Option ℕ → IfaceHost → IfaceHost → Type 0
 ClosesIf None old new = new ≡ old
 ClosesIf (Some n) old new = ClosesOne n old new
 
 -- its sockets are closed, first that of UDP
-pub record Closes (dhcp : Dhcp) (old new : Host) : Type 0 where
-  pub between : Host
+pub record Closes (dhcp : Dhcp) (old new : IfaceHost) : Type 0 where
+  pub between : IfaceHost
   pub udp : ClosesOne dhcp.socket old between
   pub raw : ClosesIf dhcp.broadcast between new

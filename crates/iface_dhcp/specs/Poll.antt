@@ -10,7 +10,7 @@ use Rattle.dhcp_client.specs.declared.lease.DhcpEvent.{DhcpEvent}
 use Rattle.dhcp_client.specs.declared.messages.DhcpMessage.{DhcpMessage}
 use Rattle.iface_host.specs.Refusals.{kind_at, moment_refusal, of_socket}
 use Rattle.iface_host.specs.TableRefusals.{first_reason}
-use Rattle.iface_host.specs.declared.host.Host.{Host}
+use Rattle.iface_host.specs.declared.host.IfaceHost.{IfaceHost}
 use Rattle.iface_host.specs.declared.refusal.Refusal.{Refusal}
 use Rattle.iface_host.specs.declared.refusal.Refusal.TheVariants.{NoSocket}
 use Rattle.iface_dhcp.specs.declared.dhcp.Dhcp.{Dhcp}
@@ -18,7 +18,7 @@ use Rattle.iface_dhcp.specs.Hear.{HearsAll}
 use Rattle.iface_dhcp.specs.Send.{ClosesSent, Sends}
 
 -- the host has no UDP socket of this number
-abbrev pub socket_refusal : Host → ℕ → Option Refusal
+abbrev pub socket_refusal : IfaceHost → ℕ → Option Refusal
 socket_refusal host n = of_socket (λ (s : UdpSocket). None) (kind_at down_udp host n)
 
 abbrev pub is_no_socket : Refusal → Bool
@@ -26,11 +26,11 @@ is_no_socket NoSocket = true
 is_no_socket other = false
 
 -- the moment is out of range, or the client's socket isn't there
-abbrev pub poll_refusal : ℤ → ℕ → Host → Option Refusal
+abbrev pub poll_refusal : ℤ → ℕ → IfaceHost → Option Refusal
 poll_refusal now n host = first_reason (moment_refusal now) (socket_refusal host n)
 
 -- so many datagrams wait at a UDP socket
-pub record IsWaiting (n count : ℕ) (host : Host) : Type 0 where
+pub record IsWaiting (n count : ℕ) (host : IfaceHost) : Type 0 where
   pub socket : UdpSocket
   pub is_there : kind_at down_udp host n ≡ Some socket
   pub packets : count ≡ length socket.rx.packets
@@ -52,24 +52,24 @@ after_asking now d =
     drawn (messages.message_at now (word d) d.client) (with_client d (messages.after_asking now (word d) d.client))
 
 -- a message, if there is one, is queued
-abbrev pub SendsIf : Option DhcpMessage → Dhcp → Dhcp → Host → Host → Type 0
+abbrev pub SendsIf : Option DhcpMessage → Dhcp → Dhcp → IfaceHost → IfaceHost → Type 0
 SendsIf None d d' old new = (d' ≡ d) × (new ≡ old)
 SendsIf (Some m) d d' old new = Sends m d d' old new
 
-abbrev pub SendsNext : ℕ → Dhcp → Dhcp → Host → Host → Type 0
+abbrev pub SendsNext : ℕ → Dhcp → Dhcp → IfaceHost → IfaceHost → Type 0
 SendsNext now d = SendsIf (messages.message_at now (word d) d.client) (after_asking now d)
 
 -- first it hears the datagrams that wait; then the raw socket is closed, if nothing waits there; then what is due is queued;
 -- and its owner is told of the lease
-pub record Polls (now : ℤ) (told : Option DhcpEvent) (d d' : Dhcp) (old new : Host) : Type 0 where
+pub record Polls (now : ℤ) (told : Option DhcpEvent) (d d' : Dhcp) (old new : IfaceHost) : Type 0 where
   pub micros : ℕ
   pub is_now : pos micros ≡ now
   pub count : ℕ
   pub heard : Dhcp
   pub closed : Dhcp
   pub sent : Dhcp
-  pub after_hearing : Host
-  pub after_closing : Host
+  pub after_hearing : IfaceHost
+  pub after_closing : IfaceHost
   pub waiting : IsWaiting d.socket count old
   pub hears : HearsAll d.socket count d.client heard.client old after_hearing
   pub others : heard ≡ with_client d heard.client

@@ -6,14 +6,14 @@ ghost use Rattle.iface_host.specs.Stands.{Stays};
 
 use crate::dhcp::Dhcp;
 use dhcp_client::DhcpLease;
-use iface_host::{Host, Leased, Refusal};
+use iface_host::{IfaceHost, Leased, Refusal};
 use ip_wire::{Ipv4Address, Ipv4Cidr};
 
 impl Dhcp {
     /// Gives a host the address and the default route of the client's lease, in place of those that the client gave it before;
-    /// none, if there is no lease. Where they are the same nothing changes. It fails as [`Host::replace_leased`] does; then
+    /// none, if there is no lease. Where they are the same nothing changes. It fails as [`IfaceHost::replace_leased`] does; then
     /// nothing changes.
-    pub fn apply(&mut self, host: &mut Host) -> Result<(), Refusal>
+    pub fn apply(&mut self, host: &mut IfaceHost) -> Result<(), Refusal>
         ensures applied { OnOk result (spec.Applies self.old self.new host.old host.new) }
         ensures why { result_err result ≡ spec.apply_refusal self.old host.old }
         ensures dhcp { OnErr result (self.new ≡ self.old) }

@@ -7,7 +7,7 @@ ghost use Rattle.iface_host.specs.declared.refusal.Refusal.{Refusal};
 
 use dhcp_client::message::CLIENT_PORT;
 use dhcp_client::{DhcpClient, DhcpLease};
-use iface_host::{Host, Leased, Refusal, Room, Rooms};
+use iface_host::{IfaceHost, Leased, Refusal, Room, Rooms};
 use ip_wire::Ipv4Address;
 use net_base::rand::Rand;
 use sockets::IpListenEndpoint;
@@ -58,7 +58,7 @@ impl Dhcp {
     /// host stays unchanged.
     pub fn new(
         alloc: Global,
-        host: &mut Host,
+        host: &mut IfaceHost,
         settings: &DhcpSettings,
     ) -> Result<Box<Dhcp>, Refusal>
         ensures made { IfOk result (λ dhcp. spec.IsNew settings.now dhcp.value host.old host.new) }
@@ -117,7 +117,7 @@ impl Dhcp {
     }
 
     /// Closes the client's sockets of a host.
-    pub fn close(&mut self, host: &mut Host)
+    pub fn close(&mut self, host: &mut IfaceHost)
         ensures sockets { spec.Closes self.old host.old host.new }
         ensures dhcp { self.new ≡ record self.old { broadcast = None } }
     {
@@ -128,14 +128,14 @@ impl Dhcp {
 }
 
 /// Closes a socket of a host, if it is open.
-fn close_one(host: &mut Host, number: u32)
+fn close_one(host: &mut IfaceHost, number: u32)
     ensures { spec.ClosesOne number host.old host.new }
 {
     let _ = host.close(number);
 }
 
 /// The same, if there is one.
-fn close_if(host: &mut Host, number: &Option<u32>)
+fn close_if(host: &mut IfaceHost, number: &Option<u32>)
     ensures { spec.ClosesIf number.now host.old host.new }
 {
     if let Some(number) = number {

@@ -4,10 +4,10 @@ ghost use Rattle.iface_dhcp.specs.Hear.{Hears, HearsAll};
 
 use crate::dhcp::RECEIVED_LEN;
 use dhcp_client::{DhcpClient, receive_datagram};
-use iface_host::Host;
+use iface_host::IfaceHost;
 
 /// Hands the first so many datagrams of a socket to a client, one after another, and drops them.
-pub(crate) fn hear(client: &mut DhcpClient, host: &mut Host, socket: u32, count: usize)
+pub(crate) fn hear(client: &mut DhcpClient, host: &mut IfaceHost, socket: u32, count: usize)
     ensures { HearsAll socket count client.old client.new host.old host.new }
 {
     for _ in 0..count {
@@ -17,7 +17,7 @@ pub(crate) fn hear(client: &mut DhcpClient, host: &mut Host, socket: u32, count:
 
 /// Hands the first datagram of a socket to a client, and drops it, if it isn't longer than the client's messages are.
 #[inline(never)]
-fn hear_first(client: &mut DhcpClient, host: &mut Host, socket: u32)
+fn hear_first(client: &mut DhcpClient, host: &mut IfaceHost, socket: u32)
     ensures { Hears socket client.old client.new host.old host.new }
 {
     let mut octets = [0u8; RECEIVED_LEN];

@@ -9,7 +9,7 @@ ghost use Rattle.sockets.specs.Kinds.{down_udp};
 use crate::dhcp::Dhcp;
 use crate::hear::hear;
 use dhcp_client::{DhcpEvent, DhcpMessage};
-use iface_host::{Host, Refusal};
+use iface_host::{IfaceHost, Refusal};
 
 impl Dhcp {
     /// Does what is due at a moment: hands the client what came to its socket, queues the message that is to be sent now, if
@@ -17,7 +17,7 @@ impl Dhcp {
     /// is out of range, else `NoSocket` if the host doesn't have the client's socket; then nothing changes.
     ///
     /// A message that can't be queued counts as lost, and is sent again later.
-    pub fn poll(&mut self, host: &mut Host, now: i64) -> Result<Option<DhcpEvent>, Refusal>
+    pub fn poll(&mut self, host: &mut IfaceHost, now: i64) -> Result<Option<DhcpEvent>, Refusal>
         ensures polled { IfOk result (λ event. spec.Polls now event self.old self.new host.old host.new) }
         ensures why { result_err result ≡ spec.poll_refusal now self.old.socket host.old }
         ensures refused { OnErr result (self.new ≡ self.old) }
@@ -33,7 +33,7 @@ impl Dhcp {
     }
 
     /// Queues the message that is to be sent at an instant, if there is one.
-    fn send_next(&mut self, host: &mut Host, now: u64)
+    fn send_next(&mut self, host: &mut IfaceHost, now: u64)
         ensures { spec.SendsNext now self.old self.new host.old host.new }
     {
         if let Some(message) = self.next_message(now) {
@@ -66,7 +66,7 @@ fn micros_of(now: i64) -> Result<u64, Refusal>
 }
 
 /// How many datagrams wait at a UDP socket. `NoSocket` if the host has no UDP socket of this number.
-fn waiting_at(host: &Host, number: u32) -> Result<usize, Refusal>
+fn waiting_at(host: &IfaceHost, number: u32) -> Result<usize, Refusal>
     ensures count { IfOk result (λ count. spec.IsWaiting number count host.now) }
     ensures why { result_err result ≡ spec.socket_refusal host.now number }
 {
@@ -80,7 +80,7 @@ fn waiting_at(host: &Host, number: u32) -> Result<usize, Refusal>
 }
 
 /// Whether the host has a UDP socket of this number.
-fn is_there(host: &Host, number: u32) -> bool
+fn is_there(host: &IfaceHost, number: u32) -> bool
     ensures { result ≡ is_some (kind_at down_udp host.now number) }
 {
     let mut nothing = [0u8; 0];

@@ -6,7 +6,7 @@ ghost use Rattle.iface_dhcp.specs.Send as spec;
 
 use crate::dhcp::Dhcp;
 use dhcp_client::{DhcpMessage, DhcpRoom, server_of};
-use iface_host::{Host, Room, Rooms};
+use iface_host::{IfaceHost, Room, Rooms};
 use ip_wire::{IpProtocol, IpVersion};
 
 /// What the raw socket holds: one message with its headers, and nothing that came.
@@ -24,7 +24,7 @@ const ROOMS: Rooms = Rooms {
 impl Dhcp {
     /// Queues a message: at a raw socket, which is opened for it, if it goes to all servers, else at the client's UDP socket.
     /// One for which there is no room counts as lost.
-    pub(crate) fn send(&mut self, host: &mut Host, message: &DhcpMessage)
+    pub(crate) fn send(&mut self, host: &mut IfaceHost, message: &DhcpMessage)
         ensures { spec.Sends message.now self.old self.new host.old host.new }
     {
         if message.dst.is_broadcast() {
@@ -35,7 +35,7 @@ impl Dhcp {
     }
 
     /// Queues a message at the raw socket, which is opened if it isn't open.
-    fn send_to_all(&mut self, host: &mut Host, message: &DhcpMessage)
+    fn send_to_all(&mut self, host: &mut IfaceHost, message: &DhcpMessage)
         ensures { spec.SendsToAll message.now self.old self.new host.old host.new }
     {
         if let Some(number) = self.broadcast {
@@ -49,7 +49,7 @@ impl Dhcp {
     }
 
     /// Closes the raw socket, if it is open and nothing waits there.
-    pub(crate) fn close_sent(&mut self, host: &mut Host)
+    pub(crate) fn close_sent(&mut self, host: &mut IfaceHost)
         ensures { spec.ClosesSent self.old self.new host.old host.new }
     {
         let Some(number) = self.broadcast else {
@@ -64,7 +64,7 @@ impl Dhcp {
 }
 
 /// Whether a packet waits to be sent at a socket.
-fn is_waiting(host: &Host, number: u32) -> bool
+fn is_waiting(host: &IfaceHost, number: u32) -> bool
     ensures { result ≡ spec.is_waiting host.now number }
 {
     match host.queues(number) {
@@ -75,7 +75,7 @@ fn is_waiting(host: &Host, number: u32) -> bool
 
 /// Queues a message at a UDP socket, for port 67 of its destination.
 #[inline(never)]
-fn send_to_server(host: &mut Host, socket: u32, message: &DhcpMessage)
+fn send_to_server(host: &mut IfaceHost, socket: u32, message: &DhcpMessage)
     ensures { spec.SendsToServer socket message.now host.old host.new }
 {
     let mut room = DhcpRoom::new();
@@ -85,7 +85,7 @@ fn send_to_server(host: &mut Host, socket: u32, message: &DhcpMessage)
 
 /// Queues a message at a raw socket, as a packet.
 #[inline(never)]
-fn send_packet(host: &mut Host, number: u32, message: &DhcpMessage)
+fn send_packet(host: &mut IfaceHost, number: u32, message: &DhcpMessage)
     ensures { spec.SendsPacket number message.now host.old host.new }
 {
     let mut room = DhcpRoom::new();

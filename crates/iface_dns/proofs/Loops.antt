@@ -3,7 +3,7 @@ use Rattle.std.proofs.Common.{◌≡◌, ◌<◌, ◌≤◌, ◌+◌, ◌-◌, �
 use Rattle.sockets.specs.declared.endpoint.IpEndpoint.{IpEndpoint}
 use Rattle.dns_client.specs.DnsResolver.Places.{Queries}
 use Rattle.dns_client.specs.Datagrams.{after_receiving}
-use Rattle.iface_host.specs.declared.host.Host.{Host}
+use Rattle.iface_host.specs.declared.host.IfaceHost.{IfaceHost}
 use Rattle.iface_dns.specs.Dns as dns
 use Rattle.iface_dns.specs.Dns.{ClosesAt, ClosesFrom}
 use Rattle.iface_dns.specs.Hear as hear
@@ -19,12 +19,12 @@ one_less count at lt = omega arith
 none_left : (count at : ℕ) → count ≤ at → zero ≡ count - at
 none_left count at le = omega arith
 
-pub heard_one : (n port count at : ℕ) (r between r' : Queries) (old mid new : Host) → at < count → Hears n port r between old mid →
+pub heard_one : (n port count at : ℕ) (r between r' : Queries) (old mid new : IfaceHost) → at < count → Hears n port r between old mid →
     HearsAll n port (count - (at + 1)) between r' mid new → HearsAll n port (count - at) r r' old new
 heard_one n port count at r between r' old mid new lt first rest =
     subst (λ (k : ℕ). HearsAll n port k r r' old new) (one_less count at lt) (hear.OneMore first rest)
 
-pub heard_all : (n port count at : ℕ) (r : Queries) (host : Host) → count ≤ at → HearsAll n port (count - at) r r host host
+pub heard_all : (n port count at : ℕ) (r : Queries) (host : IfaceHost) → count ≤ at → HearsAll n port (count - at) r r host host
 heard_all n port count at r host le = subst (λ (k : ℕ). HearsAll n port k r r host host) (none_left count at le) hear.NoMore
 
 pub handed_one : (from : IpEndpoint) (port : ℕ) (octets : List ℕ) (count at : ℕ) (r : Queries) → at < count →
@@ -43,18 +43,18 @@ unfolding handed
 handed_all from port octets count at r le =
     subst (λ (k : ℕ). r ≡ handed from port octets k at r) (none_left count at le) refl
 
-pub polled_one : (now count at : ℕ) (d between d' : Dns) (old mid new : Host) → at < count → PollsAt now at d between old mid →
+pub polled_one : (now count at : ℕ) (d between d' : Dns) (old mid new : IfaceHost) → at < count → PollsAt now at d between old mid →
     PollsFrom now (count - (at + 1)) (at + 1) between d' mid new → PollsFrom now (count - at) at d d' old new
 polled_one now count at d between d' old mid new lt first rest =
     subst (λ (k : ℕ). PollsFrom now k at d d' old new) (one_less count at lt) (poll.OneMore first rest)
 
-pub polled_all : (now count at : ℕ) (d : Dns) (host : Host) → count ≤ at → PollsFrom now (count - at) at d d host host
+pub polled_all : (now count at : ℕ) (d : Dns) (host : IfaceHost) → count ≤ at → PollsFrom now (count - at) at d d host host
 polled_all now count at d host le = subst (λ (k : ℕ). PollsFrom now k at d d host host) (none_left count at le) poll.NoMore
 
-pub closed_one : (count at : ℕ) (d between d' : Dns) (old mid new : Host) → at < count → ClosesAt at d between old mid →
+pub closed_one : (count at : ℕ) (d between d' : Dns) (old mid new : IfaceHost) → at < count → ClosesAt at d between old mid →
     ClosesFrom (count - (at + 1)) (at + 1) between d' mid new → ClosesFrom (count - at) at d d' old new
 closed_one count at d between d' old mid new lt first rest =
     subst (λ (k : ℕ). ClosesFrom k at d d' old new) (one_less count at lt) (dns.OneMore first rest)
 
-pub closed_all : (count at : ℕ) (d : Dns) (host : Host) → count ≤ at → ClosesFrom (count - at) at d d host host
+pub closed_all : (count at : ℕ) (d : Dns) (host : IfaceHost) → count ≤ at → ClosesFrom (count - at) at d d host host
 closed_all count at d host le = subst (λ (k : ℕ). ClosesFrom k at d d host host) (none_left count at le) dns.NoMore

@@ -8,7 +8,7 @@ use Rattle.dns_client.specs.DnsResolver.Resolver as resolver
 use Rattle.dns_client.specs.DnsResolver.Resolver.{with_place}
 use Rattle.iface_host.specs.Refusals.{close_refusal}
 use Rattle.iface_host.specs.Sockets as sockets
-use Rattle.iface_host.specs.declared.host.Host.{Host}
+use Rattle.iface_host.specs.declared.host.IfaceHost.{IfaceHost}
 use Rattle.iface_host.specs.declared.refusal.Refusal.{Refusal}
 use Rattle.iface_dns.specs.declared.dns.Dns.{Dns}
 
@@ -34,31 +34,31 @@ abbrev pub poll_at : Dns → Option ℤ
 poll_at d = option_map (λ at. pos (min at 0x4000_0000_0000_0000)) (resolver.poll_at d.resolver)
 
 -- what a call of the host does unless it is refused, when it leaves the host as it is
-abbrev pub Unless : Option Refusal → (Host → Host → Type 0) → Host → Host → Type 0
+abbrev pub Unless : Option Refusal → (IfaceHost → IfaceHost → Type 0) → IfaceHost → IfaceHost → Type 0
 Unless None Step old new = Step old new
 Unless (Some refusal) Step old new = new ≡ old
 
 -- a socket is closed, if it is open
-abbrev pub ClosesOne : ℕ → Host → Host → Type 0
+abbrev pub ClosesOne : ℕ → IfaceHost → IfaceHost → Type 0
 ClosesOne n old new = Unless (close_refusal old n) (sockets.Closes n) old new
 
 -- that of a place is closed, if it has one
-abbrev pub ClosesIf : Option ℕ → ℕ → Dns → Dns → Host → Host → Type 0
+abbrev pub ClosesIf : Option ℕ → ℕ → Dns → Dns → IfaceHost → IfaceHost → Type 0
 ClosesIf None place d d' old new = (d' ≡ d) × (new ≡ old)
 ClosesIf (Some n) place d d' old new = (d' ≡ with_socket place None d) × ClosesOne n old new
 
-abbrev pub ClosesAt : ℕ → Dns → Dns → Host → Host → Type 0
+abbrev pub ClosesAt : ℕ → Dns → Dns → IfaceHost → IfaceHost → Type 0
 ClosesAt place d = ClosesIf (socket_at d place) place d
 
 -- those of so many places from one on, one after another
-pub data ClosesFrom : ℕ → ℕ → Dns → Dns → Host → Host → Type 0 where
-  NoMore : {place : ℕ} {d : Dns} {host : Host} → ClosesFrom zero place d d host host
-  OneMore : {k place : ℕ} {d between d' : Dns} {old mid new : Host} → ClosesAt place d between old mid →
+pub data ClosesFrom : ℕ → ℕ → Dns → Dns → IfaceHost → IfaceHost → Type 0 where
+  NoMore : {place : ℕ} {d : Dns} {host : IfaceHost} → ClosesFrom zero place d d host host
+  OneMore : {k place : ℕ} {d between d' : Dns} {old mid new : IfaceHost} → ClosesAt place d between old mid →
       ClosesFrom k (place + 1) between d' mid new → ClosesFrom (suc k) place d d' old new
 
-abbrev pub Closes : Dns → Dns → Host → Host → Type 0
+abbrev pub Closes : Dns → Dns → IfaceHost → IfaceHost → Type 0
 Closes d = ClosesFrom (length d.sockets) 0 d
 
 -- a query is cancelled, and its socket closed
-abbrev pub Cancels : ℕ → Dns → Dns → Host → Host → Type 0
+abbrev pub Cancels : ℕ → Dns → Dns → IfaceHost → IfaceHost → Type 0
 Cancels place d = ClosesAt place (with_resolver (with_place place None d.resolver) d)

@@ -10,7 +10,7 @@ use Rattle.dns_client.specs.DnsResolver.Resolver.{free_in, has_server, next_port
 use Rattle.iface_host.specs.Refusals.{moment_refusal}
 use Rattle.iface_host.specs.Sockets.{Opens, udp}
 use Rattle.iface_host.specs.TableRefusals as table
-use Rattle.iface_host.specs.declared.host.Host.{Host}
+use Rattle.iface_host.specs.declared.host.IfaceHost.{IfaceHost}
 use Rattle.iface_host.specs.declared.opening.Rooms.{Rooms}
 use Rattle.iface_host.specs.declared.refusal.Refusal.{Refusal}
 use Rattle.iface_host.specs.declared.refusal.Refusal.TheVariants.{TableFull}
@@ -30,10 +30,10 @@ abbrev pub local : Dns → IpListenEndpoint
 local d = record { addr = None; port = next_port d.resolver }
 
 -- the socket of the query that is started next
-abbrev pub OpensNext : Dns → ℕ → Host → Host → Type 0
+abbrev pub OpensNext : Dns → ℕ → IfaceHost → IfaceHost → Type 0
 OpensNext d = Opens (udp (local d) rooms)
 
-abbrev pub opening_refusal : Host → Option Refusal
+abbrev pub opening_refusal : IfaceHost → Option Refusal
 opening_refusal host = table.opening_refusal host
 
 -- each place has a query
@@ -57,7 +57,7 @@ abbrev pub or_else : Option StartRefusal → Option Refusal → Option StartRefu
 or_else None second = option_map (λ e. Refused e) second
 or_else (Some e) second = Some e
 
-abbrev pub start_refusal : ℤ → List ℕ → Dns → Host → Option StartRefusal
+abbrev pub start_refusal : ℤ → List ℕ → Dns → IfaceHost → Option StartRefusal
 start_refusal now text d host = or_else (read_refusal now text d) (opening_refusal host)
 
 -- a moment and a text were read, and a query may be started
@@ -67,7 +67,7 @@ pub record Reads (now : ℤ) (text : List ℕ) (d : Dns) (micros : ℕ) (name : 
   pub place : is_some (free_in d.resolver.places) ≡ true
 
 -- a query is started in the first free place, and has a socket at its port
-pub record Starts (now : ℤ) (text : List ℕ) (type : DnsType) (place : ℕ) (d d' : Dns) (old new : Host) : Type 0 where
+pub record Starts (now : ℤ) (text : List ℕ) (type : DnsType) (place : ℕ) (d d' : Dns) (old new : IfaceHost) : Type 0 where
   pub micros : ℕ
   pub name : List ℕ
   pub number : ℕ

@@ -5,7 +5,7 @@ ghost use Rattle.iface_dns.specs.Ask as spec;
 use crate::dns::Dns;
 use dns_client::dns_resolver::{DnsMessage, QueryHandle};
 use dns_client::message::SERVER_PORT;
-use iface_host::Host;
+use iface_host::IfaceHost;
 use ip_wire::emit::FrameBuffer;
 use sockets::IpEndpoint;
 
@@ -13,7 +13,7 @@ impl Dns {
     /// Lets a query do what is due at an instant, and queues its message at its socket, if it sends one now. A message for which
     /// there is no room counts as lost.
     #[inline(never)]
-    pub(crate) fn ask(&mut self, host: &mut Host, now: u64, place: usize)
+    pub(crate) fn ask(&mut self, host: &mut IfaceHost, now: u64, place: usize)
         ensures { spec.Asks now place self.old self.new host.old host.new }
     {
         let mut text = FrameBuffer::new();
@@ -26,7 +26,7 @@ impl Dns {
     }
 
     /// Queues a message at the socket of a place, if there are both.
-    fn send(&self, host: &mut Host, place: usize, message: &Option<DnsMessage>, text: &[u8])
+    fn send(&self, host: &mut IfaceHost, place: usize, message: &Option<DnsMessage>, text: &[u8])
         ensures { spec.SendsIf message.now (spec.socket_at self.now place) text.now host.old host.new }
     {
         if let Some(message) = message {

@@ -7,7 +7,7 @@ ghost use Rattle.iface_host.specs.declared.refusal.Refusal.{Refusal};
 use crate::open_sockets::OpenSockets;
 use dns_client::DnsResult;
 use dns_client::dns_resolver::{NoSuchQuery, QueryHandle, Resolver};
-use iface_host::{Host, Refusal};
+use iface_host::{IfaceHost, Refusal};
 use ip_wire::IpAddress;
 use std::alloc::Global;
 use tcp_host::sip_hash::SipKey;
@@ -75,7 +75,7 @@ impl Dns {
 
     /// Frees the place of a query, whatever has become of it, and closes its socket of the host, if it has one. `NoSuchQuery` if
     /// the handle names none; then nothing changes.
-    pub fn cancel(&mut self, host: &mut Host, handle: QueryHandle) -> Result<(), NoSuchQuery>
+    pub fn cancel(&mut self, host: &mut IfaceHost, handle: QueryHandle) -> Result<(), NoSuchQuery>
         ensures ok { is_ok result ≡ is_some (resolver.at self.old.resolver handle.place) }
         ensures cancelled { OnOk result (spec.Cancels handle.place self.old self.new host.old host.new) }
         ensures refused { OnErr result (self.new ≡ self.old) }
@@ -87,7 +87,7 @@ impl Dns {
     }
 
     /// Closes the sockets of all queries.
-    pub fn close(&mut self, host: &mut Host)
+    pub fn close(&mut self, host: &mut IfaceHost)
         ensures { spec.Closes self.old self.new host.old host.new }
     {
         let count = self.sockets.places();
@@ -97,7 +97,7 @@ impl Dns {
     }
 
     /// Closes the socket of a place, if it has one.
-    pub(crate) fn close_at(&mut self, host: &mut Host, place: usize)
+    pub(crate) fn close_at(&mut self, host: &mut IfaceHost, place: usize)
         ensures { spec.ClosesAt place self.old self.new host.old host.new }
     {
         if let Some(number) = self.sockets.get(place) {
@@ -108,7 +108,7 @@ impl Dns {
 }
 
 /// Closes a socket of a host, if it is open.
-fn close_one(host: &mut Host, number: u32)
+fn close_one(host: &mut IfaceHost, number: u32)
     ensures { spec.ClosesOne number host.old host.new }
 {
     let _ = host.close(number);

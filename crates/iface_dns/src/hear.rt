@@ -6,7 +6,7 @@ ghost use Rattle.iface_dns.specs.Hear as spec;
 use crate::dns::Dns;
 use dns_client::dns_resolver::{QueryHandle, Resolver};
 use dns_client::port_of;
-use iface_host::Host;
+use iface_host::IfaceHost;
 use sockets::IpEndpoint;
 
 /// The most octets that wait at a query's socket: as many as two messages of the greatest length have (RFC 1035 4.2.1).
@@ -14,7 +14,7 @@ pub const RECEIVED_LEN: usize = 1024;
 
 impl Dns {
     /// Hands the datagrams that wait at the socket of a query to the queries of its port, and drops them.
-    pub(crate) fn hear(&mut self, host: &mut Host, place: usize)
+    pub(crate) fn hear(&mut self, host: &mut IfaceHost, place: usize)
         ensures { spec.HearsAt place self.old self.new host.old host.new }
     {
         let Some(number) = self.sockets.get(place) else {
@@ -29,7 +29,7 @@ impl Dns {
 }
 
 /// How many packets wait at a socket; none, if there is none.
-fn waiting_at(host: &Host, number: u32) -> usize
+fn waiting_at(host: &IfaceHost, number: u32) -> usize
     ensures { result ≡ spec.waiting_at host.now number }
 {
     match host.queues(number) {
@@ -39,7 +39,7 @@ fn waiting_at(host: &Host, number: u32) -> usize
 }
 
 /// Hands the first so many datagrams of a socket of a port to queries, one after another, and drops them.
-fn hear_all(resolver: &mut Resolver, host: &mut Host, number: u32, port: u16, count: usize)
+fn hear_all(resolver: &mut Resolver, host: &mut IfaceHost, number: u32, port: u16, count: usize)
     ensures { spec.HearsAll number port count resolver.old resolver.new host.old host.new }
 {
     for _ in 0..count {
@@ -49,7 +49,7 @@ fn hear_all(resolver: &mut Resolver, host: &mut Host, number: u32, port: u16, co
 
 /// Hands the first datagram of a socket of a port to queries, and drops it, if it isn't longer than answers are.
 #[inline(never)]
-fn hear_first(resolver: &mut Resolver, host: &mut Host, number: u32, port: u16)
+fn hear_first(resolver: &mut Resolver, host: &mut IfaceHost, number: u32, port: u16)
     ensures { spec.Hears number port resolver.old resolver.new host.old host.new }
 {
     let mut octets = [0u8; RECEIVED_LEN];

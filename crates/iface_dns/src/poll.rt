@@ -8,7 +8,7 @@ use crate::dns::Dns;
 use dns_client::DnsResult;
 use dns_client::dns_resolver::{QueryHandle, Resolver};
 use iface_host::streams::micros_of;
-use iface_host::{Host, Refusal};
+use iface_host::{IfaceHost, Refusal};
 
 impl Dns {
     /// Does what is due at a moment, for one query after another: hands it what came to its socket, queues the message that it sends
@@ -16,7 +16,7 @@ impl Dns {
     /// nothing changes.
     ///
     /// A message that can't be queued counts as lost. A query whose socket the host doesn't have hears nothing, and times out.
-    pub fn poll(&mut self, host: &mut Host, now: i64) -> Result<(), Refusal>
+    pub fn poll(&mut self, host: &mut IfaceHost, now: i64) -> Result<(), Refusal>
         ensures polled { OnOk result (spec.Polls now self.old self.new host.old host.new) }
         ensures why { result_err result ≡ moment_refusal now }
         ensures refused { OnErr result (self.new ≡ self.old) }
@@ -28,7 +28,7 @@ impl Dns {
     }
 
     /// Does what is due at an instant for each query.
-    fn poll_each(&mut self, host: &mut Host, now: u64)
+    fn poll_each(&mut self, host: &mut IfaceHost, now: u64)
         ensures { spec.PollsFrom now (length self.old.sockets) 0 self.old self.new host.old host.new }
     {
         let count = self.sockets.places();
@@ -38,7 +38,7 @@ impl Dns {
     }
 
     /// Does what is due at an instant for the query of a place, if there is one.
-    fn poll_at_place(&mut self, host: &mut Host, now: u64, place: usize)
+    fn poll_at_place(&mut self, host: &mut IfaceHost, now: u64, place: usize)
         ensures { spec.PollsAt now place self.old self.new host.old host.new }
     {
         self.hear(host, place);
@@ -47,7 +47,7 @@ impl Dns {
     }
 
     /// Closes the socket of a place whose query doesn't wait.
-    fn close_done(&mut self, host: &mut Host, place: usize)
+    fn close_done(&mut self, host: &mut IfaceHost, place: usize)
         ensures { spec.ClosesDone place self.old self.new host.old host.new }
     {
         if !waits(&self.resolver, place) {

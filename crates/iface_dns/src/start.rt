@@ -12,7 +12,7 @@ use dns_client::dns_resolver::QueryHandle;
 use dns_client::message::MAX_QUERY_LEN;
 use dns_client::text::{Name, name_of};
 use iface_host::streams::micros_of;
-use iface_host::{Host, Refusal, Room, Rooms};
+use iface_host::{IfaceHost, Refusal, Room, Rooms};
 use sockets::IpListenEndpoint;
 
 /// What a query's socket holds: some answers that came, and one question.
@@ -47,7 +47,7 @@ impl Dns {
     /// The query stays until it is cancelled. The next poll sends its first message.
     pub fn start(
         &mut self,
-        host: &mut Host,
+        host: &mut IfaceHost,
         now: i64,
         text: &[u8],
         query_type: DnsType,
@@ -98,7 +98,7 @@ impl Dns {
     }
 
     /// Opens the socket of the query that is started next, at any address of the host.
-    fn open_next(&self, host: &mut Host) -> Result<u32, Refusal>
+    fn open_next(&self, host: &mut IfaceHost) -> Result<u32, Refusal>
         ensures opened { IfOk result (λ number. spec.OpensNext self.now number host.old host.new) }
         ensures why { (e : Refusal) → spec.opening_refusal host.old ≡ Some e → IsErrOf result e }
         ensures memory { spec.opening_refusal host.old ≡ None → IfErr result (λ e. e ≡ Refusal.NoMemory) }

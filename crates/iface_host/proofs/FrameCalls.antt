@@ -38,7 +38,7 @@ use Rattle.iface_host.specs.RoundDevice.{KeepsRest, frames_in, len_or_zero}
 use Rattle.iface_host.specs.declared.round_device.RoundDevice.{RoundDevice}
 use Rattle.iface_host.specs.Stands.{capabilities_of}
 use Rattle.iface_host.specs.declared.counters.FrameCounts.{FrameCounts}
-use Rattle.iface_host.specs.declared.host.Host.{Host}
+use Rattle.iface_host.specs.declared.host.IfaceHost.{IfaceHost}
 use Rattle.iface_host.specs.declared.host.Settings.{Settings}
 use Rattle.iface_host.specs.declared.refusal.Refusal.{Refusal}
 
@@ -93,7 +93,7 @@ admits_as t frame hardware hardware' same_hardware own own' same known known' sa
 
 pub arrives_as : (t : ℤ) (frame : List ℕ) (hardware hardware' : Option HardwareAddress) → hardware ≡ hardware' →
     (own own' : List IpCidr) → own ≡ own' → (known known' : Neighbors) → known ≡ known' → (waits waits' : Waits) → waits ≡ waits' →
-    (host : Host) (w : Watch) → w ≡ guard.after_arrival t frame hardware own known waits host.watch →
+    (host : IfaceHost) (w : Watch) → w ≡ guard.after_arrival t frame hardware own known waits host.watch →
     record host { watch = w } ≡ record host { watch = guard.after_arrival t frame hardware' own' known' waits' host.watch }
 arrives_as t frame hardware hardware' same_hardware own own' same known known' same' waits waits' same_waits host w is =
     ap (λ (v : Watch). record host { watch = v }) (is
@@ -103,7 +103,7 @@ arrives_as t frame hardware hardware' same_hardware own own' same known known' s
     ∙ ap (λ (x : Waits). guard.after_arrival t frame hardware' own' known' x host.watch) same_waits)
 
 -- a frame was taken
-pub received : (t : ℤ) (frame : List ℕ) (n : ℕ) (before after : List ℕ) (old : Host) (i : Interface) (s : Sockets (Bor (Unit {0})))
+pub received : (t : ℤ) (frame : List ℕ) (n : ℕ) (before after : List ℕ) (old : IfaceHost) (i : Interface) (s : Sockets (Bor (Unit {0})))
     (shown result : Option (List ℕ)) → result ≡ shown → IsWritten (let_go t shown (length frame) old.watch) n before after →
     HostRefinesReceiving t frame result (interfaces.StandsFor old.interface.value old.sockets) (interfaces.StandsFor i s) →
     (changed : Bool) → changed ≡ (old.changed || not (length frame == 0)) → (counts : FrameCounts) →
@@ -136,21 +136,21 @@ received t frame n before after old i s shown result is written r changed change
 }
 
 -- at the moment that was tested
-pub admitted : (t t' : ℤ) → t' ≡ t → (frame : List ℕ) (n : ℕ) (before after : List ℕ) (old mid new : Host) →
+pub admitted : (t t' : ℤ) → t' ≡ t → (frame : List ℕ) (n : ℕ) (before after : List ℕ) (old mid new : IfaceHost) →
     is_admitted t' frame old ≡ true → mid ≡ after_arrival t' frame old → Takes t' frame n before after mid new →
     Receives t frame n before after old new
 admitted t t' same frame n before after old mid new is mid_is takes =
     subst (λ (m : ℤ). Receives m frame n before after old new) same
-    (Admitted is (subst (λ (h : Host). Takes t' frame n before after h new) mid_is takes))
+    (Admitted is (subst (λ (h : IfaceHost). Takes t' frame n before after h new) mid_is takes))
 
-pub dropped : (t t' : ℤ) → t' ≡ t → (frame : List ℕ) (n : ℕ) (before after : List ℕ) (old mid new : Host) →
+pub dropped : (t t' : ℤ) → t' ≡ t → (frame : List ℕ) (n : ℕ) (before after : List ℕ) (old mid new : IfaceHost) →
     is_admitted t' frame old ≡ false → mid ≡ after_arrival t' frame old → Defends n before after mid new → Receives t frame n before after old new
 dropped t t' same frame n before after old mid new is mid_is defends =
     subst (λ (m : ℤ). Receives m frame n before after old new) same
-    (Dropped is (subst (λ (h : Host). Defends n before after h new) mid_is defends))
+    (Dropped is (subst (λ (h : IfaceHost). Defends n before after h new) mid_is defends))
 
 -- an announcement was written and counted, or none was owed
-pub defended : (n : ℕ) (before after : List ℕ) (old : Host) (hardware : Option HardwareAddress) → hardware ≡ hardware_addr_of old →
+pub defended : (n : ℕ) (before after : List ℕ) (old : IfaceHost) (hardware : Option HardwareAddress) → hardware ≡ hardware_addr_of old →
     (frame result : Option (List ℕ)) → result ≡ announced hardware old.watch.defence.owed → result ≡ frame →
     IsWritten frame n before after → (w : Watch) → w ≡ guard.after_defence old.watch → (counts : FrameCounts) →
     counts ≡ after_handing n old.frames → Defends n before after old (record old { watch = w; frames = counts })
@@ -163,7 +163,7 @@ defended n before after old hardware own frame result is shown written w w_is co
       ∙ ap (λ (f : FrameCounts). record old { watch = guard.after_defence old.watch; frames = f }) counts_is;
 }
 
-pub noted : (t t' : ℤ) → t' ≡ t → (n : ℕ) (before after : List ℕ) (old given new : Host) → Gives t' n before after old given →
+pub noted : (t t' : ℤ) → t' ≡ t → (n : ℕ) (before after : List ℕ) (old given new : IfaceHost) → Gives t' n before after old given →
     new ≡ after_sending t' (take n after) given → NextIs t n before after old new
 noted t t' same n before after old given new gives is =
     subst (λ (m : ℤ). NextIs m n before after old new) same (record { given = given; gives = gives; noted = is })
@@ -231,7 +231,7 @@ at_the_end t answer n n' same_n before after after' same_after o p p' same_p i i
     (subst (λ (x : Waiting). PollsInto t answer n before after o x i i' s s') (sym same_p) polls))
 
 -- a poll with the room that was reserved
-pub rounded : (t : ℤ) (n : ℕ) (out out' : List ℕ) (old : Host) (room : Waiting) → room ≡ with_room true old.outbox →
+pub rounded : (t : ℤ) (n : ℕ) (out out' : List ℕ) (old : IfaceHost) (room : Waiting) → room ≡ with_room true old.outbox →
     (left : Bool) → left ≡ is_piece_left old → (before after : Planned (Bor (Unit {0}))) →
     before ≡ before_round t old.ip_mtu left (planned old) →
     (answer : PollResult) (i : Interface) (polled : Sockets (Bor (Unit {0}))) (o : Waiting) →
@@ -273,7 +273,7 @@ rounded t n out out' old room is left left_is before after prepared answer i pol
 }
 
 -- when something is due, where no frame waits
-pub due : (t t' : ℤ) → t' ≡ t → (old : Host) (i : Interface) (end : Option ℤ) → old.outbox.frames ≡ [] →
+pub due : (t t' : ℤ) → t' ≡ t → (old : IfaceHost) (i : Interface) (end : Option ℤ) → old.outbox.frames ≡ [] →
     ((H : Machine) → interfaces.StandsFor old.interface.value old.sockets H → IsLeast (Due (at H t')) end) →
     ((H : Machine) → interfaces.StandsFor old.interface.value old.sockets H → interfaces.StandsFor i old.sockets (at H t')) →
     IsDue t end old (record old { interface = with_value old.interface i })
@@ -285,7 +285,7 @@ due t t' same old i end empty least moved = record {
 }
 
 -- and where one does
-pub due_at_once : (t t' : ℤ) → t' ≡ t → (old : Host) (i : Interface) → (length old.outbox.frames ≡ 0 → ⊥) →
+pub due_at_once : (t t' : ℤ) → t' ≡ t → (old : IfaceHost) (i : Interface) → (length old.outbox.frames ≡ 0 → ⊥) →
     ((H : Machine) → interfaces.StandsFor old.interface.value old.sockets H → interfaces.StandsFor i old.sockets (at H t')) →
     IsDue t (Some (pos 0)) old (record old { interface = with_value old.interface i })
 due_at_once t t' same old i waits moved = record {
@@ -296,7 +296,7 @@ due_at_once t t' same old i waits moved = record {
 }
 
 -- a round, where it wasn't refused
-pub of_round : (t : ℤ) (before after : List ℕ) (old new : Host) → old.outbox.frames ≡ [] → (answer : Result ℕ Refusal) →
+pub of_round : (t : ℤ) (before after : List ℕ) (old new : IfaceHost) → old.outbox.frames ≡ [] → (answer : Result ℕ Refusal) →
     IfOk answer (λ n. Round t n before after old new) → IfOk answer (λ n. Gives t n before after old new)
 of_round t before after old new none (Ok n) went = Made none went
 of_round t before after old new none (Err why) went = tt

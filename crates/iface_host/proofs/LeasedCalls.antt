@@ -12,7 +12,7 @@ use Rattle.iface_host.specs.Calls.{addr_room_of, addresses_of, route_room_of, ro
 use Rattle.iface_host.specs.Leased.{PutsLeased, Replaces, ReplacesLeased, Replaced, Kept, addresses_with, are_many_addresses, are_many_routes, leased_refusal, routes_with}
 use Rattle.iface_host.specs.Stands.{Follows}
 use Rattle.iface_host.specs.TableRefusals.{list_refusal}
-use Rattle.iface_host.specs.declared.host.Host.{Host}
+use Rattle.iface_host.specs.declared.host.IfaceHost.{IfaceHost}
 use Rattle.iface_host.specs.declared.leased.Leased.{Leased}
 use Rattle.iface_host.specs.declared.refusal.Refusal.{Refusal}
 use Rattle.iface_host.specs.declared.refusal.Refusal.TheVariants.{TableFull}
@@ -66,7 +66,7 @@ replaces_told : (list : List IpCidr) (routes : List Route) (r : Result (Unit {0}
 replaces_told list routes r H K (Replaced a answers same) = rw (answers, a) refl
 replaces_told list routes r H K (Kept a answers same) = rw (answers, a) refl
 
-pub leased_why : (host : Host) (i : Interface) (list : List IpCidr) (old new : Option Leased) (r : Result (Unit {0}) AddrError) →
+pub leased_why : (host : IfaceHost) (i : Interface) (list : List IpCidr) (old new : Option Leased) (r : Result (Unit {0}) AddrError) →
     IsThere host.interface.value → interface.HostRefines host.interface.value i (PutsLeased list old new r) → list_told r ≡ list_refusal list
 leased_why host i list old new r stands f =
     let H = (stands host.sockets).0 in
@@ -74,7 +74,7 @@ leased_why host i list old new r stands f =
     replaces_told list (routes_with old new H.routes) r H l.host l.follows
 
 -- a list that is made of the one before
-pub leased : (host : Host) (i : Interface) (old new : Option Leased) (list : List IpCidr) →
+pub leased : (host : IfaceHost) (i : Interface) (old new : Option Leased) (list : List IpCidr) →
     ((sockets : SocketSet) → list ≡ addresses_with old new (host_with host.interface.value sockets).ip_addrs) →
     interface.HostRefines host.interface.value i (PutsLeased list old new (Ok tt)) →
     Follows (ReplacesLeased old new) host (with_interface host i)
@@ -89,12 +89,12 @@ leased host i old new list made u = record {
 }
 
 -- whether there is room for so many routes, and for so many addresses
-pub too_many : (host : Host) (old new : Option Leased) (routes : List Route) (count room : ℕ) → routes ≡ routes_of host →
+pub too_many : (host : IfaceHost) (old new : Option Leased) (routes : List Route) (count room : ℕ) → routes ≡ routes_of host →
     room ≡ route_room_of host → count ≡ length (routes_with old new routes) → room < count →
     are_many_routes (route_room_of host) old new (routes_of host) ≡ true
 too_many host old new routes count room is has counts more = rw (← is, ← has, ← counts) (there room count more)
 
-pub few_enough : (host : Host) (old new : Option Leased) (routes : List Route) (count room : ℕ) → routes ≡ routes_of host →
+pub few_enough : (host : IfaceHost) (old new : Option Leased) (routes : List Route) (count room : ℕ) → routes ≡ routes_of host →
     room ≡ route_room_of host → count ≡ length (routes_with old new routes) → count ≤ room →
     are_many_routes (route_room_of host) old new (routes_of host) ≡ false
 few_enough host old new routes count room is has counts few = rw (← is, ← has, ← counts) (behind room count few)
@@ -107,16 +107,16 @@ fits_addresses old new own list room is few = rw is (by (nat_lt room (length (ad
   by false e f = grind (arith, nat_tests, e)
 
 -- why nothing is replaced: no room for an address, none for a route, or an address that can't be an own one
-pub many_addresses : (host : Host) (old new : Option Leased) (own : List IpCidr) (room : ℕ) → own ≡ addresses_of host →
+pub many_addresses : (host : IfaceHost) (old new : Option Leased) (own : List IpCidr) (room : ℕ) → own ≡ addresses_of host →
     room ≡ addr_room_of host → true ≡ are_many_addresses room old new own → Some TableFull ≡ leased_refusal host old new
 many_addresses host old new own room is has many = rw (← is, ← has, ← many) refl
 
-pub many_routes : (host : Host) (old new : Option Leased) (own : List IpCidr) (room : ℕ) → own ≡ addresses_of host →
+pub many_routes : (host : IfaceHost) (old new : Option Leased) (own : List IpCidr) (room : ℕ) → own ≡ addresses_of host →
     room ≡ addr_room_of host → false ≡ are_many_addresses room old new own → are_many_routes (route_room_of host) old new (routes_of host) ≡ true →
     Some TableFull ≡ leased_refusal host old new
 many_routes host old new own room is has few many = rw (← is, ← has, ← few, many) refl
 
-pub room_told : (host : Host) (old new : Option Leased) (own list : List IpCidr) (room : ℕ) (r : Result (Unit {0}) AddrError) →
+pub room_told : (host : IfaceHost) (old new : Option Leased) (own list : List IpCidr) (room : ℕ) (r : Result (Unit {0}) AddrError) →
     own ≡ addresses_of host → room ≡ addr_room_of host → false ≡ are_many_addresses room old new own →
     are_many_routes (route_room_of host) old new (routes_of host) ≡ false → list ≡ addresses_with old new own →
     list_told r ≡ list_refusal list → list_told r ≡ leased_refusal host old new

@@ -18,7 +18,7 @@ use Rattle.sockets.specs.declared.socket.SocketOf.TheVariants.{Raw, Icmp, Udp, T
 use Rattle.sockets.specs.declared.socket.SocketOf.{SocketOf}
 use Rattle.socket_set.specs.SocketSet.{Sockets, first_free, has_free, socket_at}
 use Rattle.iface_host.specs.Sockets.{Socket, with_socket}
-use Rattle.iface_host.specs.declared.host.Host.{Host}
+use Rattle.iface_host.specs.declared.host.IfaceHost.{IfaceHost}
 
 set_same : {A : Type 0} (xs : List (Option A)) (i : ℕ) (x : A) →
     option_and_then (λ (p : Option A). p) (slice_get xs i) ≡ Some x → slice_set xs i (Some x) ≡ xs
@@ -26,30 +26,30 @@ set_same [] i x e = refl
 set_same (p ∷ ps) zero x e = ap (λ q. q ∷ ps) (sym e)
 set_same (p ∷ ps) (suc i) x e = ap (λ qs. p ∷ qs) (set_same ps i x e)
 
-pub host_same : (h : Host) (i : ℕ) (x : Socket) → socket_at h.sockets i ≡ Some x → with_socket h i (Some x) ≡ h
+pub host_same : (h : IfaceHost) (i : ℕ) (x : Socket) → socket_at h.sockets i ≡ Some x → with_socket h i (Some x) ≡ h
 host_same h i x e = ap (λ places. record h { sockets = record h.sockets { places = places } }) (set_same h.sockets.places i x e)
 
 -- a full queue takes nothing
 put_full : {M : Type 0} (q : Queued M) (m : M) (octets : List ℕ) → false ≡ is_room q (length octets) → put q m octets ≡ q
 put_full q m octets full = ap (λ b. record q { packets = cond b (q.packets ++ (m, octets) ∷ []) q.packets }) (sym full)
 
-pub raw_full : (h : Host) (i : ℕ) (s : raws.RawSocket) (packet : List ℕ) →
+pub raw_full : (h : IfaceHost) (i : ℕ) (s : raws.RawSocket) (packet : List ℕ) →
     socket_at h.sockets i ≡ Some (Raw s) → false ≡ is_room s.tx (length packet) →
     with_socket h i (Some (Raw (raws.socket_after_send packet s))) ≡ h
 raw_full h i s packet here full =
     ap (λ q. with_socket h i (Some (Raw (record s { tx = q })))) (put_full s.tx tt packet full) ∙ host_same h i (Raw s) here
 
-pub icmp_full : (h : Host) (i : ℕ) (s : icmps.IcmpSocket) (remote : IpAddress) (message : List ℕ) → socket_at h.sockets i ≡ Some (Icmp s) →
+pub icmp_full : (h : IfaceHost) (i : ℕ) (s : icmps.IcmpSocket) (remote : IpAddress) (message : List ℕ) → socket_at h.sockets i ≡ Some (Icmp s) →
     false ≡ is_room s.tx (length message) → with_socket h i (Some (Icmp (icmps.socket_after_send remote message s))) ≡ h
 icmp_full h i s remote message here full =
     ap (λ q. with_socket h i (Some (Icmp (record s { tx = q })))) (put_full s.tx remote message full) ∙ host_same h i (Icmp s) here
 
-pub udp_full : (h : Host) (i : ℕ) (s : udps.UdpSocket) (remote : IpEndpoint) (payload : List ℕ) → socket_at h.sockets i ≡ Some (Udp s) →
+pub udp_full : (h : IfaceHost) (i : ℕ) (s : udps.UdpSocket) (remote : IpEndpoint) (payload : List ℕ) → socket_at h.sockets i ≡ Some (Udp s) →
     false ≡ is_room s.tx (length payload) → with_socket h i (Some (Udp (udps.socket_after_send remote payload s))) ≡ h
 udp_full h i s remote payload here full =
     ap (λ q. with_socket h i (Some (Udp (record s { tx = q })))) (put_full s.tx remote payload full) ∙ host_same h i (Udp s) here
 
-pub tcp_full : (h : Host) (i : ℕ) (s : tcps.TcpSocket) (segment : Segment) (payload : List ℕ) → socket_at h.sockets i ≡ Some (Tcp s) →
+pub tcp_full : (h : IfaceHost) (i : ℕ) (s : tcps.TcpSocket) (segment : Segment) (payload : List ℕ) → socket_at h.sockets i ≡ Some (Tcp s) →
     false ≡ is_room s.tx (length payload) → with_socket h i (Some (Tcp (tcps.socket_after_send segment payload s))) ≡ h
 tcp_full h i s segment payload here full =
     ap (λ q. with_socket h i (Some (Tcp (record s { tx = q })))) (put_full s.tx segment payload full) ∙ host_same h i (Tcp s) here

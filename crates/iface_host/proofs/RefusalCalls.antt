@@ -35,7 +35,7 @@ use Rattle.interface.specs.declared.interface.Interface.{Interface}
 use Rattle.iface_host.specs.Calls.{addr_room_of, addresses_of, is_same, is_to, route_room_of, routes_of}
 use Rattle.iface_host.specs.TableRefusals.{address_refusal, addresses_refusal, join_refusal, leave_refusal, list_refusal, removal_refusal}
 use Rattle.iface_host.specs.TableRefusals.{end_refusal, route_refusal, route_removal_refusal}
-use Rattle.iface_host.specs.declared.host.Host.{Host}
+use Rattle.iface_host.specs.declared.host.IfaceHost.{IfaceHost}
 use Rattle.iface_host.specs.declared.refusal.Refusal.{Refusal}
 use Rattle.iface_host.specs.declared.refusal.Refusal.TheVariants.{BadAddress, NotThere, NotUnicast, TableFull}
 
@@ -78,7 +78,7 @@ list_rule : (list : List IpCidr) (r : Result (Unit {0}) AddrError) (H H' : Machi
 list_rule list r H H' (Accepted a answers same) = rw (answers, a) refl
 list_rule list r H H' (Refused a answers same) = rw (answers, a) refl
 
-pub joined_why : (old : Host) (i : Interface) (a : IpAddress) (r : Result (Unit {0}) MulticastError) → IsThere old.interface.value →
+pub joined_why : (old : IfaceHost) (i : Interface) (a : IpAddress) (r : Result (Unit {0}) MulticastError) → IsThere old.interface.value →
     interface.HostRefines old.interface.value i (machine.JoinsGroup a r) → group_told r ≡ join_refusal old a
 joined_why old i a r there f =
     let H = (there old.sockets).0 in
@@ -86,7 +86,7 @@ joined_why old i a r there f =
     let l = f old.sockets H h in
     join_rule a r H l.host l.follows ∙ ap (λ (K : Machine). refused_by K.group_room K.groups a) h.same
 
-pub left_why : (old : Host) (i : Interface) (a : IpAddress) (r : Result (Unit {0}) MulticastError) → IsThere old.interface.value →
+pub left_why : (old : IfaceHost) (i : Interface) (a : IpAddress) (r : Result (Unit {0}) MulticastError) → IsThere old.interface.value →
     interface.HostRefines old.interface.value i (machine.LeavesGroup a r) → left_told r ≡ leave_refusal a
 left_why old i a r there f =
     let H = (there old.sockets).0 in
@@ -94,7 +94,7 @@ left_why old i a r there f =
     let l = f old.sockets H h in
     leave_rule a r H l.host l.follows
 
-pub list_why : (old : Host) (i : Interface) (list : List IpCidr) (r : Result (Unit {0}) AddrError) → IsThere old.interface.value →
+pub list_why : (old : IfaceHost) (i : Interface) (list : List IpCidr) (r : Result (Unit {0}) AddrError) → IsThere old.interface.value →
     interface.HostRefines old.interface.value i (UpdatesIpAddrs list r) → list_told r ≡ list_refusal list
 list_why old i list r there f =
     let H = (there old.sockets).0 in
@@ -134,30 +134,30 @@ removed_least (c ∷ own) (suc i) = let l = removed_least own i in omega (arith,
 pub fits_one_less : (own list : List IpCidr) (i room : ℕ) → list ≡ remove own i → length own ≤ room → length list ≤ room
 fits_one_less own list i room is few = rw is (let l = removed_least own i in omega (arith, l, few))
 
-pub address_full : (host : Host) (own : List IpCidr) (cidr : IpCidr) (room : ℕ) → own ≡ addresses_of host → room ≡ addr_room_of host →
+pub address_full : (host : IfaceHost) (own : List IpCidr) (cidr : IpCidr) (room : ℕ) → own ≡ addresses_of host → room ≡ addr_room_of host →
     room ≤ length own → Some TableFull ≡ address_refusal host cidr
 address_full host own cidr room is has most = rw (← is, ← has, at_room room (length own) most) refl
 
-pub address_told : (host : Host) (own list : List IpCidr) (cidr : IpCidr) (room : ℕ) (r : Result (Unit {0}) AddrError) →
+pub address_told : (host : IfaceHost) (own list : List IpCidr) (cidr : IpCidr) (room : ℕ) (r : Result (Unit {0}) AddrError) →
     own ≡ addresses_of host → room ≡ addr_room_of host → length own < room → list ≡ own ++ cidr ∷ [] → list_told r ≡ list_refusal list →
     list_told r ≡ address_refusal host cidr
 address_told host own list cidr room r is has less pushed told =
     rw (← is, ← has, fewer room (length own) less) (told ∙ ap list_refusal pushed)
 
 -- all addresses at once
-pub addresses_full : (host : Host) (list : List IpCidr) (room : ℕ) → room ≡ addr_room_of host → room < length list →
+pub addresses_full : (host : IfaceHost) (list : List IpCidr) (room : ℕ) → room ≡ addr_room_of host → room < length list →
     Some TableFull ≡ addresses_refusal host list
 addresses_full host list room has more = rw (← has, there room (length list) more) refl
 
-pub addresses_told : (host : Host) (list : List IpCidr) (room : ℕ) (r : Result (Unit {0}) AddrError) → room ≡ addr_room_of host →
+pub addresses_told : (host : IfaceHost) (list : List IpCidr) (room : ℕ) (r : Result (Unit {0}) AddrError) → room ≡ addr_room_of host →
     length list ≤ room → list_told r ≡ list_refusal list → list_told r ≡ addresses_refusal host list
 addresses_told host list room r has few told = rw (← has, behind room (length list) few) told
 
-pub removal_none : (host : Host) (own : List IpCidr) (cidr : IpCidr) (i : ℕ) → own ≡ addresses_of host →
+pub removal_none : (host : IfaceHost) (own : List IpCidr) (cidr : IpCidr) (i : ℕ) → own ≡ addresses_of host →
     i ≡ position_or_len (is_same cidr) own → length own ≤ i → Some NotThere ≡ removal_refusal host cidr
 removal_none host own cidr i is at le = rw (← is, ← at, behind i (length own) le) refl
 
-pub removal_told : (host : Host) (own : List IpCidr) (cidr : IpCidr) (i : ℕ) (r : Result (Unit {0}) AddrError) → own ≡ addresses_of host →
+pub removal_told : (host : IfaceHost) (own : List IpCidr) (cidr : IpCidr) (i : ℕ) (r : Result (Unit {0}) AddrError) → own ≡ addresses_of host →
     i ≡ position_or_len (is_same cidr) own → i < length own → list_told r ≡ list_refusal (remove (addresses_of host) i) →
     list_told r ≡ removal_refusal host cidr
 removal_told host own cidr i r is at lt told =
@@ -175,19 +175,19 @@ default_told room is_kind rs r answers = by (routes.is_refused room is_kind rs) 
   by true e = rw (answers, e) refl
   by false e = rw (answers, e) refl
 
-pub route_full : (host : Host) (end : Option ℤ) → None ≡ end_refusal end → route_room_of host ≤ length (routes_of host) →
+pub route_full : (host : IfaceHost) (end : Option ℤ) → None ≡ end_refusal end → route_room_of host ≤ length (routes_of host) →
     Some TableFull ≡ route_refusal host end
 route_full host end none most = rw (← none, at_room (route_room_of host) (length (routes_of host)) most) refl
 
-pub route_room : (host : Host) (end : Option ℤ) → None ≡ end_refusal end → length (routes_of host) < route_room_of host →
+pub route_room : (host : IfaceHost) (end : Option ℤ) → None ≡ end_refusal end → length (routes_of host) < route_room_of host →
     None ≡ route_refusal host end
 route_room host end none less = rw (← none, fewer (route_room_of host) (length (routes_of host)) less) refl
 
-pub route_none : (host : Host) (own : List Route) (cidr : IpCidr) (i : ℕ) → own ≡ routes_of host →
+pub route_none : (host : IfaceHost) (own : List Route) (cidr : IpCidr) (i : ℕ) → own ≡ routes_of host →
     i ≡ position_or_len (is_to cidr) own → length own ≤ i → Some NotThere ≡ route_removal_refusal host cidr
 route_none host own cidr i is at le = rw (← is, ← at, behind i (length own) le) refl
 
-pub route_there : (host : Host) (own : List Route) (cidr : IpCidr) (i : ℕ) → own ≡ routes_of host →
+pub route_there : (host : IfaceHost) (own : List Route) (cidr : IpCidr) (i : ℕ) → own ≡ routes_of host →
     i ≡ position_or_len (is_to cidr) own → i < length own → None ≡ route_removal_refusal host cidr
 route_there host own cidr i is at lt = rw (← is, ← at, there i (length own) lt) refl
 
@@ -215,7 +215,7 @@ hardware_rule a r H H' (Taken why is answers same) = rw (answers, why) refl
 hardware_rule a r H H' (NotTaken error.WrongMedium why answers same) = rw (answers, why) refl
 hardware_rule a r H H' (NotTaken error.NotUnicast why answers same) = rw (answers, why) refl
 
-pub hardware_why : (old : Host) (i : Interface) (a : EthernetAddress) (r : Result (Unit {0}) HardwareError) → IsThere old.interface.value →
+pub hardware_why : (old : IfaceHost) (i : Interface) (a : EthernetAddress) (r : Result (Unit {0}) HardwareError) → IsThere old.interface.value →
     interface.HostRefines old.interface.value i (SetsHardwareAddr (Ethernet a) r) → hardware_told r ≡ hardware_refusal old a
 hardware_why old i a r there f =
     let H = (there old.sockets).0 in

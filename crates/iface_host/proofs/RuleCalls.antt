@@ -23,22 +23,22 @@ use Rattle.interface.specs.Stands as interface
 use Rattle.interface.specs.Stands.{Becomes, host_with, with_routes}
 use Rattle.interface.proofs.SettingCalls.{routes_become}
 use Rattle.interface.specs.declared.interface.Interface.{Interface}
-use Rattle.iface_host.specs.declared.host.Host.{Host}
+use Rattle.iface_host.specs.declared.host.IfaceHost.{IfaceHost}
 use Rattle.iface_host.specs.declared.refusal.Refusal.{Refusal}
 use Rattle.iface_host.specs.Calls.{RemovesRoute, is_to}
 use Rattle.iface_host.specs.Stands.{Follows, Stays}
 use Rattle.std.specs.List.{position_or_len, remove}
 
-abbrev pub with_interface : Host → Interface → Host
+abbrev pub with_interface : IfaceHost → Interface → IfaceHost
 with_interface host i = record host { interface = with_value host.interface i }
 
 -- a rule of the interface's is the host's
-pub followed : (old : Host) (i : Interface) (Rule : Machine → Machine → Type 0) →
+pub followed : (old : IfaceHost) (i : Interface) (Rule : Machine → Machine → Type 0) →
     interface.HostRefines old.interface.value i Rule → Follows Rule old (with_interface old i)
 followed old i Rule f = record { led = λ H h. f old.sockets H h; rest = refl }
 
 -- a rule that leaves the machine's host as it is
-pub stayed : (old : Host) (i : Interface) (Rule : Machine → Machine → Type 0) →
+pub stayed : (old : IfaceHost) (i : Interface) (Rule : Machine → Machine → Type 0) →
     ((H H' : Machine) → Rule H H' → H' ≡ H) → interface.HostRefines old.interface.value i Rule →
     Stays old (with_interface old i)
 stayed old i Rule same f = record {
@@ -46,26 +46,26 @@ stayed old i Rule same f = record {
   rest = refl;
 }
 
-pub untouched : (old : Host) → Stays old old
+pub untouched : (old : IfaceHost) → Stays old old
 untouched old = record { led = λ H h. record { host = H; follows = refl; stands = h }; rest = refl }
 
-pub untouched_if : (r : Result (Unit {0}) Refusal) (old : Host) → OnErr r (Stays old old)
+pub untouched_if : (r : Result (Unit {0}) Refusal) (old : IfaceHost) → OnErr r (Stays old old)
 untouched_if (Ok done) old = tt
 untouched_if (Err refusal) old = untouched old
 
 -- a change of every host
-pub changed : (old : Host) (i : Interface) (change : Machine → Machine) →
+pub changed : (old : IfaceHost) (i : Interface) (change : Machine → Machine) →
     Becomes old.interface.value i change → Follows (λ H H'. H' ≡ change H) old (with_interface old i)
 changed old i change b = record { led = λ H h. record { host = change H; follows = refl; stands = b old.sockets H h }; rest = refl }
 
 -- and where it is one of a call that may be refused
-pub changed_if : (old : Host) (i : Interface) (change : Machine → Machine) (r : Result (Unit {0}) Refusal) →
+pub changed_if : (old : IfaceHost) (i : Interface) (change : Machine → Machine) (r : Result (Unit {0}) Refusal) →
     OnOk r (Becomes old.interface.value i change) → OnOk r (Follows (λ H H'. H' ≡ change H) old (with_interface old i))
 changed_if old i change (Ok done) b = changed old i change b
 changed_if old i change (Err refusal) b = tt
 
 -- a refused call that left the interface as it was
-pub same_if : (r : Result (Unit {0}) Refusal) (old : Host) (was i : Interface) → was ≡ old.interface.value → OnErr r (i ≡ was) →
+pub same_if : (r : Result (Unit {0}) Refusal) (old : IfaceHost) (was i : Interface) → was ≡ old.interface.value → OnErr r (i ≡ was) →
     OnErr r (with_interface old i ≡ old)
 same_if (Ok done) old was i is same = tt
 same_if (Err refusal) old was i is same = ap (λ (j : Interface). with_interface old j) (same ∙ is)
@@ -119,7 +119,7 @@ default_refused room is_kind routes route e answers = by (is_refused room is_kin
   by true is = rw is refl
   by false is = absurd (let f = rw is at answers in cc)
 
-pub default_stays : (old : Host) (i : Interface) (is_kind : Route → Bool) (route : Route) (e : RouteTableFull) →
+pub default_stays : (old : IfaceHost) (i : Interface) (is_kind : Route → Bool) (route : Route) (e : RouteTableFull) →
     ((sockets : SocketSet) → Err e ≡ old_or_full (host_with old.interface.value sockets).route_room is_kind
     (host_with old.interface.value sockets).routes) →
     Becomes old.interface.value i (λ H. record H { routes = with_default H.route_room is_kind H.routes route }) → Stays old (with_interface old i)
@@ -135,7 +135,7 @@ default_stays old i is_kind route e answers b = record {
 }
 
 -- another list of addresses, which is made of the one before
-pub updated : (old : Host) (i : Interface) (f : List IpCidr → List IpCidr) (list : List IpCidr) →
+pub updated : (old : IfaceHost) (i : Interface) (f : List IpCidr → List IpCidr) (list : List IpCidr) →
     ((sockets : SocketSet) → list ≡ f (host_with old.interface.value sockets).ip_addrs) →
     interface.HostRefines old.interface.value i (UpdatesIpAddrs list (Ok tt)) →
     Follows (λ H. UpdatesIpAddrs (f H.ip_addrs) (Ok tt) H) old (with_interface old i)
@@ -150,7 +150,7 @@ updated old i f list made u = record {
 }
 
 -- other routes, which are made of those before
-pub routed : (old : Host) (i : Interface) (f : List Route → List Route) (list : List Route) →
+pub routed : (old : IfaceHost) (i : Interface) (f : List Route → List Route) (list : List Route) →
     ((sockets : SocketSet) → list ≡ f (host_with old.interface.value sockets).routes) →
     Becomes old.interface.value i (λ H. record H { routes = list }) → Follows (λ H H'. H' ≡ record H { routes = f H.routes }) old (with_interface old i)
 routed old i f list made b = record {
@@ -186,7 +186,7 @@ pushed_if i was w route (Ok done) items room pushed = λ sockets H h.
 pushed_if i was w route (Err e) items room pushed = tt
 
 -- the route at an index is gone, which is that of the first one to a network
-pub removed : (old : Host) (i : Interface) (network : IpCidr) (index : ℕ) →
+pub removed : (old : IfaceHost) (i : Interface) (network : IpCidr) (index : ℕ) →
     index ≡ position_or_len (is_to network) (host_with old.interface.value no_sockets).routes →
     Becomes old.interface.value i (λ H. record H { routes = remove H.routes index }) → Follows (RemovesRoute network) old (with_interface old i)
 removed old i network index at b = record {
@@ -200,5 +200,5 @@ removed old i network index at b = record {
 }
 
 -- the interface is as it was
-pub same_host : (old : Host) (i : Interface) → i ≡ old.interface.value → Stays old (with_interface old i)
-same_host old i same = subst (λ (host : Host). Stays old host) (ap (λ (j : Interface). with_interface old j) (sym same)) (untouched old)
+pub same_host : (old : IfaceHost) (i : Interface) → i ≡ old.interface.value → Stays old (with_interface old i)
+same_host old i same = subst (λ (host : IfaceHost). Stays old host) (ap (λ (j : Interface). with_interface old j) (sym same)) (untouched old)

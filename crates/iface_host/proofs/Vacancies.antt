@@ -18,7 +18,7 @@ use Rattle.iface_host.specs.Names.{first_unused}
 use Rattle.iface_host.specs.Sockets.{Opens, Socket}
 use Rattle.iface_host.specs.Streams.{has_room_for, unused_numbers, free_places}
 use Rattle.iface_host.specs.TableRefusals.{opening_refusal, is_number}
-use Rattle.iface_host.specs.declared.host.Host.{Host}
+use Rattle.iface_host.specs.declared.host.IfaceHost.{IfaceHost}
 use Rattle.iface_host.specs.declared.refusal.Refusal.{Refusal}
 
 -- how many places of a list are empty, and the first of them
@@ -59,7 +59,7 @@ by_free (None ∷ ps) = refl
 by_free (Some s ∷ ps) = let same : first_free ps ≡ first ps = by_free ps in omega arith
 
 -- what a host's room for sockets says
-record HasRoom (count : ℕ) (h : Host) : Type 0 where
+record HasRoom (count : ℕ) (h : IfaceHost) : Type 0 where
   few : length h.names ≤ 4294967296
   numbers : count ≤ nones h.names
   places : count ≤ nones h.sockets.places
@@ -68,7 +68,7 @@ both : (a b : Bool) → a && b ≡ true → (a ≡ true) × (b ≡ true)
 both true b e = (refl, e)
 both false b e = absurd (true≢false (sym e))
 
-opened_up : (count : ℕ) (h : Host) → has_room_for count h ≡ true → HasRoom count h
+opened_up : (count : ℕ) (h : IfaceHost) → has_room_for count h ≡ true → HasRoom count h
 opened_up count h e =
     let outer : (nat_le (length h.names) 4294967296 && nat_le count (unused_numbers h) ≡ true) × (nat_le count (free_places h) ≡ true) = both _ _ e in
     let inner : (nat_le (length h.names) 4294967296 ≡ true) × (nat_le count (unused_numbers h) ≡ true) = both _ _ outer.0 in
@@ -78,7 +78,7 @@ opened_up count h e =
       places = rw (counted h.sockets.places) (leb-true count (free_places h) outer.1);
     }
 
-closed_again : (count : ℕ) (h : Host) → HasRoom count h → has_room_for count h ≡ true
+closed_again : (count : ℕ) (h : IfaceHost) → HasRoom count h → has_room_for count h ≡ true
 closed_again count h r =
     let few : nat_le (length h.names) 4294967296 ≡ true = le-leb _ _ r.few in
     let numbers : nat_le count (unused_numbers h) ≡ true = le-leb _ _ (rw (sym (counted h.names)) r.numbers) in
@@ -86,17 +86,17 @@ closed_again count h r =
     rw (few, numbers, places) refl
 
 -- the first number without a socket, and the first free place
-number_first : (h : Host) → HasRoom 1 h → first_unused h.names ≡ Some (first h.names)
+number_first : (h : IfaceHost) → HasRoom 1 h → first_unused h.names ≡ Some (first h.names)
 number_first h r =
     let less : nat_lt (position_or_len is_none h.names) (length h.names) ≡ true =
     lt-ltb _ _ (rw (by_position h.names) (within h.names r.numbers)) in
     ap (λ b. cond b (Some (position_or_len is_none h.names)) None) less ∙ ap (λ n. Some n) (by_position h.names)
 
-place_there : (h : Host) → HasRoom 1 h → has_free h.sockets ≡ true
+place_there : (h : IfaceHost) → HasRoom 1 h → has_free h.sockets ≡ true
 place_there h r = lt-ltb _ _ (rw (by_free h.sockets.places) (within h.sockets.places r.places))
 
 -- where there is room for one, opening it isn't refused
-pub room_opens : (h : Host) → has_room_for 1 h ≡ true → opening_refusal h ≡ None
+pub room_opens : (h : IfaceHost) → has_room_for 1 h ≡ true → opening_refusal h ≡ None
 room_opens h e =
     let r : HasRoom 1 h = opened_up 1 h e in
     let small : nat_lt (first h.names) 4294967296 ≡ true =
@@ -108,7 +108,7 @@ some_is : (m n : ℕ) → Some m ≡ Some n → m ≡ n
 some_is m n e = cc
 
 -- opening one takes one place
-pub room_left : (s : Socket) (n k : ℕ) (old new : Host) → Opens s n old new → has_room_for (k + 1) old ≡ true → has_room_for k new ≡ true
+pub room_left : (s : Socket) (n k : ℕ) (old new : IfaceHost) → Opens s n old new → has_room_for (k + 1) old ≡ true → has_room_for k new ≡ true
 room_left s n k old new o e =
     let r : HasRoom (k + 1) old = opened_up (k + 1) old e in
     let enough : k + 1 ≤ nones old.names = r.numbers in
@@ -116,11 +116,11 @@ room_left s n k old new o e =
     let one : HasRoom 1 old = record { few = r.few; numbers = omega arith; places = omega arith } in
     let number : n ≡ first old.names = some_is n (first old.names) (sym o.unused ∙ number_first old one) in
     let names : new.names ≡ slice_set old.names (first old.names) (Some (first_free old.sockets.places)) =
-    ap (λ (h : Host). h.names) o.after ∙ ap (λ i. slice_set old.names i (Some (first_free old.sockets.places))) number in
+    ap (λ (h : IfaceHost). h.names) o.after ∙ ap (λ i. slice_set old.names i (Some (first_free old.sockets.places))) number in
     let added : (set_after_add old.sockets s new.sockets.room).places ≡ slice_set old.sockets.places (first_free old.sockets.places) (Some s) =
     rw (place_there old one) refl in
     let places : new.sockets.places ≡ slice_set old.sockets.places (first old.sockets.places) (Some s) =
-    ap (λ (h : Host). h.sockets.places) o.after ∙ added ∙ ap (λ i. slice_set old.sockets.places i (Some s)) (by_free old.sockets.places) in
+    ap (λ (h : IfaceHost). h.sockets.places) o.after ∙ added ∙ ap (λ i. slice_set old.sockets.places i (Some s)) (by_free old.sockets.places) in
     let fewer : suc (nones (slice_set old.names (first old.names) (Some (first_free old.sockets.places)))) ≡ nones old.names =
     taken old.names (first_free old.sockets.places) one.numbers in
     let less : suc (nones (slice_set old.sockets.places (first old.sockets.places) (Some s))) ≡ nones old.sockets.places =
@@ -132,7 +132,7 @@ room_left s n k old new o e =
     })
 
 -- where there is room for some, there is room for fewer
-pub room_less : (k m : ℕ) (h : Host) → has_room_for m h ≡ true → k ≤ m → has_room_for k h ≡ true
+pub room_less : (k m : ℕ) (h : IfaceHost) → has_room_for m h ≡ true → k ≤ m → has_room_for k h ≡ true
 room_less k m h e le =
     let r : HasRoom m h = opened_up m h e in
     let numbers : m ≤ nones h.names = r.numbers in
@@ -176,18 +176,18 @@ pub counted_all : {L : Type 0} (s : Sockets L) (i end count : ℕ) → end ≡ l
 counted_all s i end count ends le so = so ∙ ap (λ ps. count_by is_none ps) (take_all i s.places (omega arith))
 
 -- where there is room for one, nobody is told that there is none
-pub never_refused : (h : Host) (e : Refusal) → has_room_for 1 h ≡ true → Some e ≡ opening_refusal h → ⊥
+pub never_refused : (h : IfaceHost) (e : Refusal) → has_room_for 1 h ≡ true → Some e ≡ opening_refusal h → ⊥
 never_refused h e room told = cc_none (told ∙ room_opens h room) where
   cc_none : Some e ≡ None → ⊥
   cc_none bad = cc
 
-pub one_of_two : (h : Host) → has_room_for 2 h ≡ true → has_room_for 1 h ≡ true
+pub one_of_two : (h : IfaceHost) → has_room_for 2 h ≡ true → has_room_for 1 h ≡ true
 one_of_two h e = room_less 1 2 h e (omega arith)
 
-pub one_left : (s : Socket) (n : ℕ) (old new : Host) → Opens s n old new → has_room_for 2 old ≡ true → has_room_for 1 new ≡ true
+pub one_left : (s : Socket) (n : ℕ) (old new : IfaceHost) → Opens s n old new → has_room_for 2 old ≡ true → has_room_for 1 new ≡ true
 one_left s n old new o e = room_left s n 1 old new o e
 
-pub two_less : (near far : Socket) (n m k : ℕ) (old mid new : Host) → Opens near n old mid → Opens far m mid new →
+pub two_less : (near far : Socket) (n m k : ℕ) (old mid new : IfaceHost) → Opens near n old mid → Opens far m mid new →
     has_room_for (k + 2) old ≡ true → has_room_for k new ≡ true
 two_less near far n m k old mid new first second e =
     let same : (k + 1) + 1 ≡ k + 2 = omega arith in

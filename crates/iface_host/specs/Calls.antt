@@ -13,7 +13,7 @@ use Rattle.host_machine.specs.Multicast.Joins as machine
 use Rattle.host_machine.specs.Context.Addresses as addresses
 use Rattle.host_machine.specs.Interface.Step.{UpdatesIpAddrs}
 use Rattle.interface.specs.Stands.{host_with}
-use Rattle.iface_host.specs.declared.host.Host.{Host}
+use Rattle.iface_host.specs.declared.host.IfaceHost.{IfaceHost}
 
 -- one network: the same address, and a prefix of the same length
 abbrev pub is_same : IpCidr → IpCidr → Bool
@@ -23,28 +23,28 @@ is_same (cidr.Ipv6 a) (cidr.Ipv4 b) = false
 is_same (cidr.Ipv6 a) (cidr.Ipv6 b) = (a.address.bits == b.address.bits) && (a.prefix_len == b.prefix_len)
 
 -- its own addresses, with their networks
-abbrev pub addresses_of : Host → List IpCidr
+abbrev pub addresses_of : IfaceHost → List IpCidr
 addresses_of host = (host_with host.interface.value no_sockets).ip_addrs
 
 -- the own address that packets to a destination are sent from, if there is one
-abbrev pub source_for : Host → IpAddress → Option IpAddress
+abbrev pub source_for : IfaceHost → IpAddress → Option IpAddress
 source_for host remote = addresses.source_for (addresses_of host) remote
 
 -- its groups and its routes
-abbrev pub groups_of : Host → List Group
+abbrev pub groups_of : IfaceHost → List Group
 groups_of host = (host_with host.interface.value no_sockets).groups
 
-abbrev pub routes_of : Host → List Route
+abbrev pub routes_of : IfaceHost → List Route
 routes_of host = (host_with host.interface.value no_sockets).routes
 
 -- for how many addresses, groups and routes it has room
-abbrev pub addr_room_of : Host → ℕ
+abbrev pub addr_room_of : IfaceHost → ℕ
 addr_room_of host = (host_with host.interface.value no_sockets).addr_room
 
-abbrev pub group_room_of : Host → ℕ
+abbrev pub group_room_of : IfaceHost → ℕ
 group_room_of host = (host_with host.interface.value no_sockets).group_room
 
-abbrev pub route_room_of : Host → ℕ
+abbrev pub route_room_of : IfaceHost → ℕ
 route_room_of host = (host_with host.interface.value no_sockets).route_room
 
 -- an address comes behind the others

@@ -2,7 +2,7 @@
 use Rattle.std.specs.Prelude.{ℕ, ◌+◌, ◌-◌, ◌^◌, ◌==◌, if◌then◌else◌}
 use Rattle.iface_host.specs.declared.counters.Counters.{Counters}
 use Rattle.iface_host.specs.declared.counters.FrameCounts.{FrameCounts}
-use Rattle.iface_host.specs.declared.host.Host.{Host}
+use Rattle.iface_host.specs.declared.host.IfaceHost.{IfaceHost}
 
 -- one more, up to the greatest number of 64 bits
 abbrev pub one_more : ℕ → ℕ
@@ -21,6 +21,6 @@ abbrev pub after_handing : ℕ → FrameCounts → FrameCounts
 after_handing n counts = if n == 0 then counts else record counts { handed_over = one_more counts.handed_over }
 
 -- all that it counts
-abbrev pub counters_of : Host → Counters
+abbrev pub counters_of : IfaceHost → Counters
 counters_of host =
     record { frames = host.frames; given_up = host.schedule.given_up; no_memory = host.outbox.refusals }

@@ -21,7 +21,7 @@ use Rattle.interface.specs.Receives.{HostRefinesReceiving}
 use Rattle.iface_host.specs.Counters.{after_handing, after_taking}
 use Rattle.iface_host.specs.Outbox.{HandsFirst, Tells, Waiting, with_room}
 use Rattle.iface_host.specs.Stands.{StandsFor}
-use Rattle.iface_host.specs.declared.host.Host.{Host}
+use Rattle.iface_host.specs.declared.host.IfaceHost.{IfaceHost}
 
 -- a frame, if there is one, of so many octets was written to the front of a buffer
 abbrev pub IsWritten : Option (List ℕ) → ℕ → List ℕ → List ℕ → Type 0
@@ -39,7 +39,7 @@ after_response t (Some frame) answered w = guard.after_response t frame answered
 
 -- the machine takes a frame, and the frame that it sends, if there is one and the guard lets it go, is written; both are
 -- counted, and sockets may have changed where the machine's answer says so
-pub record Takes (t : ℤ) (frame : List ℕ) (n : ℕ) (before after : List ℕ) (old new : Host) : Type 0 where
+pub record Takes (t : ℤ) (frame : List ℕ) (n : ℕ) (before after : List ℕ) (old new : IfaceHost) : Type 0 where
   pub shown : Option (List ℕ)
   pub written : IsWritten (let_go t shown (length frame) old.watch) n before after
   pub received : HostRefinesReceiving t frame shown (StandsFor old) (StandsFor new)
@@ -52,11 +52,11 @@ pub record Takes (t : ℤ) (frame : List ℕ) (n : ℕ) (before after : List ℕ
   }
 
 -- what is kept of the sockets, and these
-abbrev pub planned : Host → Planned (Bor (Unit {0}))
+abbrev pub planned : IfaceHost → Planned (Bor (Unit {0}))
 planned host = record { plan = host.schedule; sockets = host.sockets }
 
 -- whether a piece of a packet that was cut is left
-abbrev pub is_piece_left : Host → Bool
+abbrev pub is_piece_left : IfaceHost → Bool
 is_piece_left host = not (is_nil (host_with host.interface.value no_sockets).left)
 
 -- the machine polls, by one call of each kind: the first frame that it sends is written to the front of a buffer, and the
@@ -70,7 +70,7 @@ pub record PollsInto (t : ℤ) (answer : PollResult) (n : ℕ) (before after : L
 
 -- a poll with room for one frame reserved, over the sockets as they are before the round; its first frame is counted, and
 -- sockets may have changed where its answer says so
-pub record Round (t : ℤ) (n : ℕ) (before after : List ℕ) (old new : Host) : Type 0 where
+pub record Round (t : ℤ) (n : ℕ) (before after : List ℕ) (old new : IfaceHost) : Type 0 where
   pub prepared : Planned (Bor (Unit {0}))
   pub polled : Sockets (Bor (Unit {0}))
   pub answer : PollResult
@@ -88,17 +88,17 @@ pub record Round (t : ℤ) (n : ℕ) (before after : List ℕ) (old new : Host) 
   }
 
 -- the first frame that waits is handed over, and counted
-pub record HandsOver (n : ℕ) (before after : List ℕ) (old new : Host) : Type 0 where
+pub record HandsOver (n : ℕ) (before after : List ℕ) (old new : IfaceHost) : Type 0 where
   pub first : HandsFirst old.outbox n before after new.outbox
   pub rest : new ≡ record old { outbox = new.outbox; frames = after_handing n old.frames }
 
 -- the first frame that waits is handed over; where none waits, that of a round
-pub data Gives (t : ℤ) (n : ℕ) (before after : List ℕ) (old new : Host) : Type 0 where
+pub data Gives (t : ℤ) (n : ℕ) (before after : List ℕ) (old new : IfaceHost) : Type 0 where
   Waited : old.outbox.frames ≢ [] → HandsOver n before after old new → Gives t n before after old new
   Made : old.outbox.frames ≡ [] → Round t n before after old new → Gives t n before after old new
 
 -- the least instant at which something of the machine is due, at the moment that is set; 0 where a frame waits
-pub record IsDue (t : ℤ) (due : Option ℤ) (old new : Host) : Type 0 where
+pub record IsDue (t : ℤ) (due : Option ℤ) (old new : IfaceHost) : Type 0 where
   pub led : (H : Machine) → StandsFor old H → StandsFor new (at H t)
   pub least : old.outbox.frames ≡ [] → (H : Machine) → StandsFor old H → IsLeast (Due (at H t)) due
   pub at_once : old.outbox.frames ≢ [] → due ≡ Some (pos 0)

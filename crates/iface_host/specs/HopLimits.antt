@@ -5,7 +5,7 @@ use Rattle.sockets.specs.declared.socket.SocketOf.TheVariants.{Raw, Icmp, Udp, T
 use Rattle.socket_set.specs.SocketSet.{socket_at}
 use Rattle.iface_host.specs.Names.{handle_named}
 use Rattle.iface_host.specs.Sockets.{Names, Socket, with_socket}
-use Rattle.iface_host.specs.declared.host.Host.{Host}
+use Rattle.iface_host.specs.declared.host.IfaceHost.{IfaceHost}
 use Rattle.iface_host.specs.declared.refusal.Refusal.{Refusal}
 use Rattle.iface_host.specs.declared.refusal.Refusal.TheVariants.{NoSocket}
 
@@ -24,12 +24,12 @@ with_hop_limit n (Udp s) = Udp (record s { hop_limit = n })
 with_hop_limit n (Tcp s) = Tcp (record s { hop_limit = n })
 
 -- that of the socket that a number names, if it names one that has one
-abbrev pub hop_limit_at : Host → ℕ → Option ℕ
+abbrev pub hop_limit_at : IfaceHost → ℕ → Option ℕ
 hop_limit_at host n =
     option_and_then hop_limit_of (option_and_then (socket_at host.sockets) (handle_named host.names n))
 
 -- the socket that a number names has another one
-pub record SetsHopLimit (n hop_limit : ℕ) (old new : Host) : Type 0 where
+pub record SetsHopLimit (n hop_limit : ℕ) (old new : IfaceHost) : Type 0 where
   pub handle : ℕ
   pub socket : Socket
   pub names : Names n old handle socket
@@ -37,5 +37,5 @@ pub record SetsHopLimit (n hop_limit : ℕ) (old new : Host) : Type 0 where
   pub after : new ≡ with_socket old handle (Some (with_hop_limit hop_limit socket))
 
 -- the number names no socket that has one
-abbrev pub hop_limit_refusal : Host → ℕ → Option Refusal
+abbrev pub hop_limit_refusal : IfaceHost → ℕ → Option Refusal
 hop_limit_refusal host n = if is_some (hop_limit_at host n) then None else Some NoSocket

@@ -16,7 +16,7 @@ use Rattle.host_machine.specs.declared.results.AddrError.{AddrError}
 use Rattle.host_machine.specs.declared.results.AddrError.TheVariants.{NotUnicast}
 use Rattle.iface_host.specs.Calls.{addr_room_of, addresses_of, is_same, route_room_of, routes_of}
 use Rattle.iface_host.specs.TableRefusals.{list_refusal}
-use Rattle.iface_host.specs.declared.host.Host.{Host}
+use Rattle.iface_host.specs.declared.host.IfaceHost.{IfaceHost}
 use Rattle.iface_host.specs.declared.leased.Leased.{Leased}
 use Rattle.iface_host.specs.declared.refusal.Refusal.{Refusal}
 use Rattle.iface_host.specs.declared.refusal.Refusal.TheVariants.{TableFull}
@@ -87,7 +87,7 @@ abbrev pub are_many_routes : ℕ → Option Leased → Option Leased → List Ro
 are_many_routes room old new routes = nat_lt room (length (routes_with old new routes))
 
 -- there is no room for an address or for a route, or an address can't be an own one
-abbrev pub leased_refusal : Host → Option Leased → Option Leased → Option Refusal
+abbrev pub leased_refusal : IfaceHost → Option Leased → Option Leased → Option Refusal
 leased_refusal host old new =
     if are_many_addresses (addr_room_of host) old new (addresses_of host)
     || are_many_routes (route_room_of host) old new (routes_of host)

@@ -11,26 +11,26 @@ use Rattle.host_machine.specs.Context.Host.{Host as Machine, no_sockets}
 use Rattle.host_machine.specs.declared.results.HardwareError.{HardwareError}
 use Rattle.host_machine.specs.declared.results.HardwareError.TheVariants as error
 use Rattle.interface.specs.Stands.{host_with}
-use Rattle.iface_host.specs.declared.host.Host.{Host}
+use Rattle.iface_host.specs.declared.host.IfaceHost.{IfaceHost}
 use Rattle.iface_host.specs.declared.refusal.Refusal.{Refusal}
 use Rattle.iface_host.specs.declared.refusal.Refusal.TheVariants.{NotThere, NotUnicast}
 
 -- what it is set to, and what it learnt: the machine's host, without its sockets
-abbrev pub machine_of : Host → Machine
+abbrev pub machine_of : IfaceHost → Machine
 machine_of host = host_with host.interface.value no_sockets
 
 -- addresses that are routed to it count as its own, or don't
 abbrev pub SetsAnyIp : Bool → Machine → Machine → Type 0
 SetsAnyIp on H H' = H' ≡ record H { any_ip = on }
 
-abbrev pub any_ip_of : Host → Bool
+abbrev pub any_ip_of : IfaceHost → Bool
 any_ip_of host = (machine_of host).any_ip
 
 -- fragments wait so long for the others
 abbrev pub SetsTimeout : ℕ → Machine → Machine → Type 0
 SetsTimeout timeout H H' = H' ≡ record H { reassembly_timeout = timeout }
 
-abbrev pub timeout_of : Host → ℕ
+abbrev pub timeout_of : IfaceHost → ℕ
 timeout_of host = (machine_of host).reassembly_timeout
 
 -- its address on Ethernet is another one
@@ -42,7 +42,7 @@ abbrev pub ethernet_in : HardwareAddress → Option EthernetAddress
 ethernet_in (Ethernet address) = Some address
 ethernet_in Ip = None
 
-abbrev pub hardware_of : Host → Option EthernetAddress
+abbrev pub hardware_of : IfaceHost → Option EthernetAddress
 hardware_of host = ethernet_in (machine_of host).hardware_addr
 
 -- the refusal by which an error is told
@@ -52,13 +52,13 @@ of_error (Some error.WrongMedium) = Some NotThere
 of_error (Some error.NotUnicast) = Some NotUnicast
 
 -- an address on Ethernet: the medium has none, or it isn't unicast
-abbrev pub hardware_refusal : Host → EthernetAddress → Option Refusal
+abbrev pub hardware_refusal : IfaceHost → EthernetAddress → Option Refusal
 hardware_refusal host address = of_error (hardware_refusal_of (machine_of host).capabilities (Ethernet address))
 
 -- when its addresses and routes were last those that routers advertise
-abbrev pub slaac_updated_at : Host → ℤ
+abbrev pub slaac_updated_at : IfaceHost → ℤ
 slaac_updated_at host = (machine_of host).slaac_updated_at
 
 -- whether it is in a group
-abbrev pub is_in : Host → IpAddress → Bool
+abbrev pub is_in : IfaceHost → IpAddress → Bool
 is_in host group = machine.has_multicast_group (machine_of host) group

@@ -6,7 +6,7 @@ use Rattle.sockets.specs.Queue.{Queued, octets_in}
 use Rattle.socket_set.specs.SocketSet.{socket_at}
 use Rattle.iface_host.specs.Names.{handle_named}
 use Rattle.iface_host.specs.Sockets.{Socket}
-use Rattle.iface_host.specs.declared.host.Host.{Host}
+use Rattle.iface_host.specs.declared.host.IfaceHost.{IfaceHost}
 use Rattle.iface_host.specs.declared.queues.Fill.{Fill}
 use Rattle.iface_host.specs.declared.refusal.Refusal.{Refusal}
 use Rattle.iface_host.specs.declared.refusal.Refusal.TheVariants.{NoSocket}
@@ -37,9 +37,9 @@ fills_of (Udp s) = (fill_of s.rx, fill_of s.tx)
 fills_of (Tcp s) = (fill_of s.rx, fill_of s.tx)
 
 -- in those of the socket that a number names, if it names one
-abbrev pub fills_at : Host → ℕ → Option (Fill × Fill)
+abbrev pub fills_at : IfaceHost → ℕ → Option (Fill × Fill)
 fills_at host n = option_map fills_of (option_and_then (socket_at host.sockets) (handle_named host.names n))
 
 -- the number names no socket
-abbrev pub queues_refusal : Host → ℕ → Option Refusal
+abbrev pub queues_refusal : IfaceHost → ℕ → Option Refusal
 queues_refusal host n = if is_some (fills_at host n) then None else Some NoSocket

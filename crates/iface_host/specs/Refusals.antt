@@ -17,13 +17,13 @@ use Rattle.socket_set.specs.SocketSet.{socket_at}
 use Rattle.sockets.specs.Udp.{UdpSocket}
 use Rattle.iface_host.specs.Names.{handle_named}
 use Rattle.iface_host.specs.Sockets.{Socket}
-use Rattle.iface_host.specs.declared.host.Host.{Host}
+use Rattle.iface_host.specs.declared.host.IfaceHost.{IfaceHost}
 use Rattle.iface_host.specs.declared.refusal.Refusal.{Refusal}
 use Rattle.iface_host.specs.declared.refusal.Refusal.TheVariants.{BadAddress, BadMoment, BadPort, Empty}
 use Rattle.iface_host.specs.declared.refusal.Refusal.TheVariants.{NoRoom, NoSocket, QueueFull, TooLong}
 
 -- the socket of a kind that a number names, if it names one
-abbrev pub kind_at : {S : Type 0} → (Socket → Option S) → Host → ℕ → Option S
+abbrev pub kind_at : {S : Type 0} → (Socket → Option S) → IfaceHost → ℕ → Option S
 kind_at down host n = option_and_then down (option_and_then (socket_at host.sockets) (handle_named host.names n))
 
 -- without a socket the number is refused
@@ -36,15 +36,15 @@ abbrev pub of_packet : {M : Type 0} → ℕ → Option (M × List ℕ) → Optio
 of_packet room None = Some Empty
 of_packet room (Some p) = if nat_lt room (length p.1) then Some NoRoom else None
 
-abbrev pub udp_unreceived : Host → ℕ → ℕ → Option Refusal
+abbrev pub udp_unreceived : IfaceHost → ℕ → ℕ → Option Refusal
 udp_unreceived host n room =
     of_socket (λ (s : UdpSocket). of_packet room (first_of s.rx.packets)) (kind_at down_udp host n)
 
-abbrev pub icmp_unreceived : Host → ℕ → ℕ → Option Refusal
+abbrev pub icmp_unreceived : IfaceHost → ℕ → ℕ → Option Refusal
 icmp_unreceived host n room =
     of_socket (λ (s : IcmpSocket). of_packet room (first_of s.rx.packets)) (kind_at down_icmp host n)
 
-abbrev pub raw_unreceived : Host → ℕ → ℕ → Option Refusal
+abbrev pub raw_unreceived : IfaceHost → ℕ → ℕ → Option Refusal
 raw_unreceived host n room =
     of_socket (λ (s : RawSocket). of_packet room (first_of s.rx.packets)) (kind_at down_raw host n)
 
@@ -57,16 +57,16 @@ may_send mtu Ipv6 header len = nat_le len 65495 && nat_le (len + header + 40) mt
 abbrev pub if_full : Bool → Option Refusal
 if_full is_room = if is_room then None else Some QueueFull
 
-abbrev pub raw_unsent : Host → ℕ → ℕ → Option Refusal
+abbrev pub raw_unsent : IfaceHost → ℕ → ℕ → Option Refusal
 raw_unsent host n len = of_socket (λ (s : RawSocket). if_full (is_room s.tx len)) (kind_at down_raw host n)
 
-abbrev pub icmp_unsent : Host → ℕ → IpAddress → ℕ → Option Refusal
+abbrev pub icmp_unsent : IfaceHost → ℕ → IpAddress → ℕ → Option Refusal
 icmp_unsent host n remote len =
     if is_unspecified remote then Some BadAddress
     else (if may_send host.ip_mtu (version_of remote) 0 len
     then of_socket (λ (s : IcmpSocket). if_full (is_room s.tx len)) (kind_at down_icmp host n) else Some TooLong)
 
-abbrev pub udp_unsent : Host → ℕ → IpEndpoint → ℕ → Option Refusal
+abbrev pub udp_unsent : IfaceHost → ℕ → IpEndpoint → ℕ → Option Refusal
 udp_unsent host n remote len =
     if remote.port == 0 then Some BadPort
     else (if is_unspecified remote.addr then Some BadAddress
@@ -76,7 +76,7 @@ udp_unsent host n remote len =
     else Some TooLong))
 
 -- no socket, of whatever kind, is named
-abbrev pub close_refusal : Host → ℕ → Option Refusal
+abbrev pub close_refusal : IfaceHost → ℕ → Option Refusal
 close_refusal host n =
     if is_some (option_and_then (socket_at host.sockets) (handle_named host.names n)) then None else Some NoSocket
 

@@ -13,7 +13,7 @@ use Rattle.sockets.specs.declared.socket.SocketOf.TheVariants.{Tcp}
 use Rattle.iface_host.specs.Refusals.{if_full, kind_at, may_send, moment_refusal, of_packet, of_socket}
 use Rattle.iface_host.specs.Sockets.{Names, Peeks, Receives, Socket, queue_of, with_packet, with_socket}
 use Rattle.iface_host.specs.TableRefusals.{first_reason, is_no_hosts, opening_refusal}
-use Rattle.iface_host.specs.declared.host.Host.{Host}
+use Rattle.iface_host.specs.declared.host.IfaceHost.{IfaceHost}
 use Rattle.iface_host.specs.declared.opening.Rooms.{Rooms}
 use Rattle.iface_host.specs.declared.refusal.Refusal.{Refusal}
 use Rattle.iface_host.specs.declared.refusal.Refusal.TheVariants.{BadAddress, BadPort, TooLong}
@@ -31,7 +31,7 @@ tcp local remote rooms = Tcp (record {
 })
 
 -- a segment is queued, for which there is room
-pub record SendsTcp (n : ℕ) (segment : Segment) (payload : List ℕ) (old new : Host) : Type 0 where
+pub record SendsTcp (n : ℕ) (segment : Segment) (payload : List ℕ) (old new : IfaceHost) : Type 0 where
   pub handle : ℕ
   pub socket : tcps.TcpSocket
   pub names : Names n old handle (Tcp socket)
@@ -40,21 +40,21 @@ pub record SendsTcp (n : ℕ) (segment : Segment) (payload : List ℕ) (old new 
       (with_socket old handle (Some (Tcp (tcps.socket_after_send segment payload socket))))
 
 -- the first segment that came stands in the front of a buffer; besides, it is taken
-abbrev pub PeeksTcp : ℕ → Segment → ℕ → List ℕ → Host → Type 0
+abbrev pub PeeksTcp : ℕ → Segment → ℕ → List ℕ → IfaceHost → Type 0
 PeeksTcp = Peeks up_tcp (λ (s : tcps.TcpSocket). s.rx)
 
-abbrev pub ReceivesTcp : ℕ → Segment → ℕ → List ℕ → Host → Host → Type 0
+abbrev pub ReceivesTcp : ℕ → Segment → ℕ → List ℕ → IfaceHost → IfaceHost → Type 0
 ReceivesTcp = Receives up_tcp (λ (s : tcps.TcpSocket). s.rx) tcps.socket_after_done
 
 -- a socket sends nothing before a moment
-pub record HoldsTcp (n : ℕ) (until : ℤ) (old new : Host) : Type 0 where
+pub record HoldsTcp (n : ℕ) (until : ℤ) (old new : IfaceHost) : Type 0 where
   pub handle : ℕ
   pub socket : tcps.TcpSocket
   pub names : Names n old handle (Tcp socket)
   pub after : new ≡ with_socket old handle (Some (Tcp (record socket { hold = until })))
 
 -- a socket gets no segment from now on
-pub record AbortsTcp (n : ℕ) (old new : Host) : Type 0 where
+pub record AbortsTcp (n : ℕ) (old new : IfaceHost) : Type 0 where
   pub handle : ℕ
   pub socket : tcps.TcpSocket
   pub names : Names n old handle (Tcp socket)
@@ -70,13 +70,13 @@ is_to_nowhere None = false
 is_to_nowhere (Some end) = is_unspecified end.addr
 
 -- a socket to be opened: a port is 0; its own address is no host's, or the remote one unspecified; or as each socket
-abbrev pub tcp_opening_refusal : Host → IpListenEndpoint → Option IpEndpoint → Option Refusal
+abbrev pub tcp_opening_refusal : IfaceHost → IpListenEndpoint → Option IpEndpoint → Option Refusal
 tcp_opening_refusal host local remote =
     if (local.port == 0) || has_port_0 remote then Some BadPort else
     if is_no_hosts local.addr || is_to_nowhere remote then Some BadAddress else opening_refusal host
 
 -- a segment to be sent, as a datagram
-abbrev pub tcp_unsent : Host → ℕ → IpEndpoint → ℕ → Option Refusal
+abbrev pub tcp_unsent : IfaceHost → ℕ → IpEndpoint → ℕ → Option Refusal
 tcp_unsent host n remote len =
     if remote.port == 0 then Some BadPort
     else (if is_unspecified remote.addr then Some BadAddress
@@ -86,14 +86,14 @@ tcp_unsent host n remote len =
     else Some TooLong))
 
 -- a segment to be received
-abbrev pub tcp_unreceived : Host → ℕ → ℕ → Option Refusal
+abbrev pub tcp_unreceived : IfaceHost → ℕ → ℕ → Option Refusal
 tcp_unreceived host n room =
     of_socket (λ (s : tcps.TcpSocket). of_packet room (first_of s.rx.packets)) (kind_at down_tcp host n)
 
 -- a socket that is to get no segment: the number names none
-abbrev pub abort_refusal : Host → ℕ → Option Refusal
+abbrev pub abort_refusal : IfaceHost → ℕ → Option Refusal
 abort_refusal host n = of_socket (λ (s : tcps.TcpSocket). None) (kind_at down_tcp host n)
 
 -- one that is to hold back: before that, the moment is out of range
-abbrev pub hold_refusal : Host → ℕ → ℤ → Option Refusal
+abbrev pub hold_refusal : IfaceHost → ℕ → ℤ → Option Refusal
 hold_refusal host n until = first_reason (moment_refusal until) (abort_refusal host n)

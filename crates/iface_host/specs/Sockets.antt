@@ -18,7 +18,7 @@ use Rattle.sockets.specs.declared.socket.SocketOf.{SocketOf}
 use Rattle.sockets.specs.declared.socket.SocketOf.TheVariants.{Raw, Icmp, Udp}
 use Rattle.socket_set.specs.SocketSet.{set_after_add, first_free, socket_at, with_place}
 use Rattle.iface_host.specs.Names.{first_unused, handle_named}
-use Rattle.iface_host.specs.declared.host.Host.{Host}
+use Rattle.iface_host.specs.declared.host.IfaceHost.{IfaceHost}
 use Rattle.iface_host.specs.declared.opening.Room.{Room}
 use Rattle.iface_host.specs.declared.opening.Rooms.{Rooms}
 
@@ -56,7 +56,7 @@ icmp endpoint rooms = Icmp (record {
 })
 
 -- a socket is added, the least number that named none names it, and what was kept of its place is forgotten
-pub record Opens (socket : Socket) (n : ℕ) (old new : Host) : Type 0 where
+pub record Opens (socket : Socket) (n : ℕ) (old new : IfaceHost) : Type 0 where
   pub unused : first_unused old.names ≡ Some n
   pub after : new ≡ record old {
     sockets = set_after_add old.sockets socket new.sockets.room;
@@ -65,28 +65,28 @@ pub record Opens (socket : Socket) (n : ℕ) (old new : Host) : Type 0 where
   }
 
 -- the host with this at a place of its sockets
-abbrev pub with_socket : Host → ℕ → Option Socket → Host
+abbrev pub with_socket : IfaceHost → ℕ → Option Socket → IfaceHost
 with_socket host handle socket = record host { sockets = with_place host.sockets handle socket }
 
 -- a number names this socket
-pub record Names (n : ℕ) (host : Host) (handle : ℕ) (socket : Socket) : Type 0 where
+pub record Names (n : ℕ) (host : IfaceHost) (handle : ℕ) (socket : Socket) : Type 0 where
   pub is_named : handle_named host.names n ≡ Some handle
   pub is_there : socket_at host.sockets handle ≡ Some socket
 
 -- the socket of a number is dropped, and the number names none
-pub record Closes (n : ℕ) (old new : Host) : Type 0 where
+pub record Closes (n : ℕ) (old new : IfaceHost) : Type 0 where
   pub handle : ℕ
   pub is_named : handle_named old.names n ≡ Some handle
   pub is_there : IsSome (socket_at old.sockets handle)
   pub after : new ≡ record (with_socket old handle None) { names = slice_set old.names n None }
 
 -- a packet of so many octets may have to be cut, if it is longer than the link's packets
-abbrev pub with_packet : ℕ → Host → Host
+abbrev pub with_packet : ℕ → IfaceHost → IfaceHost
 with_packet len host =
     if nat_lt host.ip_mtu len then record host { schedule = record host.schedule { may_have_long = true } } else host
 
 -- a packet is queued, for which there is room
-pub record SendsUdp (n : ℕ) (remote : IpEndpoint) (payload : List ℕ) (old new : Host) : Type 0 where
+pub record SendsUdp (n : ℕ) (remote : IpEndpoint) (payload : List ℕ) (old new : IfaceHost) : Type 0 where
   pub handle : ℕ
   pub socket : udps.UdpSocket
   pub names : Names n old handle (Udp socket)
@@ -94,7 +94,7 @@ pub record SendsUdp (n : ℕ) (remote : IpEndpoint) (payload : List ℕ) (old ne
   pub after : new ≡ with_packet (28 + length payload)
       (with_socket old handle (Some (Udp (udps.socket_after_send remote payload socket))))
 
-pub record SendsIcmp (n : ℕ) (remote : IpAddress) (message : List ℕ) (old new : Host) : Type 0 where
+pub record SendsIcmp (n : ℕ) (remote : IpAddress) (message : List ℕ) (old new : IfaceHost) : Type 0 where
   pub handle : ℕ
   pub socket : icmps.IcmpSocket
   pub names : Names n old handle (Icmp socket)
@@ -102,7 +102,7 @@ pub record SendsIcmp (n : ℕ) (remote : IpAddress) (message : List ℕ) (old ne
   pub after : new ≡ with_packet (20 + length message)
       (with_socket old handle (Some (Icmp (icmps.socket_after_send remote message socket))))
 
-pub record SendsRaw (n : ℕ) (packet : List ℕ) (old new : Host) : Type 0 where
+pub record SendsRaw (n : ℕ) (packet : List ℕ) (old new : IfaceHost) : Type 0 where
   pub handle : ℕ
   pub socket : raws.RawSocket
   pub names : Names n old handle (Raw socket)
@@ -117,7 +117,7 @@ lent_packet p = (p.0.now, p.1.now)
 -- the first packet that came to a socket of a kind stands in the front of a buffer, which it fits, and where it came
 -- from is told
 pub record Peeks {M S : Type 0} (up : S → Socket) (received : S → Queued M) (n : ℕ) (from : M) (len : ℕ) (out : List ℕ)
-    (host : Host) : Type 0 where
+    (host : IfaceHost) : Type 0 where
   pub handle : ℕ
   pub socket : S
   pub names : Names n host handle (up socket)
@@ -126,24 +126,24 @@ pub record Peeks {M S : Type 0} (up : S → Socket) (received : S → Queued M) 
 
 -- besides, it is taken
 pub record Receives {M S : Type 0} (up : S → Socket) (received : S → Queued M) (after_done : S → S) (n : ℕ) (from : M)
-    (len : ℕ) (out : List ℕ) (old new : Host) : Type 0 where
+    (len : ℕ) (out : List ℕ) (old new : IfaceHost) : Type 0 where
   pub peeked : Peeks up received n from len out old
   pub after : new ≡ with_socket old peeked.handle (Some (up (after_done peeked.socket)))
 
-abbrev pub PeeksUdp : ℕ → IpEndpoint → ℕ → List ℕ → Host → Type 0
+abbrev pub PeeksUdp : ℕ → IpEndpoint → ℕ → List ℕ → IfaceHost → Type 0
 PeeksUdp = Peeks up_udp (λ (s : udps.UdpSocket). s.rx)
 
-abbrev pub ReceivesUdp : ℕ → IpEndpoint → ℕ → List ℕ → Host → Host → Type 0
+abbrev pub ReceivesUdp : ℕ → IpEndpoint → ℕ → List ℕ → IfaceHost → IfaceHost → Type 0
 ReceivesUdp = Receives up_udp (λ (s : udps.UdpSocket). s.rx) udps.socket_after_done
 
-abbrev pub PeeksIcmp : ℕ → IpAddress → ℕ → List ℕ → Host → Type 0
+abbrev pub PeeksIcmp : ℕ → IpAddress → ℕ → List ℕ → IfaceHost → Type 0
 PeeksIcmp = Peeks up_icmp (λ (s : icmps.IcmpSocket). s.rx)
 
-abbrev pub ReceivesIcmp : ℕ → IpAddress → ℕ → List ℕ → Host → Host → Type 0
+abbrev pub ReceivesIcmp : ℕ → IpAddress → ℕ → List ℕ → IfaceHost → IfaceHost → Type 0
 ReceivesIcmp = Receives up_icmp (λ (s : icmps.IcmpSocket). s.rx) icmps.socket_after_done
 
-abbrev pub PeeksRaw : ℕ → ℕ → List ℕ → Host → Type 0
+abbrev pub PeeksRaw : ℕ → ℕ → List ℕ → IfaceHost → Type 0
 PeeksRaw n = Peeks up_raw (λ (s : raws.RawSocket). s.rx) n tt
 
-abbrev pub ReceivesRaw : ℕ → ℕ → List ℕ → Host → Host → Type 0
+abbrev pub ReceivesRaw : ℕ → ℕ → List ℕ → IfaceHost → IfaceHost → Type 0
 ReceivesRaw n = Receives up_raw (λ (s : raws.RawSocket). s.rx) raws.socket_after_done n tt

@@ -19,11 +19,11 @@ use Rattle.guard.specs.declared.watch.Watch.{Watch}
 use Rattle.net_base.specs.declared.phy.DeviceCapabilities.{DeviceCapabilities}
 use Rattle.interface.specs.Stands as interface
 use Rattle.interface.specs.Stands.{Refinement}
-use Rattle.iface_host.specs.declared.host.Host.{Host}
+use Rattle.iface_host.specs.declared.host.IfaceHost.{IfaceHost}
 use Rattle.iface_host.specs.declared.host.Settings.{Settings}
 
 -- the interface in its box stands for it, with its sockets
-abbrev pub StandsFor : Host → Machine → Type 0
+abbrev pub StandsFor : IfaceHost → Machine → Type 0
 StandsFor host H = interface.StandsFor host.interface.value host.sockets H
 
 -- what its link can do: the checksums that aren't set aren't computed here
@@ -70,7 +70,7 @@ watch_for s = watch_on s.hardware_addr s.watch
 
 -- it was just made: it stands for the machine's first host; its places are free, its numbers name none, no frame waits,
 -- and no socket does; nothing changed, nothing was counted, and its guard is that of the settings
-pub record IsFirst (s : Settings) (host : Host) : Type 0 where
+pub record IsFirst (s : Settings) (host : IfaceHost) : Type 0 where
   pub stands : StandsFor host (first_machine s host.sockets)
   pub some_time : 0 < s.reassembly_timeout
   pub within_day : s.reassembly_timeout ≤ 86_400_000_000
@@ -85,10 +85,10 @@ pub record IsFirst (s : Settings) (host : Host) : Type 0 where
 
 -- nothing but the interface changed, and by a rule: from each host that it stood for, the rule leads to
 -- one that it stands for
-pub record Follows (Rule : Machine → Machine → Type 0) (old new : Host) : Type 0 where
+pub record Follows (Rule : Machine → Machine → Type 0) (old new : IfaceHost) : Type 0 where
   pub led : (H : Machine) → StandsFor old H → Refinement Rule H (StandsFor new)
   pub rest : new ≡ record old { interface = new.interface }
 
 -- nothing changed
-abbrev pub Stays : Host → Host → Type 0
+abbrev pub Stays : IfaceHost → IfaceHost → Type 0
 Stays = Follows (λ H H'. H' ≡ H)

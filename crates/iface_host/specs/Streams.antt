@@ -13,24 +13,24 @@ use Rattle.interface.specs.Stands.{host_with}
 use Rattle.interface.specs.declared.interface.Interface.{Interface}
 use Rattle.iface_host.specs.Calls.{addresses_of}
 use Rattle.iface_host.specs.Sockets.{Opens, Socket}
-use Rattle.iface_host.specs.declared.host.Host.{Host}
+use Rattle.iface_host.specs.declared.host.IfaceHost.{IfaceHost}
 use Rattle.iface_host.specs.declared.streams.StreamPair.{StreamPair}
 
 -- how many numbers name no socket, and how many places have none
-abbrev pub unused_numbers : Host → ℕ
+abbrev pub unused_numbers : IfaceHost → ℕ
 unused_numbers host = count_by is_none host.names
 
-abbrev pub free_places : Host → ℕ
+abbrev pub free_places : IfaceHost → ℕ
 free_places host = count_by is_none host.sockets.places
 
 -- so many sockets more can be opened
-abbrev pub has_room_for : ℕ → Host → Bool
+abbrev pub has_room_for : ℕ → IfaceHost → Bool
 has_room_for count host =
     nat_le (length host.names) 4294967296 && nat_le count (unused_numbers host) && nat_le count (free_places host)
 
 -- two sockets are opened, one after the other
-pub record OpensPair (near far : Socket) (pair : StreamPair) (old new : Host) : Type 0 where
-  pub between : Host
+pub record OpensPair (near far : Socket) (pair : StreamPair) (old new : IfaceHost) : Type 0 where
+  pub between : IfaceHost
   pub near_opened : Opens near pair.near old between
   pub far_opened : Opens far pair.far between new
   pub near_handle : pair.handles.near ≡ first_free old.sockets.places
@@ -41,7 +41,7 @@ abbrev pub IsKnownAt : Interface → IpAddress → Bool → Type 0
 IsKnownAt i a known = (sockets : SocketSet) → HasNeighbor (host_with i sockets) a known
 
 -- connections are polled over the host's own addresses, what it knows of neighbours, and its sockets; nothing else changes
-pub record PollsStreams (now : ℤ) (c c' : Carrier) (h h' : streams.Host) (old new : Host) : Type 0 where
+pub record PollsStreams (now : ℤ) (c c' : Carrier) (h h' : streams.Host) (old new : IfaceHost) : Type 0 where
   pub micros : ℕ
   pub is_now : pos micros ≡ now
   pub polls : tcp.Polls (IsKnownAt old.interface.value) micros (addresses_of old) (state c h old.sockets) (state c' h' new.sockets)

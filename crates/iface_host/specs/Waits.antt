@@ -7,18 +7,18 @@ use Rattle.egress_schedule.specs.declared.watch.Waiting.{Waiting}
 use Rattle.iface_host.specs.Frames.{planned}
 use Rattle.iface_host.specs.Names.{handle_named}
 use Rattle.iface_host.specs.Refusals.{close_refusal}
-use Rattle.iface_host.specs.declared.host.Host.{Host}
+use Rattle.iface_host.specs.declared.host.IfaceHost.{IfaceHost}
 use Rattle.iface_host.specs.declared.refusal.Refusal.{Refusal}
 use Rattle.iface_host.specs.declared.refusal.Refusal.TheVariants.{Empty}
 
 -- for whom the socket of a number waits
-pub record TellsWaiting (n : ℕ) (waiting : Waiting) (host : Host) : Type 0 where
+pub record TellsWaiting (n : ℕ) (waiting : Waiting) (host : IfaceHost) : Type 0 where
   pub handle : ℕ
   pub is_named : handle_named host.names n ≡ Some handle
   pub waiting_is : waiting_at handle (planned host) ≡ Some waiting
 
 -- the destination of the packet that the socket of a number gave up last is told, and isn't told again
-pub record TellsGivenUp (n : ℕ) (given_up : IpAddress) (old new : Host) : Type 0 where
+pub record TellsGivenUp (n : ℕ) (given_up : IpAddress) (old new : IfaceHost) : Type 0 where
   pub handle : ℕ
   pub is_named : handle_named old.names n ≡ Some handle
   pub given_up_is : given_up_at handle old.schedule ≡ Some given_up
@@ -29,12 +29,12 @@ abbrev pub if_nothing : Option Refusal → Bool → Option Refusal
 if_nothing None something = if something then None else Some Empty
 if_nothing (Some refusal) something = Some refusal
 
-abbrev pub waiting_refusal : Host → ℕ → Option Refusal
+abbrev pub waiting_refusal : IfaceHost → ℕ → Option Refusal
 waiting_refusal host n =
     if_nothing (close_refusal host n)
     (is_some (option_and_then (λ handle. waiting_at handle (planned host)) (handle_named host.names n)))
 
-abbrev pub given_up_refusal : Host → ℕ → Option Refusal
+abbrev pub given_up_refusal : IfaceHost → ℕ → Option Refusal
 given_up_refusal host n =
     if_nothing (close_refusal host n)
     (is_some (option_and_then (λ handle. given_up_at handle host.schedule) (handle_named host.names n)))

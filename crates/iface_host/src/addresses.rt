@@ -11,7 +11,7 @@ ghost use Rattle.iface_host.specs.Stands.{Follows, Stays};
 ghost use Rattle.iface_host.specs.TableRefusals.{address_refusal, addresses_refusal, join_refusal};
 ghost use Rattle.iface_host.specs.TableRefusals.{leave_refusal, removal_refusal};
 
-use crate::host::Host;
+use crate::host::IfaceHost;
 use crate::refusal::Refusal;
 use arrayvec::ArrayVec;
 use host_machine::{AddrError, MulticastError};
@@ -21,7 +21,7 @@ use ip_wire::{IpAddress, IpCidr};
 /// The most addresses that a host can have.
 pub(crate) const MOST_ADDRESSES: usize = 16;
 
-impl Host {
+impl IfaceHost {
     /// Adds an own address with its network, after the others, and forgets all neighbours. `TableFull` if there is no
     /// room for another, else `NotUnicast` if one of them all is neither unicast nor unspecified.
     pub fn add_address(&mut self, cidr: IpCidr) -> Result<(), Refusal>

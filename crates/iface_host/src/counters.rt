@@ -2,7 +2,7 @@
 ghost use Rattle.std.specs.Prelude.{◌≡◌, false};
 ghost use Rattle.iface_host.specs.Counters.{after_handing, after_taking, counters_of};
 
-use crate::host::Host;
+use crate::host::IfaceHost;
 use net_base::phy::Device;
 
 /// How many frames a host took and handed over. A number stays at the greatest one of 64 bits.
@@ -49,7 +49,7 @@ impl FrameCounts {
     }
 }
 
-impl Host {
+impl IfaceHost {
     /// What it counted since it was made.
     pub fn counters(&self) -> Counters
         ensures { result ≡ counters_of self.now }

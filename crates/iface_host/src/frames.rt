@@ -8,7 +8,7 @@ ghost use Rattle.iface_host.specs.Guarded.{NextIs, Receives};
 ghost use Rattle.iface_host.specs.Refusals.{frame_refusal, moment_refusal};
 ghost use Rattle.iface_host.specs.RoundDevice.{len_or_zero};
 
-use crate::host::{FRAME_LEN, Host};
+use crate::host::{FRAME_LEN, IfaceHost};
 use crate::outbox::{Outbox, write_front};
 use crate::refusal::Refusal;
 use crate::round_device::RoundDevice;
@@ -20,7 +20,7 @@ use socket_set::SocketSet;
 /// The last moment that a caller may give, in microseconds.
 const LAST_MOMENT: i64 = 1 << 62;
 
-impl Host {
+impl IfaceHost {
     /// Takes a frame at a moment, and writes the frame that is to be sent in response, if there is one, to the front of
     /// a buffer. Answers how many octets that has, 0 where there is none. A frame that the host's guard drops changes
     /// nothing but what the guard keeps, and is answered by the announcement of an own address, if one is owed; of a

@@ -5,14 +5,14 @@ ghost use Rattle.iface_host.specs.Guarded as spec;
 ghost use Rattle.iface_host.specs.Guarded.{Defends};
 ghost use Rattle.iface_host.specs.Stands.{watch_for};
 
-use crate::host::{Host, Settings};
+use crate::host::{IfaceHost, Settings};
 use crate::outbox::write_front;
 use crate::refusal::Refusal;
 use guard::{Conflict, Counts, Waits, Watch};
 use ip_wire::{EthernetAddress, HardwareAddress, IpAddress};
 use net_base::time::Instant;
 
-impl Host {
+impl IfaceHost {
     /// How many frames its guard dropped, by the reason, and how many answers it held back.
     pub fn drops(&self) -> Counts
         ensures { result ≡ self.now.watch.counts }

@@ -3,11 +3,11 @@ ghost use Rattle.std.specs.Prelude.{◌≡◌, ◌≢◌, OnOk, OnErr};
 ghost use Rattle.std.specs.Result.{result_err};
 ghost use Rattle.iface_host.specs.HopLimits.{SetsHopLimit, hop_limit_at, hop_limit_refusal};
 
-use crate::host::Host;
+use crate::host::IfaceHost;
 use crate::refusal::Refusal;
 use sockets::{SocketOf, icmp, tcp, udp};
 
-impl Host {
+impl IfaceHost {
     /// Sets the hop limit of the packets that a socket sends from now on, those that wait among them. It must not be 0.
     /// `NoSocket` if the number names none, or a raw one, whose packets have their own headers.
     pub fn set_hop_limit(&mut self, number: u32, hop_limit: u8) -> Result<(), Refusal>

@@ -88,7 +88,7 @@ pub struct Settings {
 /// whether its sockets may have changed since that was asked, how many frames it took and handed over, and its guard. The
 /// interface has a box of its own, since it is large.
 #[derive(Drop)]
-pub struct Host {
+pub struct IfaceHost {
     pub(crate) alloc: Global,
     pub(crate) ip_mtu: usize,
     pub(crate) interface: Box<Interface>,
@@ -101,13 +101,13 @@ pub struct Host {
     pub(crate) watch: Watch,
 }
 
-impl Host {
+impl IfaceHost {
     /// A host with no address, no route and no socket, at the moment at which it begins. The first error that applies is
     /// returned: `NotUnicast` if its address on Ethernet isn't unicast; `BadMtu` if its longest packet has less than 576
     /// octets, or its longest frame more than 1,514; `BadTimeout` if fragments are to wait no time, or longer than a day;
     /// `BadMoment` if it would begin below 0 or above 2^62; `NoMemory` if memory for its interface, its tables or the places
     /// of its sockets is refused.
-    pub fn new(alloc: Global, settings: &Settings) -> Result<Box<Host>, Refusal>
+    pub fn new(alloc: Global, settings: &Settings) -> Result<Box<IfaceHost>, Refusal>
         ensures made { IfOk result (λ host. IsFirst settings.now host.value) }
         ensures why { (e : Refusal) → settings_refusal settings.now ≡ Some e → IsErrOf result e }
         ensures memory { settings_refusal settings.now ≡ None → IfErr result (λ e. e ≡ Refusal.NoMemory) }
@@ -135,7 +135,7 @@ impl Host {
         let schedule = Schedule::new(alloc, settings.sockets, settings.patience)?;
         let host = Box::new(
             alloc,
-            Host {
+            IfaceHost {
                 alloc,
                 ip_mtu: capabilities.ip_mtu(),
                 interface,
@@ -156,7 +156,7 @@ impl Host {
 }
 
 /// The moment at which a host begins, if one is made by these settings. `NotUnicast`, `BadMtu`, `BadTimeout` and
-/// `BadMoment` as [`Host::new`] says.
+/// `BadMoment` as [`IfaceHost::new`] says.
 fn check_settings(settings: &Settings, ip_mtu: usize) -> Result<Instant, Refusal>
     requires { ip_mtu ≡ ip_mtu_of (capabilities_of settings.now) }
     ensures why { result_err result ≡ settings_refusal settings.now }

@@ -9,7 +9,7 @@ ghost use Rattle.iface_host.specs.Leased.{PutsLeased, ReplacesLeased};
 ghost use Rattle.iface_host.specs.Stands.{Follows, Stays};
 
 use crate::addresses::{MOST_ADDRESSES, copied, index_of, put_addresses};
-use crate::host::Host;
+use crate::host::IfaceHost;
 use crate::refusal::Refusal;
 use arrayvec::ArrayVec;
 use host_machine::AddrError;
@@ -26,7 +26,7 @@ pub struct Leased {
     pub router: Option<Ipv4Address>,
 }
 
-impl Host {
+impl IfaceHost {
     /// Replaces what was leased by what is leased now, in one step, and forgets all neighbours. The first own address with the
     /// old network is taken out, and the new one comes after the others; likewise the first default route by the old router,
     /// and one by the new router. `TableFull` if there is no room for so many addresses or routes, else `NotUnicast` if one of

@@ -27,7 +27,7 @@ pub mod streams;
 pub mod waiting;
 
 pub use counters::{Counters, FrameCounts};
-pub use host::{Host, Settings};
+pub use host::{IfaceHost, Settings};
 pub use host_machine::Capacities;
 pub use leased::Leased;
 pub use neighbors::Known;

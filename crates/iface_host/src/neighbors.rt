@@ -3,7 +3,7 @@ ghost use Rattle.std.specs.Prelude.{◌≡◌};
 ghost use Rattle.std.specs.Option.{option_and_then};
 ghost use Rattle.iface_host.specs.Neighbors.{IsNeighborAt, known_as};
 
-use crate::host::Host;
+use crate::host::IfaceHost;
 use iface_tables::neighbor::Neighbor;
 use ip_wire::{EthernetAddress, HardwareAddress, IpAddress};
 use net_base::time::Instant;
@@ -19,7 +19,7 @@ pub struct Known {
     pub until: Instant,
 }
 
-impl Host {
+impl IfaceHost {
     /// The neighbour at a place of their list, if there is one: at most as many stand there as there is room for, by rising
     /// expiry, those whose expiry has passed too. On a medium without hardware addresses there is none.
     pub fn neighbor_at(&self, index: usize) -> Option<Known>

@@ -7,7 +7,7 @@ ghost use Rattle.iface_host.specs.Sockets.{Closes, Opens, icmp, queue_of, raw, u
 ghost use Rattle.iface_host.specs.TableRefusals.{is_no_hosts, opening_refusal, udp_opening_refusal};
 ghost use Rattle.socket_set.specs.SocketSet.{has_free};
 
-use crate::host::Host;
+use crate::host::IfaceHost;
 use crate::refusal::Refusal;
 use ip_wire::{IpAddress, IpProtocol, IpVersion};
 use socket_set::{SocketSet, by_index};
@@ -32,7 +32,7 @@ pub struct Rooms {
     pub to_send: Room,
 }
 
-impl Host {
+impl IfaceHost {
     /// Opens a UDP socket that listens at an end, and names it. `BadPort` if its port is 0, else `BadAddress` if its
     /// address is a group's or 255.255.255.255, else `TableFull` if no number is left, else `NoMemory` if memory for its
     /// queues is refused.
@@ -55,7 +55,7 @@ impl Host {
     }
 
     /// Opens a raw socket for the packets of a version of IP and a protocol, and names it. It fails as
-    /// [`Host::open_udp`] for room.
+    /// [`IfaceHost::open_udp`] for room.
     pub fn open_raw(
         &mut self,
         version: IpVersion,
@@ -73,7 +73,7 @@ impl Host {
         self.add(number, socket)
     }
 
-    /// Opens an ICMP socket for an endpoint, and names it. It fails as [`Host::open_udp`] for room.
+    /// Opens an ICMP socket for an endpoint, and names it. It fails as [`IfaceHost::open_udp`] for room.
     pub fn open_icmp(&mut self, endpoint: icmp::Endpoint, rooms: Rooms) -> Result<u32, Refusal>
         ensures opened { IfOk result (λ n. Opens (icmp endpoint rooms) n self.old self.new) }
         ensures why { (e : Refusal) → opening_refusal self.old ≡ Some e → IsErrOf result e }

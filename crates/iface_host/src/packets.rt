@@ -7,7 +7,7 @@ ghost use Rattle.iface_host.specs.Sockets.{PeeksIcmp, PeeksRaw, PeeksUdp};
 ghost use Rattle.iface_host.specs.Sockets.{ReceivesIcmp, ReceivesRaw, ReceivesUdp};
 ghost use Rattle.iface_host.specs.Sockets.{SendsIcmp, SendsRaw, SendsUdp, lent_packet, with_packet};
 
-use crate::host::Host;
+use crate::host::IfaceHost;
 use crate::outbox::write_front;
 use crate::refusal::Refusal;
 use ip_wire::{IpAddress, IpVersion};
@@ -19,7 +19,7 @@ const MAX_CUT: usize = 4096;
 /// The longest payload that a UDP, an ICMP or a TCP socket takes.
 const MAX_PAYLOAD: usize = 65_495;
 
-impl Host {
+impl IfaceHost {
     /// Queues a datagram to an end. `BadPort` if its port is 0, `BadAddress` if its address is unspecified, `TooLong`
     /// if the packet would be longer than is sent, `NoSocket` if no UDP socket has this number, and else `QueueFull`.
     #[tactic(auto, using(crate::proofs::Places::udp_full, crate::proofs::Places::host_same))]
@@ -58,7 +58,7 @@ impl Host {
         Ok(())
     }
 
-    /// Queues a message of ICMP to an address. It fails as [`Host::send_udp`], where it has no port.
+    /// Queues a message of ICMP to an address. It fails as [`IfaceHost::send_udp`], where it has no port.
     #[tactic(auto, using(crate::proofs::Places::icmp_full))]
     pub fn send_icmp(
         &mut self,
@@ -179,7 +179,7 @@ impl Host {
         Ok(len)
     }
 
-    /// Writes the first datagram that came as [`Host::receive_udp`] does, and fails as it does. It stays.
+    /// Writes the first datagram that came as [`IfaceHost::receive_udp`] does, and fails as it does. It stays.
     pub fn peek_udp(&self, number: u32, out: &mut [u8]) -> Result<(IpEndpoint, usize), Refusal>
         ensures peeked { IfOk result (λ r. PeeksUdp number r.0 r.1 out.new self.now) }
         ensures behind { IfOk result (λ r. drop r.1 out.new ≡ drop r.1 out.old) }
@@ -195,7 +195,7 @@ impl Host {
         write_first(socket.recv(), out)
     }
 
-    /// The same of an ICMP socket, as [`Host::receive_icmp`].
+    /// The same of an ICMP socket, as [`IfaceHost::receive_icmp`].
     pub fn peek_icmp(&self, number: u32, out: &mut [u8]) -> Result<(IpAddress, usize), Refusal>
         ensures peeked { IfOk result (λ r. PeeksIcmp number r.0 r.1 out.new self.now) }
         ensures behind { IfOk result (λ r. drop r.1 out.new ≡ drop r.1 out.old) }
@@ -211,7 +211,7 @@ impl Host {
         write_first(socket.recv(), out)
     }
 
-    /// The same of a raw socket, as [`Host::receive_raw`].
+    /// The same of a raw socket, as [`IfaceHost::receive_raw`].
     pub fn peek_raw(&self, number: u32, out: &mut [u8]) -> Result<usize, Refusal>
         ensures peeked { IfOk result (λ n. PeeksRaw number n out.new self.now) }
         ensures behind { IfOk result (λ n. drop n out.new ≡ drop n out.old) }

@@ -7,13 +7,13 @@ ghost use Rattle.iface_host.specs.Properties.{hardware_refusal, is_in, timeout_o
 ghost use Rattle.iface_host.specs.Stands.{Follows, Stays};
 ghost use Rattle.iface_host.specs.TableRefusals.{timeout_refusal};
 
-use crate::host::{Host, let_fragments_wait};
+use crate::host::{IfaceHost, let_fragments_wait};
 use crate::refusal::Refusal;
 use host_machine::HardwareError;
 use ip_wire::{EthernetAddress, HardwareAddress, IpAddress};
 use net_base::time::{Duration, Instant};
 
-impl Host {
+impl IfaceHost {
     /// Sets whether unicast addresses count as own that are routed to an own address (AnyIP). It can't fail.
     pub fn set_any_ip(&mut self, on: bool)
         ensures { Follows (SetsAnyIp on) self.old self.new }

@@ -5,7 +5,7 @@ ghost use Rattle.iface_host.specs.Names.{handle_named};
 ghost use Rattle.iface_host.specs.Queues.{fill_of, fills_at, first_len};
 ghost use Rattle.socket_set.specs.SocketSet.{socket_at};
 
-use crate::host::Host;
+use crate::host::IfaceHost;
 use socket_set::by_index;
 use sockets::{Queue, SocketOf};
 
@@ -24,7 +24,7 @@ pub struct Fill {
     pub first: usize,
 }
 
-impl Host {
+impl IfaceHost {
     /// What waits in the two queues of a socket, of whatever kind: what was received, and what is to be sent. `None` if
     /// the number names none.
     pub fn queues(&self, number: u32) -> Option<(Fill, Fill)>

@@ -13,14 +13,14 @@ ghost use Rattle.iface_host.specs.TableRefusals.{route_refusal, route_removal_re
 
 use crate::addresses::is_same_cidr;
 use crate::frames::moment;
-use crate::host::Host;
+use crate::host::IfaceHost;
 use crate::refusal::Refusal;
 use iface_tables::route::{Route, RouteTableFull};
 use interface::Interface;
 use ip_wire::{IpAddress, IpCidr, Ipv4Address, Ipv6Address};
 use net_base::time::Instant;
 
-impl Host {
+impl IfaceHost {
     /// Puts a default route by a gateway after all other routes, in place of the first of the gateway's family.
     /// `TableFull` if there is no room for another route and none is such.
     pub fn set_default_route(&mut self, gateway: IpAddress) -> Result<(), Refusal>

@@ -7,13 +7,13 @@ ghost use Rattle.iface_host.specs.Segments.{tcp_opening_refusal, tcp_unreceived,
 ghost use Rattle.iface_host.specs.Sockets.{Opens};
 
 use crate::frames::moment;
-use crate::host::Host;
+use crate::host::IfaceHost;
 use crate::opening::{Rooms, is_no_hosts, queues};
 use crate::packets::write_first;
 use crate::refusal::Refusal;
 use sockets::{IpEndpoint, IpListenEndpoint, tcp};
 
-impl Host {
+impl IfaceHost {
     /// Opens a TCP socket for the segments to an end, from one remote end or, if none is given, from each. It names it.
     /// `BadPort` if a port is 0, else `BadAddress` if its own address is a group's or 255.255.255.255, or the remote
     /// one unspecified, else `TableFull` if no number is left, else `NoMemory` if memory for its queues is refused.
@@ -80,7 +80,7 @@ impl Host {
     }
 
     /// Takes the first segment that came: writes its payload to the front of a buffer, and tells its values and how
-    /// long its payload is. It fails as [`Host::receive_udp`].
+    /// long its payload is. It fails as [`IfaceHost::receive_udp`].
     #[tactic(auto, using(crate::proofs::Places::host_same))]
     pub fn receive_tcp(
         &mut self,
@@ -104,7 +104,7 @@ impl Host {
         Ok(first)
     }
 
-    /// Writes the first segment that came as [`Host::receive_tcp`] does, and fails as it does. It stays.
+    /// Writes the first segment that came as [`IfaceHost::receive_tcp`] does, and fails as it does. It stays.
     pub fn peek_tcp(&self, number: u32, out: &mut [u8]) -> Result<(tcp::Segment, usize), Refusal>
         ensures peeked { IfOk result (λ r. PeeksTcp number r.0 r.1 out.new self.now) }
         ensures behind { IfOk result (λ r. drop r.1 out.new ≡ drop r.1 out.old) }

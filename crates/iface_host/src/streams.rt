@@ -9,7 +9,7 @@ ghost use Rattle.iface_host.specs.Refusals.{moment_refusal};
 ghost use Rattle.iface_host.specs.Sockets.{Opens};
 ghost use Rattle.iface_host.specs.Streams as spec;
 
-use crate::host::Host;
+use crate::host::IfaceHost;
 use crate::refusal::Refusal;
 use interface::Interface;
 use ip_wire::IpAddress;
@@ -30,7 +30,7 @@ pub struct StreamPair {
     pub handles: SocketPair,
 }
 
-impl Host {
+impl IfaceHost {
     /// Whether so many sockets more can be opened: numbers for them are left, and places.
     pub fn has_room_for(&self, count: usize) -> bool
         ensures { result ≡ spec.has_room_for count self.now }

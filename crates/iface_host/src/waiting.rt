@@ -5,13 +5,13 @@ ghost use Rattle.iface_host.specs.Names.{handle_named};
 ghost use Rattle.iface_host.specs.Refusals.{close_refusal};
 ghost use Rattle.iface_host.specs.Waits.{TellsGivenUp, TellsWaiting, given_up_refusal, waiting_refusal};
 
-use crate::host::Host;
+use crate::host::IfaceHost;
 use crate::refusal::Refusal;
 use egress_schedule::Waiting;
 use ip_wire::IpAddress;
 use socket_set::SocketHandle;
 
-impl Host {
+impl IfaceHost {
     /// For whom the first packet of a socket waits, since when, and when it is asked for again, as of the last round.
     /// `NoSocket` if the number names none, `Empty` if it doesn't wait.
     pub fn waiting(&self, number: u32) -> Result<Waiting, Refusal>

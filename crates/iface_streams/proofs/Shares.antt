@@ -8,7 +8,7 @@ use mathlib.Core.Bool.{true≢false}
 use Rattle.ip_address.specs.declared.protocol.IpVersion.TheVariants.{Ipv4, Ipv6}
 use Rattle.iface_host.specs.Sockets.{Socket}
 use Rattle.iface_host.specs.Streams.{has_room_for, unused_numbers, free_places}
-use Rattle.iface_host.specs.declared.host.Host.{Host}
+use Rattle.iface_host.specs.declared.host.IfaceHost.{IfaceHost}
 use Rattle.iface_streams.specs.Settings as setting
 use Rattle.iface_streams.specs.Streams.{count_of, pair_for}
 use Rattle.iface_streams.specs.declared.settings.StreamSettings.{StreamSettings}
@@ -21,7 +21,7 @@ both true b e = (refl, e)
 both false b e = absurd (true≢false (sym e))
 
 -- where there is room for some, there is room for fewer
-less : (k m : ℕ) (h : Host) → has_room_for m h ≡ true → k ≤ m → has_room_for k h ≡ true
+less : (k m : ℕ) (h : IfaceHost) → has_room_for m h ≡ true → k ≤ m → has_room_for k h ≡ true
 less k m h e le =
     let outer : (nat_le (length h.names) 4294967296 && nat_le m (unused_numbers h) ≡ true) × (nat_le m (free_places h) ≡ true) = both _ _ e in
     let inner : (nat_le (length h.names) 4294967296 ≡ true) × (nat_le m (unused_numbers h) ≡ true) = both _ _ outer.0 in
@@ -40,13 +40,13 @@ shares s = by s.ipv4 s.ipv6 where
   by false true = refl
   by false false = refl
 
-pub first_share : (s : StreamSettings) (made : Option (Socket × Socket)) (h : Host) → has_room_for (setting.sockets s) h ≡ true →
+pub first_share : (s : StreamSettings) (made : Option (Socket × Socket)) (h : IfaceHost) → has_room_for (setting.sockets s) h ≡ true →
     made ≡ pair_for Ipv4 s.ipv4 s → has_room_for (count_of made) h ≡ true
 first_share s made h room is =
     let all : count_of (pair_for Ipv6 s.ipv6 s) + count_of (pair_for Ipv4 s.ipv4 s) ≡ setting.sockets s = shares s in
     rw is (less (count_of (pair_for Ipv4 s.ipv4 s)) (setting.sockets s) h room (omega arith))
 
-pub second_share : (s : StreamSettings) (made other : Option (Socket × Socket)) (h h' : Host) → has_room_for (setting.sockets s) h ≡ true →
+pub second_share : (s : StreamSettings) (made other : Option (Socket × Socket)) (h h' : IfaceHost) → has_room_for (setting.sockets s) h ≡ true →
     made ≡ pair_for Ipv4 s.ipv4 s → other ≡ pair_for Ipv6 s.ipv6 s →
     ((k : ℕ) → has_room_for (k + count_of made) h ≡ true → has_room_for k h' ≡ true) → has_room_for (count_of other) h' ≡ true
 second_share s made other h h' room is is' left =

@@ -15,7 +15,7 @@ use Rattle.tcp_host.specs.declared.calls.Handle.{Handle}
 use Rattle.iface_host.specs.Calls.{source_for}
 use Rattle.iface_host.specs.Refusals.{moment_refusal}
 use Rattle.iface_host.specs.TableRefusals.{first_reason}
-use Rattle.iface_host.specs.declared.host.Host.{Host}
+use Rattle.iface_host.specs.declared.host.IfaceHost.{IfaceHost}
 use Rattle.iface_host.specs.declared.refusal.Refusal.{Refusal}
 use Rattle.iface_host.specs.declared.refusal.Refusal.TheVariants.{BadAddress, BadPort, Empty, NotThere}
 use Rattle.iface_streams.specs.declared.streams.Streams.{Streams}
@@ -57,7 +57,7 @@ abbrev pub ClosesListener : ℕ → Streams → Streams → Type 0
 ClosesListener listener old new = new ≡ with_connections old (listener_closed listener old.connections)
 
 -- the local address of a connection: the one that is asked for, or else that from which packets to the destination are sent
-abbrev pub source_of : Host → Option IpAddress → IpAddress → Option IpAddress
+abbrev pub source_of : IfaceHost → Option IpAddress → IpAddress → Option IpAddress
 source_of host None remote = source_for host remote
 source_of host (Some address) remote = Some address
 
@@ -77,13 +77,13 @@ pair_refusal (Some local) remote = if is_pair local remote then None else Some B
 
 -- a connection that a program asks for: the moment is out of range, a port is 0, there is no own address, or an address is no
 -- host's
-abbrev pub connect_refusal : ℤ → IpListenEndpoint → IpEndpoint → Host → Option Refusal
+abbrev pub connect_refusal : ℤ → IpListenEndpoint → IpEndpoint → IfaceHost → Option Refusal
 connect_refusal now local remote host =
     first_reason (moment_refusal now)
     (if (local.port == 0) || (remote.port == 0) then Some BadPort else pair_refusal (source_of host local.addr remote.addr) remote.addr)
 
 -- its ends, and the moment
-pub record AreEnds (now : ℤ) (local : IpListenEndpoint) (remote : IpEndpoint) (host : Host) (micros : ℕ) (ends : Endpoints) : Type 0 where
+pub record AreEnds (now : ℤ) (local : IpListenEndpoint) (remote : IpEndpoint) (host : IfaceHost) (micros : ℕ) (ends : Endpoints) : Type 0 where
   pub is_now : pos micros ≡ now
   pub source : source_of host local.addr remote.addr ≡ Some ends.local_addr
   pub local_port : ends.local_port ≡ local.port
@@ -92,7 +92,7 @@ pub record AreEnds (now : ℤ) (local : IpListenEndpoint) (remote : IpEndpoint) 
   pub are_hosts : handles.is_addressable ends ≡ true
 
 -- no connection had these ends, a place was free, and a connection is opened there
-pub record Connects (now : ℤ) (local : IpListenEndpoint) (remote : IpEndpoint) (host : Host) (handle : Handle)
+pub record Connects (now : ℤ) (local : IpListenEndpoint) (remote : IpEndpoint) (host : IfaceHost) (handle : Handle)
     (old new : Streams) : Type 0 where
   pub micros : ℕ
   pub ends : Endpoints
@@ -103,7 +103,7 @@ pub record Connects (now : ℤ) (local : IpListenEndpoint) (remote : IpEndpoint)
   pub named : handles.is_named handle new.connections ≡ true
 
 -- a connection has these ends
-pub record IsInUse (local : IpListenEndpoint) (remote : IpEndpoint) (host : Host) (s : Streams) : Type 0 where
+pub record IsInUse (local : IpListenEndpoint) (remote : IpEndpoint) (host : IfaceHost) (s : Streams) : Type 0 where
   pub ends : Endpoints
   pub source : source_of host local.addr remote.addr ≡ Some ends.local_addr
   pub local_port : ends.local_port ≡ local.port

@@ -2,12 +2,12 @@
 use Rattle.std.specs.Prelude.{ℕ, ℤ, ◌≡◌, pos, min, Option}
 use Rattle.std.specs.Option.{option_map}
 use Rattle.iface_host.specs.Streams.{PollsStreams}
-use Rattle.iface_host.specs.declared.host.Host.{Host}
+use Rattle.iface_host.specs.declared.host.IfaceHost.{IfaceHost}
 use Rattle.tcp_host.specs.Turns.{IsPollAt}
 use Rattle.iface_streams.specs.declared.streams.Streams.{Streams}
 
 -- they are polled over the host's addresses and sockets
-pub record Polls (now : ℤ) (s s' : Streams) (old new : Host) : Type 0 where
+pub record Polls (now : ℤ) (s s' : Streams) (old new : IfaceHost) : Type 0 where
   pub polled : PollsStreams now s.carrier s'.carrier s.connections s'.connections old new
   pub rest : s' ≡ record s { carrier = s'.carrier; connections = s'.connections }
 

@@ -14,7 +14,7 @@ use Rattle.iface_host.specs.Refusals.{close_refusal}
 use Rattle.iface_host.specs.Sockets as sockets
 use Rattle.iface_host.specs.Sockets.{Socket, raw}
 use Rattle.iface_host.specs.Streams.{OpensPair, has_room_for}
-use Rattle.iface_host.specs.declared.host.Host.{Host}
+use Rattle.iface_host.specs.declared.host.IfaceHost.{IfaceHost}
 use Rattle.iface_host.specs.declared.refusal.Refusal.{Refusal}
 use Rattle.iface_host.specs.declared.refusal.Refusal.TheVariants.{TableFull}
 use Rattle.iface_host.specs.declared.streams.StreamPair.{StreamPair}
@@ -24,7 +24,7 @@ use Rattle.iface_streams.specs.declared.streams.Made.{Made}
 use Rattle.iface_streams.specs.declared.streams.Streams.{Streams}
 
 -- the host has no room for the sockets
-abbrev pub new_refusal : StreamSettings → Host → Option Refusal
+abbrev pub new_refusal : StreamSettings → IfaceHost → Option Refusal
 new_refusal s host = if has_room_for (setting.sockets s) host then None else Some TableFull
 
 -- the two sockets of a family
@@ -40,7 +40,7 @@ count_of None = 0
 count_of (Some pair) = 2
 
 -- they are opened, if there are any
-abbrev pub OpensIf : Option (Socket × Socket) → Option StreamPair → Host → Host → Type 0
+abbrev pub OpensIf : Option (Socket × Socket) → Option StreamPair → IfaceHost → IfaceHost → Type 0
 OpensIf None opened old new = (opened ≡ None) × (new ≡ old)
 OpensIf (Some made) opened old new = IsSomeAnd opened (λ pair. OpensPair made.0 made.1 pair old new)
 
@@ -68,34 +68,34 @@ pub record AreFirst (config : Config) (places : ℕ) (h : streams.Host) : Type 0
   pub config_is : h.config ≡ config
 
 -- they were just made, for a host which has their sockets now
-pub record IsNew (s : StreamSettings) (made : Streams) (old new : Host) : Type 0 where
-  pub between : Host
+pub record IsNew (s : StreamSettings) (made : Streams) (old new : IfaceHost) : Type 0 where
+  pub between : IfaceHost
   pub v4 : OpensIf (pair_for Ipv4 s.ipv4 s) made.v4 old between
   pub v6 : OpensIf (pair_for Ipv6 s.ipv6 s) made.v6 between new
   pub connections : AreFirst (setting.config_for s old.ip_mtu) s.places made.connections
   pub carrier : made.carrier ≡ carrier_of old.outbox.capabilities.checksum.tcp made
 
 -- what a call of the host does unless it is refused, when it leaves the host as it is
-abbrev pub Unless : Option Refusal → (Host → Host → Type 0) → Host → Host → Type 0
+abbrev pub Unless : Option Refusal → (IfaceHost → IfaceHost → Type 0) → IfaceHost → IfaceHost → Type 0
 Unless None Step old new = Step old new
 Unless (Some refusal) Step old new = new ≡ old
 
 -- a socket is closed, if it is open
-abbrev pub ClosesOne : ℕ → Host → Host → Type 0
+abbrev pub ClosesOne : ℕ → IfaceHost → IfaceHost → Type 0
 ClosesOne n old new = Unless (close_refusal old n) (sockets.Closes n) old new
 
 -- those of a family, first the one for peers that have answered
-pub record ClosesBoth (pair : StreamPair) (old new : Host) : Type 0 where
-  pub between : Host
+pub record ClosesBoth (pair : StreamPair) (old new : IfaceHost) : Type 0 where
+  pub between : IfaceHost
   pub near : ClosesOne pair.near old between
   pub far : ClosesOne pair.far between new
 
-abbrev pub ClosesPair : Option StreamPair → Host → Host → Type 0
+abbrev pub ClosesPair : Option StreamPair → IfaceHost → IfaceHost → Type 0
 ClosesPair None old new = new ≡ old
 ClosesPair (Some pair) old new = ClosesBoth pair old new
 
 -- the sockets are closed, first those of IPv4
-pub record Closes (s : Streams) (old new : Host) : Type 0 where
-  pub between : Host
+pub record Closes (s : Streams) (old new : IfaceHost) : Type 0 where
+  pub between : IfaceHost
   pub v4 : ClosesPair s.v4 old between
   pub v6 : ClosesPair s.v6 between new

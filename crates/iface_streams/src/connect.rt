@@ -10,7 +10,7 @@ ghost use Rattle.tcp_host.specs.Host.{IsFreePlace};
 
 use crate::streams::Streams;
 use iface_host::streams::micros_of;
-use iface_host::{Host, Refusal};
+use iface_host::{IfaceHost, Refusal};
 use ip_wire::IpAddress;
 use sockets::{IpEndpoint, IpListenEndpoint};
 use std::alloc::Global;
@@ -86,7 +86,7 @@ impl Streams {
     /// changes.
     pub fn connect(
         &mut self,
-        host: &Host,
+        host: &IfaceHost,
         now: i64,
         local: IpListenEndpoint,
         remote: IpEndpoint,
@@ -118,7 +118,7 @@ impl Streams {
 
 /// A moment in microseconds, and the ends of a connection that a program asks for then. It fails as [`Streams::connect`] says.
 fn ends_at(
-    host: &Host,
+    host: &IfaceHost,
     now: i64,
     local: IpListenEndpoint,
     remote: IpEndpoint,
@@ -146,7 +146,7 @@ fn ends_at(
 }
 
 /// The local address of a connection: the one that is asked for, or else that from which packets to the destination are sent.
-fn source_of(host: &Host, local: &Option<IpAddress>, remote: IpAddress) -> Option<IpAddress>
+fn source_of(host: &IfaceHost, local: &Option<IpAddress>, remote: IpAddress) -> Option<IpAddress>
     ensures { result ≡ spec.source_of host.now local.now remote }
 {
     match local {

@@ -5,7 +5,7 @@ ghost use Rattle.iface_host.specs.Refusals.{moment_refusal};
 ghost use Rattle.iface_streams.specs.Poll as spec;
 
 use crate::streams::Streams;
-use iface_host::{Host, Refusal};
+use iface_host::{IfaceHost, Refusal};
 
 /// The last moment that a caller may give, in microseconds.
 const LAST_MOMENT: u64 = 0x4000_0000_0000_0000;
@@ -13,7 +13,7 @@ const LAST_MOMENT: u64 = 0x4000_0000_0000_0000;
 impl Streams {
     /// Does what is due at a moment: connections take what came to their raw sockets, and queue there what they send.
     /// `BadMoment` if the moment is out of range; then nothing changes.
-    pub fn poll(&mut self, host: &mut Host, now: i64) -> Result<(), Refusal>
+    pub fn poll(&mut self, host: &mut IfaceHost, now: i64) -> Result<(), Refusal>
         ensures polled { OnOk result (spec.Polls now self.old self.new host.old host.new) }
         ensures why { result_err result ≡ moment_refusal now }
         ensures refused { OnErr result (self.new ≡ self.old) }

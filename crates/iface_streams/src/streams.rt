@@ -8,7 +8,7 @@ ghost use Rattle.iface_streams.specs.Settings as setting;
 ghost use Rattle.iface_streams.specs.Streams as spec;
 
 use crate::settings::StreamSettings;
-use iface_host::{Host, Refusal, StreamPair};
+use iface_host::{IfaceHost, Refusal, StreamPair};
 use ip_wire::IpVersion;
 use net_base::phy::Checksum;
 use sockets::raw;
@@ -42,7 +42,7 @@ impl Streams {
     #[tactic(auto, using(crate::proofs::Shares::first_share, crate::proofs::Shares::second_share))]
     pub fn new(
         alloc: Global,
-        host: &mut Host,
+        host: &mut IfaceHost,
         settings: &StreamSettings,
     ) -> Result<Box<Streams>, Refusal>
         requires { setting.is_proper settings.now ≡ true }
@@ -73,7 +73,7 @@ impl Streams {
     }
 
     /// Closes the raw sockets of a host.
-    pub fn close(&mut self, host: &mut Host)
+    pub fn close(&mut self, host: &mut IfaceHost)
         ensures sockets { spec.Closes self.old host.old host.new }
         ensures streams { self.new ≡ record self.old { v4 = None; v6 = None } }
     {
@@ -86,7 +86,11 @@ impl Streams {
 
 /// Connections without raw sockets. `NoMemory` if memory is refused.
 #[inline(never)]
-fn unopened(alloc: Global, host: &Host, settings: &StreamSettings) -> Result<Box<Streams>, Refusal>
+fn unopened(
+    alloc: Global,
+    host: &IfaceHost,
+    settings: &StreamSettings,
+) -> Result<Box<Streams>, Refusal>
     requires { setting.is_proper settings.now ≡ true }
     ensures made { IfOk result (λ streams. spec.AreFirst (setting.config_for settings.now host.now.ip_mtu)
         settings.now.places streams.value.connections) }
@@ -130,7 +134,7 @@ fn pair_for(
 }
 
 /// Opens the raw sockets of a family, if there are any. There has to be room for them.
-fn open(host: &mut Host, made: Option<Made>) -> Result<Option<StreamPair>, Refusal>
+fn open(host: &mut IfaceHost, made: Option<Made>) -> Result<Option<StreamPair>, Refusal>
     requires room { has_room_for (spec.count_of (option_map spec.sockets_of made)) host.old ≡ true }
     ensures done { IsOk result }
     ensures opened { IfOk result (λ pair. spec.OpensIf (option_map spec.sockets_of made) pair host.old host.new) }
@@ -154,7 +158,7 @@ fn handles_of(pair: &Option<StreamPair>) -> Option<SocketPair>
 }
 
 /// Closes the raw sockets of a family, if there are any.
-fn close_pair(pair: &Option<StreamPair>, host: &mut Host)
+fn close_pair(pair: &Option<StreamPair>, host: &mut IfaceHost)
     ensures { spec.ClosesPair pair.now host.old host.new }
 {
     if let Some(pair) = pair {
@@ -164,7 +168,7 @@ fn close_pair(pair: &Option<StreamPair>, host: &mut Host)
 }
 
 /// Closes a socket, if it is open.
-fn close_one(number: u32, host: &mut Host)
+fn close_one(number: u32, host: &mut IfaceHost)
     ensures { spec.ClosesOne number host.old host.new }
 {
     let _ = host.close(number);

@@ -1,10 +1,10 @@
 use Rattle.std.proofs.Common.{◌-◌}
-use Rattle.iface_host.specs.declared.host.Host.{Host}
+use Rattle.iface_host.specs.declared.host.IfaceHost.{IfaceHost}
 use Rattle.iface_dns.specs.Dns.{ClosesFrom}
 use Rattle.iface_dns.specs.declared.dns.Dns.{Dns}
 use Rattle.iface_dns.proofs.dns.Dns.close.Given as goal
 
 -- whatever the others lead to, all lead to
 abbrev pub invariant-loop-place : goal.invariant-loop-place
-invariant-loop-place l = (d : Dns) (host : Host) → ClosesFrom (l.count - l.place) l.place l.self d l.host host →
+invariant-loop-place l = (d : Dns) (host : IfaceHost) → ClosesFrom (l.count - l.place) l.place l.self d l.host host →
     ClosesFrom l.count 0 l.initial.self d l.initial.host host

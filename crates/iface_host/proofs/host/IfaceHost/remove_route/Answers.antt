@@ -1,0 +1,30 @@
+use Rattle.std.proofs.Common.{◌≡◌, ◌<◌, ◌≤◌, ℕ, List, length, ap, rules, subst, ◌∙◌, arith}
+use Rattle.std.specs.List.{position_or_len, remove}
+use Rattle.iface_tables.specs.declared.route.Route.{Route}
+use Rattle.host_machine.specs.Context.Host.{Host as Machine, no_sockets}
+use Rattle.interface.specs.Stands.{Becomes}
+use Rattle.iface_host.proofs.RefusalCalls.{route_none, route_there}
+use Rattle.iface_host.proofs.RuleCalls.{removed}
+use Rattle.iface_host.specs.Calls.{is_to, routes_of}
+use Rattle.iface_host.proofs.host.IfaceHost.remove_route.Goals as goal
+
+pub returns-clause-removed : goal.returns-clause-removed
+returns-clause-removed c =
+    let at : c.index_of-index.result ≡ position_or_len (is_to c.args.cidr) c.as_slice-routes.result.now = search rules in
+    let own = c.as_slice-routes.ensures.value ∙ (rw c.deref.ensures at (c.routes.ensures.items no_sockets)) in
+    removed c.args.self.now _ c.args.cidr c.index_of-index.result
+    (at ∙ ap (λ (routes : List Route). position_or_len (is_to c.args.cidr) routes) own) (rw c.deref_mut.ensures.value at c.take_route.ensures)
+
+pub returns-then-index-routes-clause-why : goal.returns-then-index-routes-clause-why
+returns-then-index-routes-clause-why c =
+    let at : c.index_of-index.result ≡ position_or_len (is_to c.args.cidr) c.as_slice-routes.result.now = search rules in
+    let le : length c.as_slice-routes.result.now ≤ c.index_of-index.result = omega arith in
+    route_none c.args.self.now c.as_slice-routes.result.now c.args.cidr c.index_of-index.result
+    (c.as_slice-routes.ensures.value ∙ (rw c.deref.ensures at (c.routes.ensures.items no_sockets))) at le
+
+pub returns-clause-why : goal.returns-clause-why
+returns-clause-why c =
+    let at : c.index_of-index.result ≡ position_or_len (is_to c.args.cidr) c.as_slice-routes.result.now = search rules in
+    let lt : c.index_of-index.result < length c.as_slice-routes.result.now = omega arith in
+    route_there c.args.self.now c.as_slice-routes.result.now c.args.cidr c.index_of-index.result
+    (c.as_slice-routes.ensures.value ∙ (rw c.deref.ensures at (c.routes.ensures.items no_sockets))) at lt
