@@ -1,14 +1,15 @@
 //! What the client does whenever its owner calls it.
-ghost use Rattle.std.specs.Prelude.{◌≡◌, IfOk, OnErr, is_some, pos};
+ghost use Rattle.std.specs.Prelude.{◌≡◌, IfOk, OnErr, is_some};
 ghost use Rattle.std.specs.Result.{result_err};
 ghost use Rattle.dhcp_client.specs.Messages as messages;
 ghost use Rattle.iface_dhcp.specs.Poll as spec;
-ghost use Rattle.iface_host.specs.Refusals.{kind_at, moment_refusal};
+ghost use Rattle.iface_host.specs.Refusals.{kind_at};
 ghost use Rattle.sockets.specs.Kinds.{down_udp};
 
 use crate::dhcp::Dhcp;
 use crate::hear::hear;
 use dhcp_client::{DhcpEvent, DhcpMessage};
+use iface_host::streams::micros_of;
 use iface_host::{IfaceHost, Refusal};
 
 impl Dhcp {
@@ -52,17 +53,6 @@ impl Dhcp {
         self.random = random;
         Some(message)
     }
-}
-
-/// A moment in microseconds. `BadMoment` if it is out of range.
-fn micros_of(now: i64) -> Result<u64, Refusal>
-    ensures micros { IfOk result (λ micros. pos micros ≡ now) }
-    ensures why { result_err result ≡ moment_refusal now }
-{
-    if now < 0 || now > 0x4000_0000_0000_0000 {
-        return Err(Refusal::BadMoment);
-    }
-    Ok(now as u64)
 }
 
 /// How many datagrams wait at a UDP socket. `NoSocket` if the host has no UDP socket of this number.
