@@ -5,5 +5,5 @@ pub mod Ndisc
 pub mod NdiscOption
 pub mod PrefixInformation
 pub mod Router
-pub mod Icmp
 pub mod Icmpv4
+pub mod Details

@@ -1,6 +1,6 @@
 //! ICMP messages of either family.
 ghost use Rattle.std.specs.Prelude.{◌≡◌};
-ghost use Rattle.control_wire.specs.Icmp as spec;
+ghost use Rattle.control_wire.specs.Details.Icmp as spec;
 
 use crate::Icmpv6Repr;
 use crate::icmpv4::Icmpv4Repr;

@@ -12,8 +12,8 @@ use Rattle.dhcp_client.specs.declared.message.DhcpRepr.{DhcpRepr}
 use Rattle.dhcp_client.specs.declared.options.DhcpOptions.{DhcpOptions}
 use Rattle.dhcp_client.specs.Options.{options_after, are_whole, data_of, octet_in, address_data, seconds_data, size_data}
 use Rattle.dhcp_client.specs.Options.{identifier_data, list_data, later_or, hardware_address_at, address_in, seconds_in, size_in, identifier_in, listed_at, list_in, AreOptions}
-use Rattle.dhcp_client.specs.Message.{number_of, type_of, operation_of, is_for_ethernet, overload_in, has_whole_options, data_in, type_number}
-use Rattle.dhcp_client.specs.Message.{IsTypeNumber, IsDhcp, options_in, values_in, dhcp_in, fields_text, header_text, options_text, text, IsMessage, ReadAgain}
+use Rattle.dhcp_client.specs.Details.Message.{number_of, type_of, operation_of, is_for_ethernet, overload_in, has_whole_options, data_in, type_number}
+use Rattle.dhcp_client.specs.Details.Message.{IsTypeNumber, IsDhcp, options_in, values_in, dhcp_in, fields_text, header_text, options_text, text, IsMessage, ReadAgain}
 use Rattle.dhcp_client.proofs.OptionsAgain.{texts, lookup, AreCodes, found, all_whole, behind, behind-is}
 use Rattle.dhcp_client.proofs.OptionsAgain.{address_again, router_again, seconds_again, size_again, identifier_again, list_again}
 

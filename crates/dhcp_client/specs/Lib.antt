@@ -1,4 +1,3 @@
-pub mod Message
 pub mod Options
 pub mod Answers
 pub mod Client
@@ -6,5 +5,4 @@ pub mod Laws
 pub mod Lease
 pub mod Messages
 pub mod Run
-pub mod Packets
-pub mod Datagrams
+pub mod Details

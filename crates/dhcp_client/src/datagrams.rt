@@ -3,8 +3,8 @@ ghost use Rattle.std.specs.Prelude.{◌≡◌, is_ok, is_some, OnOk, OnErr, leng
 ghost use Rattle.sockets.specs.Queue.{first_of, is_room};
 ghost use Rattle.sockets.specs.Udp as udp_spec;
 ghost use Rattle.sockets.specs.Raw as raw_spec;
-ghost use Rattle.dhcp_client.specs.Packets.{message_text, packet_of};
-ghost use Rattle.dhcp_client.specs.Datagrams as spec;
+ghost use Rattle.dhcp_client.specs.Details.Packets.{message_text, packet_of};
+ghost use Rattle.dhcp_client.specs.Details.Datagrams as spec;
 
 use crate::message::SERVER_PORT;
 use crate::packets::DhcpRoom;

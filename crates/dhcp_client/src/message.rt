@@ -2,7 +2,7 @@
 ghost use Rattle.std.specs.Prelude.{◌≡◌, ◌+◌, ◌<◌, ◌≤◌, ◌++◌, ◌||◌, ◌==◌, ◌&&◌, not, length};
 ghost use Rattle.std.specs.Option.{SomeIff, option_map};
 ghost use Rattle.dhcp_client.specs.Options.{data_of, options_after, later_or, option_text};
-ghost use Rattle.dhcp_client.specs.Message as spec;
+ghost use Rattle.dhcp_client.specs.Details.Message as spec;
 
 use crate::options::{
     DhcpOptions, address_in, append_address, append_identifier, append_list, append_option,

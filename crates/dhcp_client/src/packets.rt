@@ -1,6 +1,6 @@
 //! A client's messages as octets (RFC 2131 4.1).
 ghost use Rattle.std.specs.Prelude.{◌≡◌, ◌≤◌, ◌<◌, ◌+◌, ◌^◌, ◌++◌, [], length};
-ghost use Rattle.dhcp_client.specs.Packets as spec;
+ghost use Rattle.dhcp_client.specs.Details.Packets as spec;
 
 use crate::DhcpMessage;
 use crate::message::{CLIENT_PORT, SERVER_PORT};

@@ -6,8 +6,8 @@ use Rattle.std.proofs.lemmas.Bool.Decides.{nat_tests}
 use Rattle.std.proofs.lemmas.Bool.{and_parts, and_from, eq-eqb, le-leb}
 use Rattle.std.proofs.lemmas.List.{drop-drop, drop_at, get_or-drop, length-drop, take_at}
 use Rattle.dns_client.specs.Names.{is_end, is_label, label, with_first, labels_from, is_some, end_from}
-use Rattle.dns_client.specs.Text as text
-use Rattle.dns_client.specs.Text.{are_labels, labels_in, name_by, octets_of, IsReadAs, TextReadAgain}
+use Rattle.dns_client.specs.Details.Text as text
+use Rattle.dns_client.specs.Details.Text.{are_labels, labels_in, name_by, octets_of, IsReadAs, TextReadAgain}
 use Rattle.dns_client.proofs.Reading.{by_end, by_label, label_no_end}
 use Rattle.dns_client.proofs.Writing.{len_of}
 

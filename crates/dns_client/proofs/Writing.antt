@@ -5,7 +5,7 @@ use Rattle.std.specs.Prelude.{nat_le, nat_lt, if◌then◌else◌}
 use Rattle.std.specs.List.{position, position_or_len, slice_split, onto_first}
 use Rattle.std.proofs.lemmas.Bool.Decides.{nat_tests}
 use Rattle.std.proofs.lemmas.List.Splits.{slice_split_first, slice_split-cons_no}
-use Rattle.dns_client.specs.Text.{is_dot, is_label, are_labels, octets_of, name_by}
+use Rattle.dns_client.specs.Details.Text.{is_dot, is_label, are_labels, octets_of, name_by}
 
 -- there is room for a label behind a front
 abbrev pub has_room : List ℕ → List ℕ → Bool

@@ -1,11 +1,10 @@
 pub mod Message
 pub mod Names
 pub mod Record
-pub mod Text
 pub mod Answers
 pub mod Found
 pub mod Laws
 pub mod Query
 pub mod Run
 pub mod DnsResolver
-pub mod Datagrams
+pub mod Details

@@ -2,7 +2,7 @@
 ghost use Rattle.std.specs.Prelude.{◌≡◌, is_some, OnOk, OnErr};
 ghost use Rattle.sockets.specs.Queue.{first_of};
 ghost use Rattle.sockets.specs.Udp as udp_spec;
-ghost use Rattle.dns_client.specs.Datagrams as spec;
+ghost use Rattle.dns_client.specs.Details.Datagrams as spec;
 
 use crate::dns_resolver::{DnsMessage, QueryHandle, Resolver};
 use crate::message::SERVER_PORT;

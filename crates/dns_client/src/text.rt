@@ -3,7 +3,7 @@ ghost use Rattle.std.specs.Prelude.{◌≡◌, ◌+◌, ◌++◌, ◌∷◌, ◌
 ghost use Rattle.std.specs.Option.{option_map};
 ghost use Rattle.std.specs.List.{position};
 ghost use Rattle.dns_client.specs.Message.{is_whole_name};
-ghost use Rattle.dns_client.specs.Text as spec;
+ghost use Rattle.dns_client.specs.Details.Text as spec;
 
 use crate::name::MAX_NAME_LEN;
 use arrayvec::ArrayVec;

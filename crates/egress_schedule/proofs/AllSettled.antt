@@ -19,7 +19,7 @@ use Rattle.egress_schedule.specs.Patience.{after_patience_at, begun_or_before, e
 use Rattle.egress_schedule.specs.Patience.{is_given_up, is_new, may_ask, must_go, plan_after_look, unreachable_after, waiting_after}
 use Rattle.egress_schedule.specs.Plan.{Plan, Planned, each_of, first_from, idle, watch_at, with_watch}
 use Rattle.egress_schedule.specs.Rounds.{with_waits_ended}
-use Rattle.egress_schedule.specs.Settled.{ends_at, is_settled, is_settled_as, is_some_over, is_written, waits_at}
+use Rattle.egress_schedule.specs.Details.Settled.{ends_at, is_settled, is_settled_as, is_some_over, is_written, waits_at}
 use Rattle.egress_schedule.specs.Turns.{after_hold_at, after_taking_turns, asks_at, if_asking, if_held, next_to_ask}
 use Rattle.egress_schedule.proofs.Ends.{past_get}
 use Rattle.egress_schedule.proofs.GoesOn.{same_itself}

@@ -12,7 +12,7 @@ use Rattle.egress_schedule.specs.declared.watch.Watch.{Watch}
 use Rattle.egress_schedule.specs.Patience.{is_at_end, is_given_up, is_recent, is_second_over, must_go}
 use Rattle.egress_schedule.specs.Plan.{Planned, watch_at}
 use Rattle.egress_schedule.specs.Queues.{has_others, is_crowded}
-use Rattle.egress_schedule.specs.Settled.{is_quiet, is_settled, is_settled_as}
+use Rattle.egress_schedule.specs.Details.Settled.{is_quiet, is_settled, is_settled_as}
 use Rattle.egress_schedule.proofs.AllSettled.{if_not, none_if}
 
 both_false : (a b : Bool) → (a && (b && false)) ≡ false

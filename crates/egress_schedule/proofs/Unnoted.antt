@@ -11,7 +11,7 @@ use Rattle.std.proofs.lemmas.List.{get_or-set_other}
 use Rattle.sockets.specs.Kinds.{poll_at}
 use Rattle.sockets.specs.declared.poll_at.PollAt.TheVariants.{Ingress}
 use Rattle.sockets.specs.declared.socket.SocketOf.{SocketOf}
-use Rattle.socket_set.specs.Busy.{IsIdle}
+use Rattle.socket_set.specs.Details.Busy.{IsIdle}
 use Rattle.socket_set.specs.SocketMeta.{Wait}
 use Rattle.socket_set.specs.SocketSet.{Sockets, socket_at, wait_at, wait_of}
 use Rattle.egress_schedule.specs.declared.watch.Watch.{Watch}

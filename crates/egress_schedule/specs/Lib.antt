@@ -4,6 +4,6 @@ pub mod Patience
 pub mod Turns
 pub mod LongPackets
 pub mod Rounds
-pub mod Settled
 pub mod Runs
 pub mod Laws
+pub mod Details

@@ -3,7 +3,7 @@ ghost use Rattle.std.specs.Prelude.{◌≡◌, ◌<◌, ℕ, true, false, not, i
 ghost use Rattle.egress_schedule.specs.Patience.{after_look, is_given_up, must_go};
 ghost use Rattle.egress_schedule.specs.Plan.{planned};
 ghost use Rattle.egress_schedule.specs.Rounds.{with_waits_ended};
-ghost use Rattle.egress_schedule.specs.Settled.{ends_at, is_settled, is_quiet, is_some_over, waits_at};
+ghost use Rattle.egress_schedule.specs.Details.Settled.{ends_at, is_settled, is_quiet, is_some_over, waits_at};
 
 use crate::schedule::Schedule;
 use crate::watch::{Waiting, Watch, is_given_up, is_second_over};

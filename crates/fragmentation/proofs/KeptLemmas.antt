@@ -8,7 +8,7 @@ use Rattle.std.proofs.lemmas.List.{length-set}
 use Rattle.std.specs.List.{refill}
 use Rattle.fragmentation.specs.Assembly.{Assembly, index_of_key, free_slot, slot_for, has_key, IsFree, AreFree}
 use Rattle.fragmentation.specs.Assembly.{taken, with_key, with_keys, keys_of, taken_at, live_at, are_none, AreApart, AreKept, AreTwo, AreLent}
-use Rattle.fragmentation.specs.Lending.{FreedIfLent}
+use Rattle.fragmentation.specs.Details.Lending.{FreedIfLent}
 use Rattle.fragmentation.proofs.PlacesLemmas.{choose_keyed, index_of_key-le, refilled}
 
 no_key : {A : Type 0} (k : A) → None ≡ Some k → ⊥

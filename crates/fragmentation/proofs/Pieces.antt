@@ -7,7 +7,7 @@ use Rattle.std.proofs.lemmas.List.{drop-take, length-drop, length-take-le}
 use Rattle.std.specs.Prelude.{nat_le, nat_lt, not, min}
 use Rattle.std.specs.Prelude.{Some}
 use Rattle.fragmentation.specs.Cuts.{Datagram, piece_of, pieces_from}
-use Rattle.fragmentation.specs.Pending.{IsNext, First}
+use Rattle.fragmentation.specs.Details.Pending.{IsNext, First}
 use Rattle.fragmentation.specs.declared.fragmenter.NextPiece.{NextPiece}
 
 take_fewer : (n m : ℕ) (xs : List ℕ) → n ≤ m → take n (take m xs) ≡ take n xs

@@ -6,7 +6,7 @@ use Rattle.std.proofs.lemmas.List.{take_all, drop_all, append-nil}
 use Rattle.std.specs.List.{refill}
 use Rattle.std.specs.Prelude.{cond, is_none, ◌==◌}
 use Rattle.fragmentation.specs.Slots.{slot_room_over}
-use Rattle.fragmentation.specs.Place.{slots_at, with_slot_at}
+use Rattle.fragmentation.specs.Details.Place.{slots_at, with_slot_at}
 use Rattle.fragmentation.specs.declared.place.Place.{Place}
 use Rattle.fragmentation.specs.declared.place.Place.TheVariants.{Own, Lent}
 use Rattle.fragmentation.specs.Assembly.{Assembly, index_of_key, free_slot, slot_for, has_key}

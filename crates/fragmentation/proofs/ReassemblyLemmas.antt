@@ -13,8 +13,8 @@ use Rattle.fragmentation.specs.Slots.{Slot, Slots, HasFree, slot_of, with_slot, 
 use Rattle.fragmentation.specs.Reassembly.{SlotNote, Take, Arrival, Rebuild, Enters, Stood, Taken, NoSlot, Unfit, Waits, Rebuilt}
 use Rattle.fragmentation.specs.Assembly.{Assembly, index_of_key, free_slot, slot_for, taken}
 use Rattle.fragmentation.specs.Stands.{Gathers, StandsFor, StandsAt, StandForSlots}
-use Rattle.fragmentation.specs.Lending.{FreedIfLent}
-use Rattle.fragmentation.specs.Reassembled.{Reassembled}
+use Rattle.fragmentation.specs.Details.Lending.{FreedIfLent}
+use Rattle.fragmentation.specs.Details.Reassembled.{Reassembled}
 use Rattle.fragmentation.proofs.PlacesLemmas.{choose_keyed, choose_free, index_of_key-le}
 use Rattle.fragmentation.proofs.SlotsLemmas.{there, MayServe, put_at, free_at, has_room, is_full, free_key, keyed_key, not_there}
 

@@ -5,8 +5,4 @@ pub mod Reassembly
 pub mod Cuts
 pub mod Assembly
 pub mod Stands
-pub mod Lending
-pub mod Place
-pub mod PlaceLending
-pub mod Reassembled
-pub mod Pending
+pub mod Details

@@ -1,7 +1,7 @@
 //! Pending fragments of a packet to send (RFC 791 3.2).
 ghost use Rattle.std.specs.Prelude.{◌≡◌, ◌<◌, ◌≤◌, ◌+◌, ◌%◌, ◌++◌, length, take, IfSome};
 ghost use Rattle.fragmentation.specs.Cuts.{pieces_of};
-ghost use Rattle.fragmentation.specs.Pending.{none_pending, without_first, is_nil, IsNext};
+ghost use Rattle.fragmentation.specs.Details.Pending.{none_pending, without_first, is_nil, IsNext};
 
 use ip_wire::{HardwareAddress, IpProtocol, Ipv4Address, Ipv4Fragment, Ipv4Repr};
 use std::marker::Model;
@@ -37,7 +37,7 @@ pub struct Fragmenter {
 
 impl Model for Fragmenter {
     ghost use Rattle.std.specs.Prelude.{◌≡◌, ◌<◌, ◌≤◌, ◌+◌, ◌*◌, length, map, take};
-    ghost use Rattle.fragmentation.specs.Pending.{Pending};
+    ghost use Rattle.fragmentation.specs.Details.Pending.{Pending};
     ghost use Rattle.fragmentation.specs.Cuts.{piece_of, pieces_from};
 
     ghost Value = { Pending };

@@ -30,7 +30,7 @@ impl<K> Model for LentSlots<K> {
 }
 
 impl<K: Eq + Copy> LentSlots<K> {
-    ghost use Rattle.fragmentation.specs.PlaceLending.{lent_lends_place};
+    ghost use Rattle.fragmentation.specs.Details.PlaceLending.{lent_lends_place};
 
     // The slot of a key, as `PacketAssemblerSet::get` says.
     pub(crate) fn get(

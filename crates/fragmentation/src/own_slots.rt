@@ -30,7 +30,7 @@ impl<K> Model for OwnSlots<K> {
 }
 
 impl<K: Eq + Copy> OwnSlots<K> {
-    ghost use Rattle.fragmentation.specs.PlaceLending.{own_lends_place};
+    ghost use Rattle.fragmentation.specs.Details.PlaceLending.{own_lends_place};
 
     // The slot of a key, as `PacketAssemblerSet::get` says.
     pub(crate) fn get(

@@ -17,8 +17,8 @@ pub(crate) enum Place<K> {
 }
 
 impl<K: Eq + Copy> Place<K> {
-    ghost use Rattle.fragmentation.specs.Place.{slots_at};
-    ghost use Rattle.fragmentation.specs.PlaceLending.{lends_place};
+    ghost use Rattle.fragmentation.specs.Details.Place.{slots_at};
+    ghost use Rattle.fragmentation.specs.Details.PlaceLending.{lends_place};
 
     // The slot of a key, as `PacketAssemblerSet::get` says.
     pub(crate) fn get(
@@ -40,7 +40,7 @@ impl<K: Eq + Copy> Place<K> {
 }
 
 impl<K: Drop> Place<K> {
-    ghost use Rattle.fragmentation.specs.Place.{slots_at};
+    ghost use Rattle.fragmentation.specs.Details.Place.{slots_at};
 
     // From now on they are free slots in storage, or two of its own if that has no capacity for any. Each is written where
     // it stays, since a place returned by value takes stack for two sets of slots.
@@ -68,7 +68,7 @@ impl<K: Drop> Place<K> {
 }
 
 impl<K> Place<K> {
-    ghost use Rattle.fragmentation.specs.Place.{slots_at};
+    ghost use Rattle.fragmentation.specs.Details.Place.{slots_at};
 
     // A lemma: what holds of slots by their type.
     pub(crate) fn are_kept(&self)

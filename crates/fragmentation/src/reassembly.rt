@@ -11,7 +11,7 @@ ghost use Rattle.fragmentation.specs.Assembly as spec;
 ghost use Rattle.fragmentation.specs.Assembly.{octets_after_write, index_of_key, free_slot, has_key};
 ghost use Rattle.fragmentation.specs.Assembly.{live_at, with_key, with_keys, keys_of, taken_at, AllSound};
 ghost use Rattle.fragmentation.specs.Stands.{fragment};
-ghost use Rattle.fragmentation.specs.Reassembled.{RestsReassembled};
+ghost use Rattle.fragmentation.specs.Details.Reassembled.{RestsReassembled};
 
 use crate::key::FragKey;
 use crate::lent_slots::LentSlots;
@@ -119,7 +119,7 @@ impl<K: Drop> PacketAssembler<K> {
     ghost use Rattle.fragmentation.specs.Assembly.{is_complete, slot_after_free, is_refused, with_octets};
     ghost use Rattle.fragmentation.specs.Fragments.{Got, Fragment, is_fit, with_one, IsWhole, IsRebuilt};
     ghost use Rattle.fragmentation.specs.Stands.{fragment, Gathers, with_kept, with_total};
-    ghost use Rattle.fragmentation.specs.Lending.{Frees};
+    ghost use Rattle.fragmentation.specs.Details.Lending.{Frees};
 
     /// Sets the datagram's total length, in octets.
     ///
@@ -305,7 +305,7 @@ pub struct PacketAssemblerSet<K> {
 impl<K> Model for PacketAssemblerSet<K> {
     ghost use Rattle.std.specs.Prelude.{List};
     ghost use Rattle.fragmentation.specs.Assembly.{Assembly};
-    ghost use Rattle.fragmentation.specs.Place.{slots_at};
+    ghost use Rattle.fragmentation.specs.Details.Place.{slots_at};
 
     ghost Value = { List (Assembly K) };
 
@@ -314,7 +314,7 @@ impl<K> Model for PacketAssemblerSet<K> {
 
 impl<K: Eq + Copy> PacketAssemblerSet<K> {
     ghost use Rattle.fragmentation.specs.Assembly.{slot_for, taken};
-    ghost use Rattle.fragmentation.specs.Lending.{LendsPlace};
+    ghost use Rattle.fragmentation.specs.Details.Lending.{LendsPlace};
 
     /// The slot of a key, whose expiry stays the same. If the key has none, a free slot is taken for it, with the
     /// expiry `end`.

@@ -1,3 +1,1 @@
-pub mod Guarded
-pub mod GuardedLaws
 pub mod Laws

@@ -11,3 +11,4 @@ pub mod Ipv6Laws
 pub mod AnswerLaws
 pub mod Watch
 pub mod GuardedDevice
+pub mod Details

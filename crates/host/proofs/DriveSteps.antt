@@ -19,7 +19,7 @@ use Rattle.host_machine.specs.Interface.Run.{Ran, Ends, Then, NoAct, ThenAct}
 use Rattle.host_laws.proofs.Interface.RunConcatenation.{ran_on}
 use Rattle.interface.specs.declared.interface.Interface.{Interface}
 use Rattle.interface.specs.Stands.{StandsFor, Refinement}
-use Rattle.interface.specs.Refines.{RefinementTelling}
+use Rattle.interface.specs.Details.Refines.{RefinementTelling}
 use Rattle.host.specs.Commands.{RefinementOfCommand, HostRefinesCommand}
 
 module _ {D O : Type 0} (tells : D → List Event → D → Type 0) (did : O → ℕ → SocketSet → SocketSet → O → Type 0) where

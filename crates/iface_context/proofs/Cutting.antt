@@ -7,7 +7,7 @@ use Rattle.ip_wire.specs.declared.ethernet.EthernetProtocol.TheVariants as proto
 use Rattle.ip_wire.specs.Ipv4Packet.{header_text}
 use Rattle.net_base.specs.Checksum.{is_tx, ip_mtu_of}
 use Rattle.fragmentation.specs.Cuts.{Piece, HasForm, pieces_of}
-use Rattle.fragmentation.specs.Pending.{IsNext, NoPiece, First, Shows, rest_of}
+use Rattle.fragmentation.specs.Details.Pending.{IsNext, NoPiece, First, Shows, rest_of}
 use Rattle.fragmentation.specs.declared.fragmenter.NextPiece.{NextPiece}
 use Rattle.host_machine.specs.Context.Note.{OfCuts, Cut, PieceSent}
 use Rattle.std.proofs.lemmas.Bool.Decides.{nat_tests}
@@ -19,7 +19,7 @@ use Rattle.host_machine.specs.Packet.Frame.{link_header, piece_frame}
 use Rattle.iface_context.specs.declared.context.Context.{Context}
 use Rattle.iface_context.specs.Stands.{host_of}
 use Rattle.iface_context.specs.Refines.{RefinesBuilding}
-use Rattle.iface_context.specs.Pieces.{EmitsNextPiece}
+use Rattle.iface_context.specs.Details.Pieces.{EmitsNextPiece}
 use Rattle.iface_context.proofs.Building.{one, noting}
 
 none_some : {x : NextPiece} → None ≡ Some x → ⊥

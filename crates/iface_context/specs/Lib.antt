@@ -1,5 +1,3 @@
-pub mod PacketValues
-pub mod Multicast
-pub mod Pieces
 pub mod Refines
 pub mod Stands
+pub mod Details

@@ -68,7 +68,7 @@ pub struct Context {
 
 impl Context {
     ghost use Rattle.std.specs.Prelude.{◌≡◌, ◌≤◌, ◌||◌, [], not, length};
-    ghost use Rattle.fragmentation.specs.Pending.{is_nil};
+    ghost use Rattle.fragmentation.specs.Details.Pending.{is_nil};
     ghost use Rattle.host_machine.specs.Context.Host as host;
     ghost use Rattle.iface_context.specs.Stands.{host_of};
 

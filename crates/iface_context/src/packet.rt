@@ -6,7 +6,7 @@ ghost use Rattle.host_machine.specs.Packet.Packet.{IsFormed, IsWritable, total_l
 ghost use Rattle.host_machine.specs.Packet.Packet as value;
 ghost use Rattle.host_machine.specs.Send.Dispatch.{destination_of};
 ghost use Rattle.ip_wire.specs.declared.ip_packet.IpRepr.TheVariants as repr;
-ghost use Rattle.iface_context.specs.PacketValues as value_of;
+ghost use Rattle.iface_context.specs.Details.PacketValues as value_of;
 
 use crate::payload::{IpPayload, Payload};
 use ip_wire::emit::FrameBuffer;

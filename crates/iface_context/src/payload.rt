@@ -7,7 +7,7 @@ ghost use Rattle.host_machine.specs.Packet.Frame.{with_limited_window, mld_optio
 ghost use Rattle.host_machine.specs.Packet.Packet.{HasPorts, IsWritablePayload, payload_len, protocol_of};
 ghost use Rattle.host_machine.specs.Packet.Packet as value;
 ghost use Rattle.ip_wire.specs.HopByHop.{text_len};
-ghost use Rattle.iface_context.specs.PacketValues as value_of;
+ghost use Rattle.iface_context.specs.Details.PacketValues as value_of;
 
 use arrayvec::ArrayVec;
 use control_wire::icmpv4::{EchoRequest, Icmpv4DstUnreachable, Icmpv4Repr};

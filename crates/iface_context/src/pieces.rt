@@ -3,14 +3,14 @@ ghost use Rattle.std.specs.Prelude.{◌≡◌, ◌<◌, ◌≤◌, false, [], le
 ghost use Rattle.net_base.specs.Checksum.{ip_mtu_of};
 ghost use Rattle.ip_address.specs.Hardware.{IsOf};
 ghost use Rattle.fragmentation.specs.Cuts.{HasForm, pieces_of};
-ghost use Rattle.fragmentation.specs.Pending.{is_nil};
+ghost use Rattle.fragmentation.specs.Details.Pending.{is_nil};
 ghost use Rattle.host_machine.specs.Context.Host.{SocketSet, no_sockets, with_left};
 ghost use Rattle.host_machine.specs.Packet.Packet.{HasPorts, IsWritablePayload};
 ghost use Rattle.host_machine.specs.Packet.Packet as value;
 ghost use Rattle.host_machine.specs.Context.Pieces as spec;
-ghost use Rattle.iface_context.specs.PacketValues as value_of;
+ghost use Rattle.iface_context.specs.Details.PacketValues as value_of;
 ghost use Rattle.iface_context.specs.Refines.{RefinesBuilding};
-ghost use Rattle.iface_context.specs.Pieces.{EmitsNextPiece};
+ghost use Rattle.iface_context.specs.Details.Pieces.{EmitsNextPiece};
 ghost use Rattle.iface_context.specs.Stands.{host_of};
 
 use crate::context::Context;

@@ -2,7 +2,7 @@
 use Rattle.std.specs.Prelude.{ℕ, zero, suc, ◌≡◌, ◌≢◌, List, take, None}
 use Rattle.sockets.specs.declared.endpoint.IpEndpoint.{IpEndpoint}
 use Rattle.dhcp_client.specs.declared.client.DhcpClient.{DhcpClient}
-use Rattle.dhcp_client.specs.Datagrams.{ReceivesDatagram}
+use Rattle.dhcp_client.specs.Details.Datagrams.{ReceivesDatagram}
 use Rattle.iface_host.specs.Refusals.{udp_unreceived}
 use Rattle.iface_host.specs.Sockets.{ReceivesUdp}
 use Rattle.iface_host.specs.declared.host.IfaceHost.{IfaceHost}

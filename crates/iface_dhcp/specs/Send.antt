@@ -4,8 +4,8 @@ use Rattle.ip_address.specs.Ipv4.{is_broadcast}
 use Rattle.ip_address.specs.declared.protocol.IpProtocol.TheVariants as protocol
 use Rattle.ip_address.specs.declared.protocol.IpVersion.TheVariants as version
 use Rattle.dhcp_client.specs.declared.messages.DhcpMessage.{DhcpMessage}
-use Rattle.dhcp_client.specs.Datagrams.{server_of}
-use Rattle.dhcp_client.specs.Packets.{message_text, packet_of}
+use Rattle.dhcp_client.specs.Details.Datagrams.{server_of}
+use Rattle.dhcp_client.specs.Details.Packets.{message_text, packet_of}
 use Rattle.iface_host.specs.Queues.{fills_at}
 use Rattle.iface_host.specs.Refusals.{raw_unsent, udp_unsent}
 use Rattle.iface_host.specs.Sockets.{Opens, SendsRaw, SendsUdp, raw}

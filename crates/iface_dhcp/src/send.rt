@@ -1,7 +1,7 @@
 //! How the client's messages are queued.
 ghost use Rattle.std.specs.Prelude.{◌≡◌, OnErr, IfOk, true};
-ghost use Rattle.dhcp_client.specs.Datagrams as datagrams;
-ghost use Rattle.dhcp_client.specs.Packets as packets;
+ghost use Rattle.dhcp_client.specs.Details.Datagrams as datagrams;
+ghost use Rattle.dhcp_client.specs.Details.Packets as packets;
 ghost use Rattle.iface_dhcp.specs.Send as spec;
 
 use crate::dhcp::Dhcp;

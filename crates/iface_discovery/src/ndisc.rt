@@ -9,7 +9,7 @@ ghost use Rattle.fragmentation.specs.Slots.{Slots};
 ghost use Rattle.host_machine.specs.Context.Host.{SocketSet, no_sockets};
 ghost use Rattle.host_machine.specs.Discovery.Ndisc as spec;
 ghost use Rattle.host_machine.specs.Packet.Packet as value;
-ghost use Rattle.iface_context.specs.PacketValues as value_of;
+ghost use Rattle.iface_context.specs.Details.PacketValues as value_of;
 ghost use Rattle.iface_context.specs.Stands.{host_in, host_of};
 ghost use Rattle.iface_context.specs.Refines.{RefinesReplying};
 

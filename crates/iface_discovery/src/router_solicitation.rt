@@ -4,7 +4,7 @@ ghost use Rattle.std.specs.Option.{option_map};
 ghost use Rattle.host_machine.specs.Context.Host.{no_sockets};
 ghost use Rattle.host_machine.specs.Packet.Packet.{IsWritable};
 ghost use Rattle.host_machine.specs.Discovery.RouterSolicitation as spec;
-ghost use Rattle.iface_context.specs.PacketValues as value_of;
+ghost use Rattle.iface_context.specs.Details.PacketValues as value_of;
 ghost use Rattle.iface_context.specs.Stands.{host_of};
 ghost use Rattle.iface_send.specs.Offered.{HasPart};
 ghost use Rattle.iface_context.specs.Refines.{RefinesTelling};

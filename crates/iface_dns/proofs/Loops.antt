@@ -2,7 +2,7 @@
 use Rattle.std.proofs.Common.{◌≡◌, ◌<◌, ◌≤◌, ◌+◌, ◌-◌, ℕ, zero, suc, arith, refl, sym, subst, List, Some}
 use Rattle.sockets.specs.declared.endpoint.IpEndpoint.{IpEndpoint}
 use Rattle.dns_client.specs.DnsResolver.Places.{Queries}
-use Rattle.dns_client.specs.Datagrams.{after_receiving}
+use Rattle.dns_client.specs.Details.Datagrams.{after_receiving}
 use Rattle.iface_host.specs.declared.host.IfaceHost.{IfaceHost}
 use Rattle.iface_dns.specs.Dns as dns
 use Rattle.iface_dns.specs.Dns.{ClosesAt, ClosesFrom}

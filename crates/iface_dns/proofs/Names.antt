@@ -3,7 +3,7 @@ use Rattle.std.proofs.Common.{◌≡◌, ◌∙◌, ℕ, true, List, Option, Som
 use Rattle.std.specs.Prelude.{is_some}
 use Rattle.std.specs.Result.{IsErrOf}
 use Rattle.std.proofs.lemmas.Bool.{and_from}
-use Rattle.dns_client.specs.Text.{name_in}
+use Rattle.dns_client.specs.Details.Text.{name_in}
 use Rattle.dns_client.proofs.TextAgain.{read_again}
 use Rattle.dns_client.specs.DnsResolver.Places.{Queries}
 use Rattle.dns_client.specs.DnsResolver.Resolver.{free_in, is_whole, start_refusal}

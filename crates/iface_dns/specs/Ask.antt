@@ -3,7 +3,7 @@ use Rattle.std.specs.Prelude.{ℕ, ◌≡◌, is_some, Bool, true, false, List, 
 use Rattle.dns_client.specs.DnsResolver.Resolver as resolver
 use Rattle.dns_client.specs.DnsResolver.Resolver.{at, message_at, text_in}
 use Rattle.dns_client.specs.declared.dns_resolver.resolver.DnsMessage.{DnsMessage}
-use Rattle.dns_client.specs.Datagrams as datagrams
+use Rattle.dns_client.specs.Details.Datagrams as datagrams
 use Rattle.sockets.specs.declared.endpoint.IpEndpoint.{IpEndpoint}
 use Rattle.iface_host.specs.Refusals.{udp_unsent}
 use Rattle.iface_host.specs.Sockets.{SendsUdp}

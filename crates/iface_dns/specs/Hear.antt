@@ -2,7 +2,7 @@
 use Rattle.std.specs.Prelude.{ℕ, zero, suc, ◌≡◌, ◌≢◌, ◌+◌, List, length, take, Option, Some, None}
 use Rattle.sockets.specs.declared.endpoint.IpEndpoint.{IpEndpoint}
 use Rattle.dns_client.specs.DnsResolver.Places.{Queries}
-use Rattle.dns_client.specs.Datagrams.{after_receiving, port_at}
+use Rattle.dns_client.specs.Details.Datagrams.{after_receiving, port_at}
 use Rattle.iface_host.specs.Queues.{fills_at}
 use Rattle.iface_host.specs.Refusals.{udp_unreceived}
 use Rattle.iface_host.specs.Sockets.{ReceivesUdp}

@@ -2,7 +2,7 @@
 use Rattle.std.specs.Prelude.{ℕ, ℤ, ◌≡◌, pos, is_some, true, List, Option, Some, None, if◌then◌else◌}
 use Rattle.std.specs.Option.{option_map}
 use Rattle.sockets.specs.declared.endpoint.IpListenEndpoint.{IpListenEndpoint}
-use Rattle.dns_client.specs.Text.{name_in}
+use Rattle.dns_client.specs.Details.Text.{name_in}
 use Rattle.dns_client.specs.declared.message.DnsType.{DnsType}
 use Rattle.dns_client.specs.DnsResolver.Places.{Queries}
 use Rattle.dns_client.specs.DnsResolver.Resolver as resolver

@@ -1,6 +1,6 @@
 //! What queries make of the datagrams that came to their sockets.
 ghost use Rattle.std.specs.Prelude.{◌≡◌, length, Some};
-ghost use Rattle.dns_client.specs.Datagrams.{after_receiving};
+ghost use Rattle.dns_client.specs.Details.Datagrams.{after_receiving};
 ghost use Rattle.iface_dns.specs.Hear as spec;
 
 use crate::dns::Dns;

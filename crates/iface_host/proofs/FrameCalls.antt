@@ -18,8 +18,8 @@ use Rattle.host_machine.specs.Interface.Polling.{Polls, is_changed, may_change}
 use Rattle.net_base.specs.declared.phy.DeviceCapabilities.{DeviceCapabilities}
 use Rattle.net_base.specs.Device.{Event, Frame, sent_frames}
 use Rattle.host_machine.specs.Interface.Step.{SetsReassemblyTimeout, WithinDay, OverDay}
-use Rattle.interface.specs.Refines.{HostRefinesTelling}
-use Rattle.interface.specs.Receives.{HostRefinesReceiving, frames_shown}
+use Rattle.interface.specs.Details.Refines.{HostRefinesTelling}
+use Rattle.interface.specs.Details.Receives.{HostRefinesReceiving, frames_shown}
 use Rattle.interface.specs.Stands as interfaces
 use Rattle.interface.specs.declared.interface.Interface.{Interface}
 use Rattle.guard.specs.Defence.{announced}

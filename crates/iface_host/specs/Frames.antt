@@ -1,7 +1,7 @@
 -- Frames that are taken and handed over, and the instant of the next poll.
 use Rattle.std.specs.Prelude.{ℕ, ℤ, ◌≡◌, ◌≢◌, ◌||◌, pos, Bool, true, not, List, [], length, take, drop, Option, Some, None, if◌then◌else◌}
 use Rattle.std.specs.Borrow.{Bor}
-use Rattle.fragmentation.specs.Pending.{is_nil}
+use Rattle.fragmentation.specs.Details.Pending.{is_nil}
 use Rattle.guard.specs.Watch as guard
 use Rattle.guard.specs.declared.watch.Watch.{Watch}
 use Rattle.egress_schedule.specs.Plan.{Planned}
@@ -16,8 +16,8 @@ use Rattle.host_machine.specs.Context.Host.{Host as Machine, at, no_sockets}
 use Rattle.host_machine.specs.Interface.Ingress.{answer_to}
 use Rattle.host_machine.specs.Interface.Polling.{Polls, is_changed, may_change}
 use Rattle.net_base.specs.Device.{Frame}
-use Rattle.interface.specs.Refines.{HostRefinesTelling}
-use Rattle.interface.specs.Receives.{HostRefinesReceiving}
+use Rattle.interface.specs.Details.Refines.{HostRefinesTelling}
+use Rattle.interface.specs.Details.Receives.{HostRefinesReceiving}
 use Rattle.iface_host.specs.Counters.{after_handing, after_taking}
 use Rattle.iface_host.specs.Outbox.{HandsFirst, Tells, Waiting, with_room}
 use Rattle.iface_host.specs.Stands.{StandsFor}

@@ -2,7 +2,7 @@
 use Rattle.std.specs.Prelude.{ℕ, ◌≡◌, Bool, true, false, List, [], ◌∷◌, ◌++◌, length, take, drop, Option}
 use Rattle.net_base.specs.declared.phy.DeviceCapabilities.{DeviceCapabilities}
 use Rattle.net_base.specs.Device.{Event, count_after_refusal, handed_frames, refusals_after, sent_frames}
-use Rattle.interface.specs.Receives.{frames_shown}
+use Rattle.interface.specs.Details.Receives.{frames_shown}
 
 -- what the device can do, the frames that wait, how often leave was refused, and whether room for one
 -- more frame is reserved

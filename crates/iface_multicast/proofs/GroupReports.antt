@@ -18,7 +18,7 @@ use Rattle.host_machine.specs.Multicast.Igmp as igmp_rules
 use Rattle.host_machine.specs.Multicast.Mld as mld_rules
 use Rattle.iface_context.specs.declared.context.Context.{Context}
 use Rattle.iface_context.specs.declared.packet.Packet.{Packet}
-use Rattle.iface_context.specs.PacketValues as value_of
+use Rattle.iface_context.specs.Details.PacketValues as value_of
 use Rattle.iface_context.specs.Stands.{host_in, host_of}
 use Rattle.iface_send.specs.Offered.{HasPart, IsOffered, NoPacket, NotGranted, Goes}
 use Rattle.iface_context.specs.Refines.{RefinesTelling}

@@ -9,7 +9,7 @@ ghost use Rattle.control_wire.specs.declared.mld.MldRecordType.TheVariants.{Mode
 ghost use Rattle.control_wire.specs.Mld.{record_text};
 ghost use Rattle.iface_tables.specs.Groups.{ipv6_groups};
 ghost use Rattle.host_machine.specs.Packet.Packet.{IsWritable};
-ghost use Rattle.iface_context.specs.PacketValues as value_of;
+ghost use Rattle.iface_context.specs.Details.PacketValues as value_of;
 ghost use Rattle.iface_send.specs.Offered.{HasPart, IsOffered};
 ghost use Rattle.iface_context.specs.Refines.{RefinesTelling};
 

@@ -9,7 +9,7 @@ use Rattle.ip_wire.specs.declared.ipv4_packet.Ipv4Fragment.{Ipv4Fragment}
 use Rattle.ip_wire.specs.Ipv4Packet.{IsIpv4, ipv4_in, header_in, header_len, total_len, is_fragment}
 use Rattle.fragmentation.specs.declared.key.FragKey.{FragKey}
 use Rattle.fragmentation.specs.Slots.{Slots}
-use Rattle.fragmentation.specs.Reassembled.{Reassembled}
+use Rattle.fragmentation.specs.Details.Reassembled.{Reassembled}
 use Rattle.fragmentation.specs.Assembly.{Assembly}
 use Rattle.fragmentation.specs.Stands.{StandForSlots}
 use Rattle.host_machine.specs.Context.Note.{OfSlots}

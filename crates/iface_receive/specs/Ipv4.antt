@@ -11,7 +11,7 @@ use Rattle.fragmentation.specs.contracts.reassembly.PacketAssemblerSet as set
 use Rattle.fragmentation.specs.Slots.{Slots}
 use Rattle.fragmentation.specs.Assembly.{Assembly}
 use Rattle.fragmentation.specs.Stands.{StandForSlots}
-use Rattle.fragmentation.specs.Reassembled.{Reassembled}
+use Rattle.fragmentation.specs.Details.Reassembled.{Reassembled}
 use Rattle.host_machine.specs.Receive.Ipv4.{key_in, fragment_in}
 use Rattle.iface_context.specs.declared.context.Context.{Context}
 

@@ -1,7 +1,7 @@
 //! How an interface processes IPv4 packets (RFC 791, RFC 1122 3.2.1).
 ghost use Rattle.std.specs.Prelude.{◌≡◌, ◌+◌, ◌<◌, ◌≤◌, ◌^◌, [], length, IfSome, None};
 ghost use Rattle.std.specs.Borrow.{sem};
-ghost use Rattle.fragmentation.specs.Reassembled.{RestsReassembled};
+ghost use Rattle.fragmentation.specs.Details.Reassembled.{RestsReassembled};
 ghost use Rattle.fragmentation.specs.Stands as stands;
 ghost use Rattle.control_wire.specs.declared.icmpv4.Icmpv4DstUnreachable.TheVariants.{ProtoUnreachable};
 ghost use Rattle.fragmentation.specs.Slots.{Slots};

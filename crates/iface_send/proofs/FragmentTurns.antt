@@ -4,13 +4,13 @@ use Rattle.std.specs.Prelude.{not}
 use Rattle.net_base.specs.Device.{Event, Asked}
 use Rattle.fragmentation.specs.Slots.{Slots}
 use Rattle.fragmentation.specs.Cuts.{Piece}
-use Rattle.fragmentation.specs.Pending.{is_nil}
+use Rattle.fragmentation.specs.Details.Pending.{is_nil}
 use Rattle.host_machine.specs.Context.Host.{SocketSet}
 use Rattle.host_machine.specs.Packet.Frame.{frames_in, sends}
 use Rattle.host_machine.specs.Send.Fragments.{Ipv4Egress, NoPiece, NotGranted, PieceGoes}
 use Rattle.iface_context.specs.declared.context.Context.{Context}
 use Rattle.iface_context.specs.Refines.{RefinesBuilding, RefinesTelling}
-use Rattle.iface_context.specs.Pieces.{EmitsNextPiece, PieceHasTurn}
+use Rattle.iface_context.specs.Details.Pieces.{EmitsNextPiece, PieceHasTurn}
 use Rattle.iface_context.specs.Stands.{host_in}
 
 module _ {D : Type 0} {tells : D → List Event → D → Type 0} where

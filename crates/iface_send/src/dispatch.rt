@@ -9,7 +9,7 @@ ghost use Rattle.host_machine.specs.Context.Host.{no_sockets};
 ghost use Rattle.host_machine.specs.Packet.Packet.{IsWritable};
 ghost use Rattle.host_machine.specs.Packet.Packet as value;
 ghost use Rattle.host_machine.specs.Send.Dispatch as spec;
-ghost use Rattle.iface_context.specs.PacketValues as value_of;
+ghost use Rattle.iface_context.specs.Details.PacketValues as value_of;
 ghost use Rattle.iface_send.specs.Destination.{IsBegun, IsReached, IsRefused};
 ghost use Rattle.iface_context.specs.Refines.{RefinesBuilding};
 ghost use Rattle.iface_context.specs.Stands.{host_of};

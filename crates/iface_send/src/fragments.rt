@@ -7,9 +7,9 @@ ghost use Rattle.host_machine.specs.Packet.Packet.{IsWritablePayload};
 ghost use Rattle.host_machine.specs.Packet.Packet as value;
 ghost use Rattle.host_machine.specs.Send.Dispatch as spec;
 ghost use Rattle.host_machine.specs.Send.Fragments as due;
-ghost use Rattle.iface_context.specs.PacketValues as value_of;
+ghost use Rattle.iface_context.specs.Details.PacketValues as value_of;
 ghost use Rattle.iface_context.specs.Refines.{RefinesBuilding, RefinesTelling};
-ghost use Rattle.iface_context.specs.Pieces.{PieceHasTurn};
+ghost use Rattle.iface_context.specs.Details.Pieces.{PieceHasTurn};
 ghost use Rattle.iface_context.specs.Stands.{host_of};
 
 use crate::transmit::send_frame;

@@ -9,7 +9,7 @@ ghost use Rattle.host_machine.specs.Packet.Frame.{ip_frame};
 ghost use Rattle.host_machine.specs.Packet.Packet.{IsFormed, IsWritable};
 ghost use Rattle.host_machine.specs.Packet.Packet as value;
 ghost use Rattle.host_machine.specs.Send.Requests as spec;
-ghost use Rattle.iface_context.specs.PacketValues as value_of;
+ghost use Rattle.iface_context.specs.Details.PacketValues as value_of;
 ghost use Rattle.iface_context.specs.Refines.{RefinesBuilding};
 ghost use Rattle.iface_context.specs.Stands.{host_of};
 

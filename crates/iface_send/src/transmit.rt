@@ -3,7 +3,7 @@ ghost use Rattle.std.specs.Prelude.{◌≡◌, Some, true};
 ghost use Rattle.host_machine.specs.Packet.Frame.{frames_in, sends};
 ghost use Rattle.host_machine.specs.Context.Host.{no_sockets};
 ghost use Rattle.host_machine.specs.Packet.Packet.{IsWritable};
-ghost use Rattle.iface_context.specs.PacketValues as value_of;
+ghost use Rattle.iface_context.specs.Details.PacketValues as value_of;
 ghost use Rattle.iface_context.specs.Stands.{host_of};
 ghost use Rattle.iface_send.specs.Offered.{HasPart, IsOffered};
 ghost use Rattle.iface_context.specs.Refines.{RefinesTelling};

@@ -3,7 +3,7 @@ use Rattle.std.proofs.Common.{◌≡◌, ◌⊎◌, ℕ, ◌<◌, ◌≤◌, ap,
 use Rattle.std.proofs.lemmas.Bool.{cases_lt}
 use Rattle.std.specs.Prelude.{ℤ}
 use Rattle.std.specs.Option.{option_and_then}
-use Rattle.socket_set.specs.Busy.{IsIdle}
+use Rattle.socket_set.specs.Details.Busy.{IsIdle}
 use Rattle.socket_set.specs.SocketSet.{socket_at}
 use Rattle.host_machine.specs.Context.Host.{Host}
 use Rattle.host_machine.specs.Sockets.Polling.{SocketDue}

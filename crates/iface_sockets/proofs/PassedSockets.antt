@@ -8,8 +8,8 @@ use Rattle.fragmentation.specs.Slots.{Slots}
 use Rattle.ip_address.specs.declared.ip.IpAddress.{IpAddress}
 use Rattle.sockets.specs.declared.poll_at.PollAt.{PollAt}
 use Rattle.sockets.specs.Kinds as kinds
-use Rattle.socket_set.specs.Alike.{waits_like}
-use Rattle.socket_set.specs.Busy.{IsIdle}
+use Rattle.socket_set.specs.Details.Alike.{waits_like}
+use Rattle.socket_set.specs.Details.Busy.{IsIdle}
 use Rattle.socket_set.specs.SocketMeta.{Wait, IsAnswerFor, after_asking, is_permitted, poll_at}
 use Rattle.socket_set.specs.SocketSet.{socket_at, wait_at, wait_of}
 use Rattle.socket_set.proofs.WaitLemmas.{alike}

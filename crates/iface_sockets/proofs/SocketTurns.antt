@@ -12,7 +12,7 @@ use Rattle.sockets.specs.Kinds as kinds
 use Rattle.sockets.specs.declared.poll_at.PollAt.TheVariants.{Ingress}
 use Rattle.host_machine.proofs.Sockets.QuietSockets.{socket_quiet}
 use Rattle.ip_address.specs.declared.ip.IpAddress.{IpAddress}
-use Rattle.socket_set.specs.Busy.{IsIdle}
+use Rattle.socket_set.specs.Details.Busy.{IsIdle}
 use Rattle.socket_set.specs.SocketMeta.{Wait, IsAnswerFor, is_permitted, after_asking}
 use Rattle.socket_set.specs.SocketSet.{socket_at, wait_at, with_place, with_wait}
 use Rattle.host_machine.specs.declared.results.Turn.{Turn}

@@ -6,7 +6,7 @@ use Rattle.ip_address.specs.declared.cidr.IpCidr.{IpCidr}
 use Rattle.ip_wire.specs.declared.ip_packet.IpRepr.{IpRepr}
 use Rattle.ip_wire.specs.declared.udp.UdpRepr.{UdpRepr}
 use Rattle.sockets.specs.declared.socket.SocketOf.TheVariants.{Raw, Icmp, Udp, Tcp}
-use Rattle.socket_set.specs.Datagrams.{is_udp}
+use Rattle.socket_set.specs.Details.Datagrams.{is_udp}
 use Rattle.host_machine.specs.Context.Host.{Storage}
 use Rattle.host_machine.specs.Sockets.Udp.{accepts}
 use Rattle.host_machine.proofs.Sockets.SocketIteration.{at_place}

@@ -7,7 +7,7 @@ ghost use Rattle.host_machine.specs.Context.Host.{Socket};
 ghost use Rattle.host_machine.specs.Sockets.Icmp as icmp_rules;
 ghost use Rattle.host_machine.specs.Sockets.Offers as offers_rules;
 ghost use Rattle.host_machine.specs.Packet.Packet.{IsWritable, IsWritablePayload};
-ghost use Rattle.iface_context.specs.PacketValues as value_of;
+ghost use Rattle.iface_context.specs.Details.PacketValues as value_of;
 ghost use Rattle.iface_context.specs.Refines.{RefinesTelling};
 ghost use Rattle.iface_sockets.specs.Turns.{HasTurn};
 

@@ -3,7 +3,7 @@ ghost use Rattle.std.specs.Prelude.{◌≡◌, ◌<◌, Some, IfSome};
 ghost use Rattle.std.specs.Option.{option_map};
 ghost use Rattle.host_machine.specs.Sockets.Offers as egress;
 ghost use Rattle.host_machine.specs.Packet.Packet.{IsWritable, IsWritablePayload};
-ghost use Rattle.iface_context.specs.PacketValues as value_of;
+ghost use Rattle.iface_context.specs.Details.PacketValues as value_of;
 ghost use Rattle.iface_context.specs.Refines.{RefinesTelling};
 ghost use Rattle.iface_sockets.specs.Turns.{OfferHasTurn, outcome_of};
 

@@ -10,7 +10,7 @@ ghost use Rattle.sockets.specs.Raw as raw;
 ghost use Rattle.host_machine.specs.Context.Host.{Socket};
 ghost use Rattle.host_machine.specs.Sockets.Offers as egress;
 ghost use Rattle.host_machine.specs.Packet.Packet.{IsWritable};
-ghost use Rattle.iface_context.specs.PacketValues as value_of;
+ghost use Rattle.iface_context.specs.Details.PacketValues as value_of;
 ghost use Rattle.iface_context.specs.Refines.{RefinesTelling};
 ghost use Rattle.iface_sockets.specs.Turns.{HasTurn};
 

@@ -13,7 +13,7 @@ ghost use Rattle.iface_context.specs.Stands.{host_of};
 ghost use Rattle.sockets.specs.Kinds as kinds;
 ghost use Rattle.sockets.specs.Tcp as tcp;
 ghost use Rattle.host_machine.specs.Packet.Packet.{IsWritable};
-ghost use Rattle.iface_context.specs.PacketValues as value_of;
+ghost use Rattle.iface_context.specs.Details.PacketValues as value_of;
 ghost use Rattle.iface_sockets.specs.Turns.{HasTurn};
 
 use crate::offers::{outcome, packet_between, send_if};

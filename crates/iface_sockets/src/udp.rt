@@ -9,7 +9,7 @@ ghost use Rattle.iface_context.specs.Refines.{RefinesTelling};
 ghost use Rattle.sockets.specs.Kinds as kinds;
 ghost use Rattle.sockets.specs.Udp as udp;
 ghost use Rattle.host_machine.specs.Sockets.Offers as egress;
-ghost use Rattle.iface_context.specs.PacketValues as value_of;
+ghost use Rattle.iface_context.specs.Details.PacketValues as value_of;
 ghost use Rattle.iface_sockets.specs.Turns.{HasTurn, OfferHasTurn};
 
 use crate::offers::{outcome, send};

@@ -1,12 +1,9 @@
 pub mod Entries
 pub mod Neighbor
-pub mod Place
-pub mod PlaceLends
 pub mod Route
-pub mod RouteNodes
 pub mod RouteTrie
 pub mod Store
-pub mod StoreLends
 pub mod Slaac
 pub mod Sync
 pub mod Groups
+pub mod Details

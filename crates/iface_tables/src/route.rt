@@ -147,7 +147,7 @@ impl Model for Routes {
     ghost view = { λ r. record { items = r.storage.items; room = r.room } };
 
     ghost use Rattle.iface_tables.specs.Route.{AreKept};
-    ghost use Rattle.iface_tables.specs.RouteNodes.{nodes_at};
+    ghost use Rattle.iface_tables.specs.Details.RouteNodes.{nodes_at};
 
     ghost invariant = { λ r. AreKept (nodes_at r.nodes) r.storage r.room r.first_end };
 }

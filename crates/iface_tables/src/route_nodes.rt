@@ -1,7 +1,7 @@
 //! The nodes of a table's trie: in the table itself, or in storage that was handed over.
 ghost use Rattle.std.specs.Prelude.{◌≡◌, ◌+◌, ◌*◌, ◌<◌, ◌≤◌, [], length, vec_capacity};
 ghost use Rattle.iface_tables.specs.Route.{cidrs};
-ghost use Rattle.iface_tables.specs.RouteNodes.{nodes_at};
+ghost use Rattle.iface_tables.specs.Details.RouteNodes.{nodes_at};
 ghost use Rattle.iface_tables.specs.RouteTrie.{IsTrieOf};
 
 use crate::route::{IFACE_MAX_ROUTE_COUNT, Route};

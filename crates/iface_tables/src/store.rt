@@ -22,8 +22,8 @@ pub struct Store<T, const N: usize> {
 
 impl<T, const N: usize> Place<T, N> {
     ghost use Rattle.std.specs.Borrow.{sem};
-    ghost use Rattle.iface_tables.specs.Place.{stored_at};
-    ghost use Rattle.iface_tables.specs.PlaceLends.{place_lends_slice};
+    ghost use Rattle.iface_tables.specs.Details.Place.{stored_at};
+    ghost use Rattle.iface_tables.specs.Details.PlaceLends.{place_lends_slice};
 
     // The entries, for writing.
     #[inline(always)]
@@ -40,7 +40,7 @@ impl<T, const N: usize> Place<T, N> {
 
 impl<T, const N: usize> Model for Store<T, N> {
     ghost use Rattle.iface_tables.specs.Store.{Stored, stored_code};
-    ghost use Rattle.iface_tables.specs.Place.{stored_at};
+    ghost use Rattle.iface_tables.specs.Details.Place.{stored_at};
 
     ghost Value = { Stored T };
 
@@ -85,7 +85,7 @@ impl<T: Default + Drop, const N: usize> Store<T, N> {
 
 impl<T: Drop, const N: usize> Store<T, N> {
     ghost use Rattle.std.specs.Borrow.{sem};
-    ghost use Rattle.iface_tables.specs.StoreLends.{lends_slice};
+    ghost use Rattle.iface_tables.specs.Details.StoreLends.{lends_slice};
 
     /// No entries, with room for as many as a vector has capacity for. Entries that it has are dropped.
     pub fn over(mut storage: Vec<T>) -> Store<T, N>

@@ -20,7 +20,7 @@ use Rattle.iface_context.specs.declared.context.Context.{Context}
 use Rattle.iface_context.specs.Stands.{host_in}
 use Rattle.iface_context.specs.Refines.{StandsFor, RefinesTelling}
 use Rattle.iface_send.specs.Offered.{HasPart}
-use Rattle.interface.specs.Refines.{RefinementTelling}
+use Rattle.interface.specs.Details.Refines.{RefinementTelling}
 
 module _ {D : Type 0} {tells : D → List Event → D → Type 0}
     (tells_on : (a b c : D) (xs ys : List Event) → tells a xs b → tells b ys c → tells a (xs ++ ys) c) where

@@ -12,8 +12,8 @@ use Rattle.host_machine.specs.Receive.Ethernet.{ProcessesFrame}
 use Rattle.host_machine.specs.Receive.Response.{Response}
 use Rattle.host_machine.specs.Interface.Ingress.{Ingress, Takes, answer_to}
 use Rattle.iface_context.specs.Refines.{HostRefinesReplying, RefinementReplying}
-use Rattle.interface.specs.Refines.{RefinementTelling}
-use Rattle.interface.specs.Receives.{RefinementReceiving, frames_shown}
+use Rattle.interface.specs.Details.Refines.{RefinementTelling}
+use Rattle.interface.specs.Details.Receives.{RefinementReceiving, frames_shown}
 
 nothing_taken : {Takes : Host → Option Reply → List Note → Host → Type 0} (H : Host) → Takes H None [] H → Response Takes H [] [] H
 nothing_taken H takes =

@@ -12,7 +12,7 @@ use Rattle.host_machine.specs.Context.Host.{Host, at}
 use Rattle.host_machine.specs.Context.Note.{Note}
 use Rattle.host_machine.specs.Interface.Egress.{answer_of}
 use Rattle.host_machine.specs.Interface.Polling.{Repeats, Begins, Again, Until, Spent, Done, Receives, Sends, Polls, after_maintenance}
-use Rattle.interface.specs.Refines.{RefinementTelling, HostRefinesTelling}
+use Rattle.interface.specs.Details.Refines.{RefinementTelling, HostRefinesTelling}
 
 le_ranked : (x t : ℤ) (o : Ordering) → MatchOrdering o (x <ℤ t) (x ≡ t) (t <ℤ x) → is_le o ≡ true → x ≤ℤ t
 le_ranked x t Less m e = omega (arith, ints)

@@ -1,3 +1,2 @@
-pub mod Refines
-pub mod Receives
 pub mod Stands
+pub mod Details

@@ -1,6 +1,6 @@
 //! An interface over a device.
 ghost use Rattle.std.specs.Prelude.{◌≡◌, ◌≤◌, None, false, true, not, length, take};
-ghost use Rattle.fragmentation.specs.Pending.{is_nil};
+ghost use Rattle.fragmentation.specs.Details.Pending.{is_nil};
 ghost use Rattle.ip_address.specs.Hardware.{IsOf, is_unicast};
 ghost use Rattle.host_machine.specs.Interface.Config as config;
 ghost use Rattle.host_machine.specs.Interface.Config.{same_medium, hardware_refusal_of};
@@ -88,7 +88,7 @@ impl Interface {
     ghost use Rattle.fragmentation.specs.Slots.{slot_room_over};
     ghost use Rattle.std.specs.Option.{option_copied, option_map};
     ghost use Rattle.std.specs.Io.BufRead.{Rests};
-    ghost use Rattle.interface.specs.Receives.{HostRefinesReceiving};
+    ghost use Rattle.interface.specs.Details.Receives.{HostRefinesReceiving};
     ghost use Rattle.net_base.specs.Time.{IsMoment};
     ghost use Rattle.host_machine.specs.Context.Host.{Storage};
     ghost use Rattle.host_machine.specs.Context.Host as host;
@@ -113,7 +113,7 @@ impl Interface {
     ghost use Rattle.iface_tables.specs.contracts.route.Routes.{the_row as routes_row};
     ghost use Rattle.interface.specs.contracts.interface.Interface.{the_row};
     ghost use Rattle.interface.specs.Stands.{host_with, with_context, with_routes, StandsFor, Becomes, HostRefines};
-    ghost use Rattle.interface.specs.Refines.{HostRefinesTelling};
+    ghost use Rattle.interface.specs.Details.Refines.{HostRefinesTelling};
 
     /// Creates an interface over a device, of which only the capabilities are read. The errors are tested in the order
     /// in which [`NewError`] lists them, each under exactly the condition stated there. The interface starts without

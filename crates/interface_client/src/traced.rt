@@ -1,6 +1,6 @@
 //! What a client can conclude of the frames that a tracer kept.
 ghost use Rattle.std.specs.Prelude.{◌≡◌, true, [], length, All};
-ghost use Rattle.net_base.specs.TracedEvents.{traced_events};
+ghost use Rattle.net_base.specs.Details.TracedEvents.{traced_events};
 ghost use Rattle.host_machine.specs.Context.Host.{Host};
 ghost use Rattle.host_machine.specs.Interface.Step.{IsTimely};
 ghost use Rattle.interface.specs.Stands.{StandsFor};

@@ -1,7 +1,7 @@
 -- The longest run of groups that are 0, among the groups before one.
 use Rattle.std.proofs.Common.{◌≡◌, ◌≢◌, ℕ, ◌+◌, ◌-◌, ◌<◌, ◌≤◌, Bool, true, false, eqb, List, length, slice_index, refl, arith}
 use Rattle.std.proofs.lemmas.Bool.{eqb-true, eqb-false}
-use Rattle.ip_address.specs.Ipv6Text.{HasNoRun, IsRun, IsShortened}
+use Rattle.ip_address.specs.Details.Ipv6Text.{HasNoRun, IsRun, IsShortened}
 
 -- among the groups before i: those from `from` on are 0, and no run that ends at i begins before; the run of `len`
 -- groups is the first one of the longest

@@ -4,8 +4,8 @@ pub mod Hardware
 pub mod Ip
 pub mod Ipv4
 pub mod Ipv6
-pub mod Ipv6Text
 pub mod LinkPrefix
 pub mod Prefixes
 pub mod Protocol
 pub mod AddressSelection
+pub mod Details

@@ -2,8 +2,8 @@
 ghost use Rattle.std.specs.Prelude.{◌≡◌, ◌+◌, ◌*◌, ◌^◌, ◌≤◌, IfSome, IfNone};
 ghost use Rattle.std.specs.Int.{w128, to_be_bytes};
 ghost use Rattle.ip_address.specs.Ipv6 as spec;
-ghost use Rattle.ip_address.specs.Ipv6Text as text;
-ghost use Rattle.ip_address.specs.Ipv6Text.{HasNoRun, IsShortened};
+ghost use Rattle.ip_address.specs.Details.Ipv6Text as text;
+ghost use Rattle.ip_address.specs.Details.Ipv6Text.{HasNoRun, IsShortened};
 ghost use Rattle.ip_address.specs.Prefixes.{common_bits};
 
 use crate::ipv4::Ipv4Address;

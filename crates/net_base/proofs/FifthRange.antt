@@ -4,7 +4,7 @@ use Rattle.std.proofs.lemmas.Bool.Decides.{nat_tests}
 use Rattle.std.specs.Prelude.{cond, nat_lt, nat_le}
 use Rattle.net_base.specs.declared.assembler.Range.{Range}
 use Rattle.net_base.specs.Ranges.{AreSeparate, range_union, absorb, put_range}
-use Rattle.net_base.specs.RangesLaws.{FifthTouchesNone, TouchesNone}
+use Rattle.net_base.specs.Details.RangesLaws.{FifthTouchesNone, TouchesNone}
 
 -- what is merged is at most one range more
 absorbed_len : (m : Range) (rs : List Range) → length (absorb m rs) ≤ length rs + 1

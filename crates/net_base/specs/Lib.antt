@@ -1,15 +1,9 @@
 pub mod Checksum
 pub mod Device
-pub mod DriverLaws
-pub mod Exact
 pub mod Instants
 pub mod MemoryDevice
-pub mod MemoryDeviceLaws
-pub mod Passed
 pub mod Rand
 pub mod Ranges
-pub mod RangesLaws
 pub mod Time
-pub mod TracedEvents
-pub mod TracerLaws
 pub mod Bucket
+pub mod Details

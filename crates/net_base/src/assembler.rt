@@ -2,7 +2,7 @@
 ghost use Rattle.std.specs.Prelude.{◌≡◌, ◌↔◌, ◌≤◌, ◌<◌, ◌+◌, ℕ, ◌^◌, [], ◌∷◌, ◌++◌, IsTrue};
 ghost use Rattle.std.specs.Prelude.{false, true, IsOk, IsErr, IfOk, OnOk, OnErr, length, List};
 ghost use Rattle.std.specs.Prelude.{insert, remove, slice_index_or};
-ghost use Rattle.net_base.specs.RangesLaws.{FifthTouchesNone};
+ghost use Rattle.net_base.specs.Details.RangesLaws.{FifthTouchesNone};
 ghost use Rattle.net_base.specs.Ranges.{add_range, front, AreSeparate, range_union};
 ghost use Rattle.net_base.specs.Ranges.{places_before, IsMet, IsApart, IsUnion};
 

@@ -1,7 +1,7 @@
 //! A device made of a driver that knows nothing of proofs.
 ghost use Rattle.std.specs.Prelude.{◌≡◌, ◌++◌, [], length, take};
 ghost use Rattle.net_base.specs.Device.{refusals_after};
-ghost use Rattle.net_base.specs.Exact.{DeterminesEvents};
+ghost use Rattle.net_base.specs.Details.Exact.{DeterminesEvents};
 
 use crate::phy::{Device, DeviceCapabilities, Driver, PacketMeta};
 use crate::time::Instant;
@@ -38,7 +38,7 @@ impl<D: Driver> DriverDevice<D> {
 
 impl<D: Driver> Device for DriverDevice<D> {
     ghost use Rattle.std.specs.Prelude.{refl};
-    ghost use Rattle.net_base.specs.DriverLaws.{none_appended, appended_on, counted_on};
+    ghost use Rattle.net_base.specs.Details.DriverLaws.{none_appended, appended_on, counted_on};
 
     ghost tells = { λ old events new.
         (new.trace.events ≡ old.trace.events ++ events) × (new.refusals ≡ refusals_after old.refusals events) };

@@ -201,7 +201,7 @@ fn write_front(buffer: &mut [u8], frame: &[u8]) -> usize
 
 impl Device for MemoryDevice {
     ghost use Rattle.net_base.specs.MemoryDevice.{Tells, Stays};
-    ghost use Rattle.net_base.specs.MemoryDeviceLaws.{told_on, told_refusals};
+    ghost use Rattle.net_base.specs.Details.MemoryDeviceLaws.{told_on, told_refusals};
 
     ghost tells = { Tells };
 

@@ -34,7 +34,7 @@ pub(crate) enum Passed<'a> {
 }
 
 impl Trace {
-    ghost use Rattle.net_base.specs.Passed.{event_of};
+    ghost use Rattle.net_base.specs.Details.Passed.{event_of};
 
     /// Nothing has passed.
     pub fn new() -> Trace

@@ -1,6 +1,6 @@
 //! A device that keeps what passes between an interface and another device.
 ghost use Rattle.std.specs.Prelude.{◌≡◌, true, [], length, take};
-ghost use Rattle.net_base.specs.TracedEvents.{Traces, none_by_counts, traced_events};
+ghost use Rattle.net_base.specs.Details.TracedEvents.{Traces, none_by_counts, traced_events};
 
 use crate::phy::{Device, DeviceCapabilities, PacketMeta};
 use crate::time::Instant;
@@ -37,7 +37,7 @@ pub struct Tracer<D: Device> {
 }
 
 impl<D: Device> Tracer<D> {
-    ghost use Rattle.net_base.specs.TracedEvents.{traced_event};
+    ghost use Rattle.net_base.specs.Details.TracedEvents.{traced_event};
     ghost use Rattle.net_base.specs.Device.{Event};
     ghost use Rattle.std.specs.Prelude.{◌++◌, ◌∷◌, false, MatchOption};
 
@@ -88,7 +88,7 @@ fn none_delivered(now: Instant, before: u64, after: u64) -> Option<TracedEvent>
 }
 
 impl<D: Device> Device for Tracer<D> {
-    ghost use Rattle.net_base.specs.TracerLaws.{none_traced, traced_on};
+    ghost use Rattle.net_base.specs.Details.TracerLaws.{none_traced, traced_on};
 
     ghost tells = { λ old events new. D.tells old.device events new.device
         × Traces old.is_complete (traced_events old.log.items) events new.is_complete (traced_events new.log.items) };

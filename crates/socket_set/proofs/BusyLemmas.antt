@@ -8,7 +8,7 @@ use Rattle.std.proofs.Math.Nat.{div-div-eq-div-mul}
 use Rattle.std.proofs.lemmas.Bool.{cases_eq, cases_lt}
 use Rattle.std.proofs.lemmas.List.{get_or-set_same, get_or-set_other}
 use Rattle.std.proofs.lemmas.Nat.Bits.{bit_at-trailing_zeros, bit_at-zero, bit_at_above, bit_at_ones}
-use Rattle.socket_set.specs.Busy.{IsClear, mark_of}
+use Rattle.socket_set.specs.Details.Busy.{IsClear, mark_of}
 
 zero_one : {n : ℕ} → n ≡ 0 → n ≡ 1 → ⊥
 zero_one is isn_t = omega (arith, is, isn_t)

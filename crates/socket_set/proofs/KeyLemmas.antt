@@ -5,7 +5,7 @@ use Rattle.std.proofs.lemmas.Bool.{cases_lt, eqb-false}
 use Rattle.std.proofs.lemmas.List.{get_or_past}
 use Rattle.sockets.specs.Kinds.{own_port}
 use Rattle.sockets.specs.declared.socket.SocketOf.{SocketOf}
-use Rattle.socket_set.specs.Keys.{AreKeysOf, is_candidate, key_at, key_of}
+use Rattle.socket_set.specs.Details.Keys.{AreKeysOf, is_candidate, key_at, key_of}
 use Rattle.socket_set.specs.SocketSet.{Sockets, socket_at}
 
 -- a key that was put down as 0, where the place has one

@@ -11,10 +11,10 @@ use Rattle.sockets.specs.declared.poll_at.PollAt.TheVariants.{Ingress}
 use Rattle.sockets.specs.declared.socket.SocketOf.{SocketOf}
 use Rattle.sockets.specs.declared.socket.SocketOf.TheVariants.{Raw, Icmp, Udp, Tcp}
 use Rattle.sockets.specs.declared.endpoint.IpEndpoint.{IpEndpoint}
-use Rattle.socket_set.specs.Datagrams.{after_datagram}
-use Rattle.socket_set.specs.Busy.{IsClear, IsIdle, AreTrue}
+use Rattle.socket_set.specs.Details.Datagrams.{after_datagram}
+use Rattle.socket_set.specs.Details.Busy.{IsClear, IsIdle, AreTrue}
 use Rattle.socket_set.specs.Laws.{IsSameAt, OthersStayAtAdd}
-use Rattle.socket_set.specs.Keys.{AllHavePorts, AreKeysOf, key_at}
+use Rattle.socket_set.specs.Details.Keys.{AllHavePorts, AreKeysOf, key_at}
 use Rattle.socket_set.proofs.KeyLemmas.{Tells, known_there, unknown_there}
 use Rattle.socket_set.specs.SocketMeta.{Wait, after_asking}
 use Rattle.socket_set.specs.SocketSet.{Storage, Sockets, set_after_add, first_free, has_free, over, socket_at, wait_at, with_place, with_wait}

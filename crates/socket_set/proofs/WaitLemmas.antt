@@ -7,7 +7,7 @@ use Rattle.std.specs.declared.cmp.Ordering.{Ordering}
 use Rattle.std.specs.declared.cmp.Ordering.TheVariants.{Less, Equal, Greater}
 use Rattle.ip_address.specs.declared.ip.IpAddress.{IpAddress}
 use Rattle.ip_address.specs.declared.ip.IpAddress.TheVariants.{Ipv4, Ipv6}
-use Rattle.socket_set.specs.Alike.{alike_until, is_same}
+use Rattle.socket_set.specs.Details.Alike.{alike_until, is_same}
 use Rattle.socket_set.specs.SocketMeta.{Wait, is_permitted}
 
 -- addresses that are the same

@@ -1,7 +1,4 @@
-pub mod Alike
-pub mod Busy
-pub mod Datagrams
-pub mod Keys
 pub mod SocketMeta
 pub mod SocketSet
 pub mod Laws
+pub mod Details

@@ -1,7 +1,7 @@
 //! Marks of the indices of a set whose sockets may be busy, so that a walk over the busy ones skips 64 others at
 //! once.
 ghost use Rattle.std.specs.Prelude.{◌≡◌, ◌≢◌, ◌<◌, ◌≤◌, ◌*◌, ◌↔◌, ℕ, min};
-ghost use Rattle.socket_set.specs.Busy.{IsClear};
+ghost use Rattle.socket_set.specs.Details.Busy.{IsClear};
 
 use std::marker::Model;
 

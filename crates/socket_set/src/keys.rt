@@ -1,7 +1,7 @@
 //! Keys of the indices of a set, by which a walk for a port finds the sockets that it has to look at.
 ghost use Rattle.std.specs.Prelude.{◌≡◌, ◌<◌, ◌≤◌, ◌+◌, ◌-◌, ℕ, true, false, slice_set};
-ghost use Rattle.socket_set.specs.Keys as spec;
-ghost use Rattle.socket_set.specs.Keys.{is_candidate, key_at};
+ghost use Rattle.socket_set.specs.Details.Keys as spec;
+ghost use Rattle.socket_set.specs.Details.Keys.{is_candidate, key_at};
 
 use std::marker::Model;
 

@@ -1,7 +1,7 @@
 //! What an interface keeps for each socket: whether it waits for the next hop of its first packet.
 ghost use Rattle.std.specs.Prelude.{◌≡◌, Bool, Some, None, is_some};
 ghost use Rattle.net_base.specs.Time.{IsMoment, silence_from};
-ghost use Rattle.socket_set.specs.Alike.{alike_until};
+ghost use Rattle.socket_set.specs.Details.Alike.{alike_until};
 ghost use Rattle.socket_set.specs.SocketMeta as spec;
 ghost use Rattle.socket_set.specs.SocketMeta.{IsAnswerFor, after_asking, is_permitted};
 

@@ -5,10 +5,10 @@ ghost use Rattle.std.specs.Option.{option_copied, option_copied_mut, option_and_
 ghost use Rattle.net_base.specs.Time.{IsMoment, silence_from};
 ghost use Rattle.sockets.specs.Kinds.{own_port, poll_at as own_poll_at};
 ghost use Rattle.sockets.specs.declared.poll_at.PollAt.TheVariants.{Ingress};
-ghost use Rattle.socket_set.specs.Alike.{waits_like};
-ghost use Rattle.socket_set.specs.Busy.{IsIdle};
-ghost use Rattle.socket_set.specs.Datagrams.{after_datagram, is_udp};
-ghost use Rattle.socket_set.specs.Keys.{AllHavePorts, key_of};
+ghost use Rattle.socket_set.specs.Details.Alike.{waits_like};
+ghost use Rattle.socket_set.specs.Details.Busy.{IsIdle};
+ghost use Rattle.socket_set.specs.Details.Datagrams.{after_datagram, is_udp};
+ghost use Rattle.socket_set.specs.Details.Keys.{AllHavePorts, key_of};
 ghost use Rattle.socket_set.specs.SocketMeta.{poll_at as poll_at_of, IsAnswerFor, after_asking, is_permitted, is_wait};
 ghost use Rattle.socket_set.specs.SocketSet.{set_after_add, first_free, given_back, handles, has_free, is_full};
 ghost use Rattle.socket_set.specs.SocketSet.{over, pairs, socket_at, wait_at, wait_of, with_place, with_wait};
@@ -271,8 +271,8 @@ pub type SocketSet<'a> = SocketSetOf<&'a ()>;
 
 impl<L> Model for SocketSetOf<L> {
     ghost use Rattle.std.specs.Prelude.{◌≡◌, false, vec_capacity};
-    ghost use Rattle.socket_set.specs.Busy.{AreTrue};
-    ghost use Rattle.socket_set.specs.Keys.{AllHavePorts, AreKeysOf};
+    ghost use Rattle.socket_set.specs.Details.Busy.{AreTrue};
+    ghost use Rattle.socket_set.specs.Details.Keys.{AllHavePorts, AreKeysOf};
     ghost use Rattle.socket_set.specs.SocketSet.{Sockets, over};
 
     ghost Value = { Sockets L };

@@ -1,14 +1,8 @@
-pub mod Buffers
 pub mod Queue
 pub mod Source
 pub mod Icmp
-pub mod IcmpLending
 pub mod Raw
-pub mod RawLending
-pub mod SendError
 pub mod Tcp
-pub mod TcpLending
 pub mod Udp
-pub mod UdpLending
 pub mod Kinds
-pub mod KindsLending
+pub mod Details

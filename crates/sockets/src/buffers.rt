@@ -1,7 +1,7 @@
 //! The two queues that each socket holds.
 ghost use Rattle.std.specs.Prelude.{◌≡◌, ◌≤◌, ◌++◌, length, is_ok, IfSome};
 ghost use Rattle.std.specs.Option.{option_map};
-ghost use Rattle.sockets.specs.Buffers as spec;
+ghost use Rattle.sockets.specs.Details.Buffers as spec;
 ghost use Rattle.sockets.specs.Queue.{is_room, first_of};
 
 use crate::poll_at::PollAt;
@@ -18,7 +18,7 @@ pub struct Buffers<M> {
 }
 
 impl<M> Model for Buffers<M> {
-    ghost use Rattle.sockets.specs.Buffers.{Buffered};
+    ghost use Rattle.sockets.specs.Details.Buffers.{Buffered};
 
     ghost Value = { Buffered M };
 

@@ -224,7 +224,7 @@ impl<L: Drop> SocketOf<L> {
 
 impl<L: Drop> SocketOf<L> {
     ghost use Rattle.std.specs.Borrow.{sem};
-    ghost use Rattle.sockets.specs.IcmpLending.{Settles};
+    ghost use Rattle.sockets.specs.Details.IcmpLending.{Settles};
 
     /// The first message to send, if any. Its source is the address that the context chooses. The message is dropped,
     /// and `None` returned, if there is no source of the peer's family, or if it isn't an echo message of that family's

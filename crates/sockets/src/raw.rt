@@ -188,7 +188,7 @@ impl<L: Drop> SocketOf<L> {
 
 impl<L: Drop> SocketOf<L> {
     ghost use Rattle.std.specs.Borrow.{sem};
-    ghost use Rattle.sockets.specs.RawLending.{Settles};
+    ghost use Rattle.sockets.specs.Details.RawLending.{Settles};
 
     /// The first packet to send, if any. Octets that aren't a packet of the socket's version and protocol are dropped,
     /// and `None` returned. The header's checksum isn't verified.

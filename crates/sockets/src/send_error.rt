@@ -1,6 +1,6 @@
 //! Why a socket refuses a datagram or a segment for sending.
 ghost use Rattle.std.specs.Prelude.{◌≡◌};
-ghost use Rattle.sockets.specs.SendError as spec;
+ghost use Rattle.sockets.specs.Details.SendError as spec;
 
 use crate::endpoint::IpEndpoint;
 use thiserror::Error;

@@ -31,7 +31,7 @@ pub enum Offer<'p> {
 impl<L: Drop> SocketOf<L> {
     ghost use Rattle.std.specs.Option.{option_map};
     ghost use Rattle.sockets.specs.Kinds as spec;
-    ghost use Rattle.sockets.specs.KindsLending.{Settles};
+    ghost use Rattle.sockets.specs.Details.KindsLending.{Settles};
 
     /// The socket's own port, 0 if it is not bound. `None` for raw and ICMP sockets, which have no port.
     #[inline(always)]

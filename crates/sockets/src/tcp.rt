@@ -4,7 +4,7 @@ ghost use Rattle.std.specs.Option.{option_map};
 ghost use Rattle.std.specs.Result.{result_err};
 ghost use Rattle.ip_address.specs.Ip.{is_unspecified};
 ghost use Rattle.sockets.specs.Queue.{is_room, first_of};
-ghost use Rattle.sockets.specs.SendError.{refusal};
+ghost use Rattle.sockets.specs.Details.SendError.{refusal};
 ghost use Rattle.sockets.specs.Tcp as spec;
 
 use crate::buffers::Buffers;
@@ -304,7 +304,7 @@ impl<L: Drop> SocketOf<L> {
 
 impl<L: Drop> SocketOf<L> {
     ghost use Rattle.std.specs.Borrow.{sem};
-    ghost use Rattle.sockets.specs.TcpLending.{Settles};
+    ghost use Rattle.sockets.specs.Details.TcpLending.{Settles};
 
     /// The first segment to send, if any, once the moment until which the socket holds back has passed. Its source is
     /// the socket's local address if that is given, otherwise the one that the context chooses. Without a source of the

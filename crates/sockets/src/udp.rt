@@ -4,7 +4,7 @@ ghost use Rattle.std.specs.Option.{option_map};
 ghost use Rattle.std.specs.Result.{result_err};
 ghost use Rattle.ip_address.specs.Ip.{is_unspecified};
 ghost use Rattle.sockets.specs.Queue.{is_room, first_of};
-ghost use Rattle.sockets.specs.SendError.{refusal};
+ghost use Rattle.sockets.specs.Details.SendError.{refusal};
 ghost use Rattle.sockets.specs.Udp as spec;
 
 use crate::buffers::Buffers;
@@ -225,7 +225,7 @@ impl<L: Drop> SocketOf<L> {
 
 impl<L: Drop> SocketOf<L> {
     ghost use Rattle.std.specs.Borrow.{sem};
-    ghost use Rattle.sockets.specs.UdpLending.{Settles};
+    ghost use Rattle.sockets.specs.Details.UdpLending.{Settles};
 
     /// The first datagram to send, if any. Its source is the address at which the socket listens if that is given,
     /// otherwise the one that the context chooses. Without a source of the peer's family the datagram is dropped, and

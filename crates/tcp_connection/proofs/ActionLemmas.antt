@@ -17,7 +17,7 @@ use Rattle.tcp_connection.specs.declared.outgoing.Action.{Action}
 use Rattle.tcp_connection.specs.declared.outgoing.Action.TheVariants.{SendNext, SendAgain, SendProbe}
 use Rattle.tcp_connection.specs.Pieces.{part_of, IsPieceOf}
 use Rattle.tcp_connection.specs.Actions.{action_of, after_sending, after_all_of, AreOctets}
-use Rattle.tcp_connection.specs.Sent.{octets_in}
+use Rattle.tcp_connection.specs.Details.Sent.{octets_in}
 
 -- which piece is sent
 abbrev pub Fits : machine.Action → Connection → Type 0

@@ -6,9 +6,9 @@ use Rattle.std.proofs.lemmas.Bool.Decides.{nat_tests}
 use Rattle.std.proofs.lemmas.List.{length-take-le, length-drop, take-take}
 use Rattle.net_base.specs.declared.assembler.Range.{Range}
 use Rattle.net_base.specs.Ranges.{AreSeparate, covered, front}
-use Rattle.tcp_machine.specs.Ring.{cells_from, cells_of, RingsStand}
+use Rattle.tcp_machine.specs.Details.Ring.{cells_from, cells_of, RingsStand}
 use Rattle.tcp_machine.specs.Receiving.{in_order, next, edge, open_receiver}
-use Rattle.tcp_connection.specs.Arrived.{syn, has_arrived, IsArrived, receiver_of}
+use Rattle.tcp_connection.specs.Details.Arrived.{syn, has_arrived, IsArrived, receiver_of}
 
 -- what is below the first range hasn't arrived
 pub below : (from p : ℕ) (rs : List Range) → AreSeparate from rs → p < from → covered rs p ≡ false

@@ -6,12 +6,12 @@ use Rattle.std.proofs.lemmas.Bool.Decides.{nat_tests}
 use Rattle.net_base.specs.declared.assembler.Range.{Range}
 use Rattle.net_base.specs.Ranges.{AreSeparate, covered, front}
 use Rattle.tcp_machine.specs.declared.sack.SackBlock.{SackBlock}
-use Rattle.tcp_machine.specs.Ring.{cells_from, cells_of, RingsStand}
+use Rattle.tcp_machine.specs.Details.Ring.{cells_from, cells_of, RingsStand}
 use Rattle.tcp_machine.specs.Receiving.{Receiver, in_order, next, expected}
 use Rattle.tcp_machine.specs.Sack.{Block, block, with_octet, blocks_from, beyond, containing, others, blocks_of as told}
 use Rattle.tcp_machine.specs.Outgoing.{block_on_wire}
 use Rattle.std.specs.List.{filter_map}
-use Rattle.tcp_connection.specs.Arrived.{has_arrived, IsArrived, receiver_of}
+use Rattle.tcp_connection.specs.Details.Arrived.{has_arrived, IsArrived, receiver_of}
 use Rattle.tcp_connection.specs.Blocks.{block_of, blocks_in, part_beyond, is_in, newest_first, on_wire}
 use Rattle.tcp_connection.proofs.ArrivedLemmas.{below, window_len, next_of}
 

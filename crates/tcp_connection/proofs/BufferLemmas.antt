@@ -7,9 +7,9 @@ use Rattle.std.proofs.lemmas.List.{length-take-le, length-drop, length-append, g
 use Rattle.std.proofs.lemmas.List.{get_or_append_left}
 use Rattle.net_base.specs.declared.assembler.Range.{Range}
 use Rattle.net_base.specs.Ranges.{covered, front}
-use Rattle.tcp_machine.specs.Ring.{cells_from, cells_of, RingsStand}
+use Rattle.tcp_machine.specs.Details.Ring.{cells_from, cells_of, RingsStand}
 use Rattle.tcp_machine.specs.Receiving.{Receiver, in_order, after_read}
-use Rattle.tcp_connection.specs.Arrived.{has_arrived, IsArrived, receiver_of}
+use Rattle.tcp_connection.specs.Details.Arrived.{has_arrived, IsArrived, receiver_of}
 use Rattle.tcp_connection.proofs.ArrivedLemmas.{window_len, front_within, next_is}
 
 -- cells with the same octets where they are held

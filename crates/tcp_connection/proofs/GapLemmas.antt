@@ -5,10 +5,10 @@ use Rattle.std.specs.Prelude.{nat_le, nat_lt, max, ◌&&◌, ◌||◌, if◌then
 use Rattle.std.proofs.lemmas.Bool.Decides.{nat_tests}
 use Rattle.net_base.specs.declared.assembler.Range.{Range}
 use Rattle.net_base.specs.Ranges.{covered, front, IsUnion}
-use Rattle.tcp_machine.specs.Ring.{cells_from, cells_of, RingsStand}
+use Rattle.tcp_machine.specs.Details.Ring.{cells_from, cells_of, RingsStand}
 use Rattle.tcp_machine.specs.Receiving.{in_order}
 use Rattle.tcp_machine.specs.Arrivals.{is_any_held, has_gap}
-use Rattle.tcp_connection.specs.Arrived.{syn, has_arrived, IsArrived, IsFurthest, receiver_of}
+use Rattle.tcp_connection.specs.Details.Arrived.{syn, has_arrived, IsArrived, IsFurthest, receiver_of}
 use Rattle.tcp_connection.proofs.ArrivedLemmas.{next_of, window_len, syn_alone}
 
 pub syn_furthest : IsFurthest 1 syn

@@ -8,10 +8,10 @@ use Rattle.std.proofs.lemmas.List.{length-take-le, length-drop, length-append, g
 use Rattle.std.proofs.lemmas.List.{get_or_append_left, take_min, drop_min}
 use Rattle.net_base.specs.declared.assembler.Range.{Range}
 use Rattle.net_base.specs.Ranges.{AreSeparate, covered, front, IsUnion, add_range}
-use Rattle.net_base.specs.RangesLaws.{FifthTouchesNone}
-use Rattle.tcp_machine.specs.Ring.{octet_in, IsWritten, RingsStand}
+use Rattle.net_base.specs.Details.RangesLaws.{FifthTouchesNone}
+use Rattle.tcp_machine.specs.Details.Ring.{octet_in, IsWritten, RingsStand}
 use Rattle.tcp_machine.specs.Receiving.{Receiver, filled}
-use Rattle.tcp_connection.specs.Arrived.{has_arrived, IsArrived, receiver_of}
+use Rattle.tcp_connection.specs.Details.Arrived.{has_arrived, IsArrived, receiver_of}
 use Rattle.tcp_connection.proofs.ArrivedLemmas.{window_len, before_front, at_front}
 use Rattle.tcp_connection.proofs.BufferLemmas.{in_window}
 

@@ -7,7 +7,7 @@ use Rattle.tcp_machine.specs.Receiving.{is_at}
 use Rattle.tcp_machine.specs.Outgoing.{octets_from}
 use Rattle.tcp_connection.specs.declared.transmission.Part.{Part}
 use Rattle.tcp_connection.specs.Pieces.{IsPieceOf}
-use Rattle.tcp_connection.specs.Bounds.{last, last_for, IsWithin, after_part}
+use Rattle.tcp_connection.specs.Details.Bounds.{last, last_for, IsWithin, after_part}
 use Rattle.std.proofs.lemmas.List.{length-drop, length-take, drop-take, take_min, drop_min}
 
 -- how many octets there are from an offset on, so many at most

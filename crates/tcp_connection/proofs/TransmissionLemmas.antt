@@ -3,7 +3,7 @@ use Rattle.std.proofs.Common.{◌≡◌, ◌+◌, ◌-◌, ◌≤◌, ◌<◌, �
 use Rattle.std.specs.Prelude.{max}
 use Rattle.std.proofs.lemmas.List.{length-drop, length-append}
 use Rattle.tcp_machine.specs.Sending.{Sender}
-use Rattle.tcp_connection.specs.Bounds.{last, last_for, last_possible_for, IsWithin}
+use Rattle.tcp_connection.specs.Details.Bounds.{last, last_for, last_possible_for, IsWithin}
 
 -- an acknowledgement
 pub acknowledged : (s : Sender) (position edge : ℕ) → IsWithin s → s.una ≤ position → position ≤ s.top → edge < 2 ^ 63 →

@@ -1,9 +1,6 @@
-pub mod Bounds
 pub mod Blocks
-pub mod Arrived
 pub mod Segments
 pub mod Asked
-pub mod Parts
 pub mod Pieces
 pub mod Actions
-pub mod Sent
+pub mod Details

@@ -4,7 +4,7 @@ ghost use Rattle.tcp_machine.specs.Instants as instants;
 ghost use Rattle.tcp_machine.specs.Acknowledgements as acknowledgements;
 ghost use Rattle.tcp_machine.specs.Segments as segments;
 ghost use Rattle.tcp_connection.specs.Segments.{segment_of, piece_of};
-ghost use Rattle.tcp_connection.specs.Parts.{tells_nothing, after_old_position, after_position_of};
+ghost use Rattle.tcp_connection.specs.Details.Parts.{tells_nothing, after_old_position, after_position_of};
 
 use crate::connection::Connection;
 use crate::instants::later;

@@ -8,7 +8,7 @@ ghost use Rattle.tcp_machine.specs.Opening as opening;
 ghost use Rattle.tcp_machine.specs.Opening.{Arrives, MayLeave};
 ghost use Rattle.tcp_machine.specs.Acknowledgements.{is_believed};
 ghost use Rattle.tcp_connection.specs.Segments.{segment_of, piece_of};
-ghost use Rattle.tcp_connection.specs.Parts.{after_syn_again, after_ack_of_syn};
+ghost use Rattle.tcp_connection.specs.Details.Parts.{after_syn_again, after_ack_of_syn};
 
 use crate::connection::Connection;
 use crate::segment::Segment;

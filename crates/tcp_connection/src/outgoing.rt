@@ -8,8 +8,8 @@ ghost use Rattle.tcp_connection.specs.Blocks as blocks;
 ghost use Rattle.tcp_connection.specs.Asked.{is_only_challenged};
 ghost use Rattle.tcp_connection.specs.Pieces.{part_of, IsPieceOf};
 ghost use Rattle.tcp_machine.specs.Pieces.{Piece, after_piece};
-ghost use Rattle.tcp_connection.specs.Bounds.{last, after_part};
-ghost use Rattle.tcp_connection.specs.Sent as sent;
+ghost use Rattle.tcp_connection.specs.Details.Bounds.{last, after_part};
+ghost use Rattle.tcp_connection.specs.Details.Sent as sent;
 
 use crate::connection::Connection;
 use crate::instants::{is_owed, later};

@@ -3,7 +3,7 @@ ghost use Rattle.std.specs.Prelude.{◌≡◌, ◌≤◌, ◌<◌, ◌+◌, ◌-
 ghost use Rattle.tcp_machine.specs.Receiving.{filled, stop_from, in_order, next, edge, expected, open_receiver, with_piece, after_read, is_acceptable};
 ghost use Rattle.tcp_machine.specs.Arrivals.{has_gap, has_ended};
 ghost use Rattle.tcp_machine.specs.Sack as sack;
-ghost use Rattle.tcp_connection.specs.Arrived.{syn, with_octets};
+ghost use Rattle.tcp_connection.specs.Details.Arrived.{syn, with_octets};
 ghost use Rattle.tcp_connection.specs.Blocks as blocks;
 
 use net_base::assembler::{Assembler, Range, refused_touches_none};
@@ -38,7 +38,7 @@ pub struct ReceiveBuffer {
 impl Model for ReceiveBuffer {
     ghost use Rattle.std.specs.Prelude.{◌≡◌, ◌+◌, ◌≤◌, ◌^◌, length};
     ghost use Rattle.tcp_machine.specs.Receiving as receiving;
-    ghost use Rattle.tcp_connection.specs.Arrived.{IsArrived, IsFurthest, receiver_of};
+    ghost use Rattle.tcp_connection.specs.Details.Arrived.{IsArrived, IsFurthest, receiver_of};
 
     ghost Value = { receiving.Receiver };
 

@@ -7,7 +7,7 @@ ghost use Rattle.tcp_machine.specs.Opening.{no_transmission};
 ghost use Rattle.tcp_machine.specs.Calls.{room_to_write};
 ghost use Rattle.tcp_machine.specs.Timers.{has_unsent};
 ghost use Rattle.tcp_machine.specs.Outgoing.{octets_from, piece_from, is_last};
-ghost use Rattle.tcp_connection.specs.Bounds.{last, after_part};
+ghost use Rattle.tcp_connection.specs.Details.Bounds.{last, after_part};
 ghost use Rattle.tcp_connection.specs.Pieces.{IsPieceOf};
 
 use sockets::octets::Octets;
@@ -50,7 +50,7 @@ pub struct Part {
 impl Model for Transmission {
     ghost use Rattle.std.specs.Prelude.{◌≡◌, ◌+◌, ◌≤◌, ◌<◌, ◌^◌, length};
     ghost use Rattle.tcp_machine.specs.Connection as connection;
-    ghost use Rattle.tcp_connection.specs.Bounds.{IsWithin};
+    ghost use Rattle.tcp_connection.specs.Details.Bounds.{IsWithin};
 
     ghost Value = { connection.Transmission };
 

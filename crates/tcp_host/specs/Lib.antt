@@ -3,12 +3,11 @@ pub mod Challenges
 pub mod Alarms
 pub mod Backlog
 pub mod SipHash
-pub mod Homes
 pub mod Table
-pub mod Cells
 pub mod Listener
 pub mod Host
 pub mod Resets
 pub mod Arrivals
 pub mod Turns
 pub mod Handles
+pub mod Details

@@ -1,7 +1,7 @@
 //! SipHash-2-4, a keyed hash (Aumasson, Bernstein: SipHash, a fast short-input PRF, 2012).
 ghost use Rattle.std.specs.Prelude.{◌≡◌, ◌<◌};
 ghost use Rattle.tcp_host.specs.SipHash as spec;
-ghost use Rattle.tcp_host.specs.Homes as places;
+ghost use Rattle.tcp_host.specs.Details.Homes as places;
 
 use crate::iss::{Endpoints, key_of};
 

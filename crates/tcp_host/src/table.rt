@@ -2,8 +2,8 @@
 ghost use Rattle.std.specs.Prelude.{◌≡◌, ◌≤◌, ◌<◌, ◌+◌, ◌^◌, ℕ, true, false, length, get_or, replicate, slice_set, Some, None, IfOk, IfSome, IsNone};
 ghost use Rattle.std.specs.List.{count_by};
 ghost use Rattle.tcp_host.specs.Table as spec;
-ghost use Rattle.tcp_host.specs.Cells as row;
-ghost use Rattle.tcp_host.specs.Homes.{home};
+ghost use Rattle.tcp_host.specs.Details.Cells as row;
+ghost use Rattle.tcp_host.specs.Details.Homes.{home};
 
 use crate::iss::Endpoints;
 use crate::sip_hash::{SipKey, home};
@@ -28,7 +28,7 @@ pub struct Table {
 impl Model for Table {
     ghost use Rattle.std.specs.Prelude.{List, Option};
     ghost use Rattle.tcp_host.specs.declared.iss.Endpoints.{Endpoints};
-    ghost use Rattle.tcp_host.specs.Cells.{Stands};
+    ghost use Rattle.tcp_host.specs.Details.Cells.{Stands};
 
     ghost Value = { List (Option Endpoints) };
 

@@ -4,7 +4,7 @@ use Rattle.std.proofs.Common.{refl, sym, ap, ◌∙◌, arith, Option, Some, Non
 use Rattle.std.specs.Prelude.{◌||◌, is_some, if◌then◌else◌, replicate}
 use Rattle.std.proofs.lemmas.List.{length-drop, length-take-le, ext_get_or}
 use Rattle.tcp_machine.specs.Receiving.{in_order, filled}
-use Rattle.tcp_machine.specs.Ring.{cells_from, cells_of, octet_in, IsFront, IsWritten, RingsStand}
+use Rattle.tcp_machine.specs.Details.Ring.{cells_from, cells_of, octet_in, IsFront, IsWritten, RingsStand}
 
 -- the cell of an octet
 abbrev cell : Bool → ℕ → Option ℕ

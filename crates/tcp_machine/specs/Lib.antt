@@ -2,7 +2,6 @@ pub mod Positions
 pub mod Pieces
 pub mod Sending
 pub mod Receiving
-pub mod Ring
 pub mod Instants
 pub mod States
 pub mod Estimator
@@ -19,3 +18,4 @@ pub mod Outgoing
 pub mod Due
 pub mod Sack
 pub mod Examples
+pub mod Details

@@ -1,8 +1,8 @@
 //! A device whose frames a guard judges before a host sees them, and whose answers it judges before they are sent.
 ghost use Rattle.std.specs.Prelude.{◌≡◌, ◌≤◌, true, length};
 ghost use Rattle.guard.specs.Watch as watch;
-ghost use Rattle.guard.specs.GuardedDevice.Guarded as spec;
-ghost use Rattle.guard.specs.GuardedDevice.Guarded.{Hears};
+ghost use Rattle.guard.specs.Details.Guarded as spec;
+ghost use Rattle.guard.specs.Details.Guarded.{Hears};
 
 use crate::{Waits, Watch};
 use iface_tables::neighbor::Cache;
@@ -98,8 +98,8 @@ impl<D: Device> Guarded<D> {
 }
 
 impl<D: Device> Device for Guarded<D> {
-    ghost use Rattle.guard.specs.GuardedDevice.Guarded.{moment_after, passed_on, watch_after};
-    ghost use Rattle.guard.specs.GuardedDevice.GuardedLaws.{moment_on, passed_both, told_count, watch_on};
+    ghost use Rattle.guard.specs.Details.Guarded.{moment_after, passed_on, watch_after};
+    ghost use Rattle.guard.specs.Details.GuardedLaws.{moment_on, passed_both, told_count, watch_on};
     ghost use Rattle.std.specs.Prelude.{refl};
 
     ghost tells = { λ old events new. D.tells old.device (passed_on events) new.device

@@ -2,7 +2,7 @@ use Rattle.std.proofs.Common.{◌≡◌, ◌+◌, ◌∷◌, ◌++◌, [], Some,
 use Rattle.std.specs.List.{slice_split}
 use Rattle.std.proofs.lemmas.List.{take_rest}
 use Rattle.std.proofs.lemmas.Bool.{and_parts}
-use Rattle.dns_client.specs.Text.{is_dot, name_by}
+use Rattle.dns_client.specs.Details.Text.{is_dot, name_by}
 use Rattle.dns_client.proofs.Writing.{cut_at, has_room, label_appended, label_refused, last_label, no_end, not_cut}
 use Rattle.dns_client.proofs.text.name_of.Goals as goal
 

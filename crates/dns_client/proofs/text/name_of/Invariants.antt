@@ -1,6 +1,6 @@
 use Rattle.std.proofs.Common.{◌≡◌, length}
 use Rattle.std.specs.List.{slice_split}
-use Rattle.dns_client.specs.Text.{is_dot, name_by, name_in}
+use Rattle.dns_client.specs.Details.Text.{is_dot, name_by, name_in}
 use Rattle.dns_client.proofs.text.name_of.Given as goal
 
 abbrev pub invariant-loop-len : goal.invariant-loop-len

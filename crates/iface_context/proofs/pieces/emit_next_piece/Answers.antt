@@ -1,6 +1,6 @@
 use Rattle.std.proofs.Common.{◌<◌, ap, length, arith}
 use Rattle.std.proofs.lemmas.List.{length-append}
-use Rattle.fragmentation.specs.Pending.{Pending}
+use Rattle.fragmentation.specs.Details.Pending.{Pending}
 use Rattle.host_machine.specs.Context.Host.{with_left}
 use Rattle.iface_context.specs.Stands.{host_of}
 use Rattle.iface_context.proofs.Cutting.{next_goes, in_parts}

@@ -1,6 +1,6 @@
 use Rattle.std.proofs.Common.{sym, ◌∙◌, ap}
 use Rattle.std.specs.Option.{option_map}
-use Rattle.iface_context.specs.PacketValues as value_of
+use Rattle.iface_context.specs.Details.PacketValues as value_of
 use Rattle.iface_discovery.proofs.RouterSolicitations.{not_asked, solicitation_waits, solicitation_goes}
 use Rattle.iface_discovery.proofs.router_solicitation.send_router_solicit.Goals as goal
 

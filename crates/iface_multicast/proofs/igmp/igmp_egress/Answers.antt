@@ -1,7 +1,7 @@
 use Rattle.std.proofs.Common.{sym, ◌∙◌, ap}
 use Rattle.std.specs.Option.{option_map}
 use Rattle.host_machine.specs.Context.Host.{no_sockets}
-use Rattle.iface_context.specs.PacketValues as value_of
+use Rattle.iface_context.specs.Details.PacketValues as value_of
 use Rattle.iface_context.specs.Stands.{host_of}
 use Rattle.iface_multicast.proofs.GroupReports.{next_is, no_address, no_further, not_due, report_goes, report_waits, without_address}
 use Rattle.iface_multicast.proofs.igmp.igmp_egress.Goals as goal

@@ -1,5 +1,5 @@
 use Rattle.std.proofs.Common.{sym, ◌∙◌}
-use Rattle.iface_context.specs.PacketValues as value_of
+use Rattle.iface_context.specs.Details.PacketValues as value_of
 use Rattle.iface_multicast.proofs.GroupReports.{not_yet, report_ends}
 use Rattle.iface_multicast.proofs.mld.mld_egress.Goals as goal
 

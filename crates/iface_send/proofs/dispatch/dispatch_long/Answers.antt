@@ -1,6 +1,6 @@
 use Rattle.std.proofs.Common.{◌≡◌, sym, subst, Ok, Err, rules}
 use Rattle.host_machine.specs.Send.Dispatch.{Emits}
-use Rattle.iface_context.specs.PacketValues as value_of
+use Rattle.iface_context.specs.Details.PacketValues as value_of
 use Rattle.iface_context.specs.declared.context.Context.{Context}
 use Rattle.iface_context.specs.Stands.{host_in}
 use Rattle.iface_context.proofs.Building.{by_rule}

@@ -1,4 +1,4 @@
-use Rattle.iface_context.specs.PacketValues as value_of
+use Rattle.iface_context.specs.Details.PacketValues as value_of
 use Rattle.iface_context.proofs.Cutting.{begins}
 use Rattle.iface_send.proofs.fragments.emit_fragmented.Goals as goal
 

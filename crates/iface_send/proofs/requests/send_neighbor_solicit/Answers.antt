@@ -2,7 +2,7 @@ use Rattle.std.proofs.Common.{◌≡◌, [], ◌∷◌, refl, ◌∙◌, ap, ari
 use Rattle.ip_address.specs.declared.ethernet_address.EthernetAddress.{EthernetAddress}
 use Rattle.ip_address.specs.declared.ipv6.Ipv6Address.{Ipv6Address}
 use Rattle.host_machine.specs.Packet.Packet.{Packet}
-use Rattle.iface_context.specs.PacketValues as value_of
+use Rattle.iface_context.specs.Details.PacketValues as value_of
 use Rattle.ip_address.specs.declared.hardware.HardwareAddress.TheVariants as hardware
 use Rattle.ip_address.specs.Ipv6.{solicited_node}
 use Rattle.ip_address.specs.AddressSelection.Ipv6.{source_v6}

@@ -1,7 +1,7 @@
 use Rattle.std.proofs.Common.{refl}
 use Rattle.fragmentation.specs.Slots.{free_slots}
 use Rattle.host_machine.specs.Context.Host.{no_sockets}
-use Rattle.iface_context.specs.PacketValues as value_of
+use Rattle.iface_context.specs.Details.PacketValues as value_of
 use Rattle.iface_send.proofs.DispatchFrame.{groups_stay}
 use Rattle.iface_send.proofs.Offered.{not_granted, goes}
 use Rattle.iface_send.proofs.transmit.send_packet.Goals as goal

@@ -1,5 +1,5 @@
 use Rattle.std.proofs.Common.{refl, ap}
-use Rattle.net_base.specs.TracedEvents.{traced_events}
+use Rattle.net_base.specs.Details.TracedEvents.{traced_events}
 use Rattle.interface.specs.Stands.{StandsFor}
 use Rattle.interface_client.proofs.TracedRuns.{logs_run}
 use Rattle.interface_client.proofs.traced.run_traced.Goals as goal

@@ -1,6 +1,6 @@
 use Rattle.std.proofs.Common.{◌≡◌, ◌∙◌, List, ℕ, [], ◌∷◌, ◌++◌, sym, ap}
 use Rattle.dhcp_client.specs.Options.{option_text, address_data, seconds_data, size_data, identifier_data, list_data}
-use Rattle.dhcp_client.specs.Message.{number_of, header_text, options_text}
+use Rattle.dhcp_client.specs.Details.Message.{number_of, header_text, options_text}
 use Rattle.dhcp_client.proofs.Texts.{next}
 use Rattle.dhcp_client.proofs.message.DhcpRepr.emit.Goals as goal
 

@@ -1,6 +1,6 @@
 use Rattle.std.proofs.Common.{sym, ◌∙◌}
 use Rattle.egress_schedule.specs.Plan.{planned}
-use Rattle.egress_schedule.specs.Settled.{is_settled}
+use Rattle.egress_schedule.specs.Details.Settled.{is_settled}
 use Rattle.egress_schedule.proofs.AllSettled.{one_further}
 use Rattle.egress_schedule.proofs.schedule.Schedule.are_settled.Goals as goal
 

@@ -1,6 +1,6 @@
 use Rattle.std.proofs.Common.{◌≡◌, ◌<◌, ℕ, true}
 use Rattle.egress_schedule.specs.Plan.{planned}
-use Rattle.egress_schedule.specs.Settled.{is_settled}
+use Rattle.egress_schedule.specs.Details.Settled.{is_settled}
 use Rattle.egress_schedule.proofs.schedule.Schedule.are_settled.Given as goal
 
 abbrev pub invariant-loop-index : goal.invariant-loop-index

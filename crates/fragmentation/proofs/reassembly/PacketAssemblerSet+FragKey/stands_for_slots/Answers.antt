@@ -1,4 +1,4 @@
-use Rattle.fragmentation.specs.Place.{slots_at}
+use Rattle.fragmentation.specs.Details.Place.{slots_at}
 use Rattle.fragmentation.proofs.SomeSlots.{some_slots}
 use Rattle.fragmentation.proofs.reassembly.PacketAssemblerSet+FragKey.stands_for_slots.Goals as goal
 

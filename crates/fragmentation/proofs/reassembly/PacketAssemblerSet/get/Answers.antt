@@ -1,8 +1,8 @@
 use borrow.Follows.Closed.{read_of}
 use Rattle.std.specs.Borrow.{MutBor, name_if_ok}
 use Rattle.fragmentation.specs.Assembly.{Assembly, slot_for, with_key}
-use Rattle.fragmentation.specs.Lending.{key_of}
-use Rattle.fragmentation.specs.Place.{slots_at}
+use Rattle.fragmentation.specs.Details.Lending.{key_of}
+use Rattle.fragmentation.specs.Details.Place.{slots_at}
 use Rattle.fragmentation.proofs.PlacesLemmas.{slots_at-with_slot_at}
 use Rattle.fragmentation.proofs.reassembly.PacketAssemblerSet.get.Goals as goal
 

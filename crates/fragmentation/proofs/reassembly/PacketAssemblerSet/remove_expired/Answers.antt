@@ -1,7 +1,7 @@
 use Rattle.std.proofs.Common.{◌≡◌, map as each, ap, ◌∙◌}
 use Rattle.std.proofs.lemmas.List.{length-map}
 use Rattle.fragmentation.specs.Assembly.{live_at}
-use Rattle.fragmentation.specs.Place.{slots_at}
+use Rattle.fragmentation.specs.Details.Place.{slots_at}
 use Rattle.fragmentation.proofs.SlotsLemmas.{left_all}
 use Rattle.fragmentation.proofs.reassembly.PacketAssemblerSet.remove_expired.Goals as goal
 

@@ -1,4 +1,4 @@
-use Rattle.fragmentation.specs.Place.{slots_at}
+use Rattle.fragmentation.specs.Details.Place.{slots_at}
 use Rattle.fragmentation.proofs.SlotsLemmas.{none_stand}
 use Rattle.fragmentation.proofs.reassembly.PacketAssemblerSet.set_storage.Goals as goal
 

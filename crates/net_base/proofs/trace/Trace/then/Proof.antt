@@ -28,7 +28,7 @@ use denote.Triple.Walked.{says, Stays, stay_dropped, walk_of, ends_at, walk_Meet
 use Rattle.net_base.proofs.Walks.{none, none_made}
 use Rattle.net_base.specs.contracts.trace.Trace as Trace
 use Rattle.net_base.specs.contracts.trace.Passed as Passed
-use Rattle.net_base.specs.Passed.{event_of}
+use Rattle.net_base.specs.Details.Passed.{event_of}
 use Rattle.net_base.specs.contracts.trace.Trace.then as F
 use Rattle.net_base.specs.contracts.trace.Trace.then.Key.{name as #self}
 use Rattle.net_base.proofs.trace.Trace.then.Statement as stated

@@ -1,5 +1,5 @@
 use Rattle.std.proofs.Common.{ℕ, ◌<◌, ◌≤◌, ◌*◌}
-use Rattle.socket_set.specs.Busy.{IsClear}
+use Rattle.socket_set.specs.Details.Busy.{IsClear}
 use Rattle.socket_set.proofs.busy.BusyMarks.next_word.Given as goal
 
 -- the words so far had no mark that is set

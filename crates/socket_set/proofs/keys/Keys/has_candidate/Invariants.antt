@@ -1,6 +1,6 @@
 use Rattle.std.proofs.Common.{◌≡◌, ℕ, ◌+◌, ◌<◌, ◌≤◌, false}
 use Rattle.std.specs.Prelude.{◌≢◌}
-use Rattle.socket_set.specs.Keys.{is_candidate}
+use Rattle.socket_set.specs.Details.Keys.{is_candidate}
 use Rattle.socket_set.proofs.keys.Keys.has_candidate.Given as goal
 
 -- none so far, unless the least is 0

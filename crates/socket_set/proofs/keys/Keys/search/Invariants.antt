@@ -1,5 +1,5 @@
 use Rattle.std.proofs.Common.{◌≡◌, ℕ, ◌<◌, ◌≤◌, false}
-use Rattle.socket_set.specs.Keys.{is_candidate}
+use Rattle.socket_set.specs.Details.Keys.{is_candidate}
 use Rattle.socket_set.proofs.keys.Keys.search.Given as goal
 
 -- no place so far is a candidate

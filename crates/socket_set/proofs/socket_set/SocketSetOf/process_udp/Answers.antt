@@ -1,6 +1,6 @@
 use Rattle.std.specs.Prelude.{vec_capacity}
 use Rattle.std.proofs.Common.{sym, ap, ◌∙◌}
-use Rattle.socket_set.specs.Datagrams.{after_datagram, is_udp}
+use Rattle.socket_set.specs.Details.Datagrams.{after_datagram, is_udp}
 use Rattle.socket_set.specs.SocketSet.{Storage}
 use Rattle.socket_set.proofs.SocketSetLemmas.{heard_port, keyed_heard, place_set, ported_here, ported_written, socket_is, true_heard}
 use Rattle.socket_set.proofs.socket_set.SocketSetOf.process_udp.Goals as goal

@@ -1,5 +1,5 @@
 use Rattle.std.specs.Prelude.{vec_capacity}
-use Rattle.socket_set.specs.Busy.{IsIdle}
+use Rattle.socket_set.specs.Details.Busy.{IsIdle}
 use Rattle.socket_set.specs.SocketSet.{over}
 use Rattle.socket_set.proofs.SocketSetLemmas.{idle_is, keyed_learnt, true_cleared}
 use Rattle.socket_set.proofs.socket_set.SocketSetOf.rest.Goals as goal

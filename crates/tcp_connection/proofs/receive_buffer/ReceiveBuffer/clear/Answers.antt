@@ -1,6 +1,6 @@
 use Rattle.std.proofs.Common.{List, length, sym, ap, ◌∙◌, None}
 use Rattle.net_base.specs.declared.assembler.Range.{Range}
-use Rattle.tcp_connection.specs.Arrived.{receiver_of}
+use Rattle.tcp_connection.specs.Details.Arrived.{receiver_of}
 use Rattle.tcp_machine.specs.Receiving.{Receiver, open_receiver}
 use Rattle.tcp_connection.proofs.ArrivedLemmas.{opened_is, room_of}
 use Rattle.tcp_connection.proofs.receive_buffer.ReceiveBuffer.clear.Goals as goal

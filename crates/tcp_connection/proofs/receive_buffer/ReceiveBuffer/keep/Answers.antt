@@ -4,7 +4,7 @@ use Rattle.net_base.specs.Ranges.{IsUnion}
 use Rattle.tcp_machine.specs.Receiving.{Receiver, filled, next, edge}
 use Rattle.tcp_connection.proofs.ArrivedLemmas.{edge_of, next_of}
 use Rattle.tcp_connection.proofs.KeptLemmas.{kept_is, arrived_after, refused_beyond, length-after_write, on_ok}
-use Rattle.tcp_connection.specs.Arrived.{IsFurthest}
+use Rattle.tcp_connection.specs.Details.Arrived.{IsFurthest}
 use Rattle.tcp_connection.proofs.GapLemmas.{furthest_after}
 use Rattle.tcp_connection.proofs.receive_buffer.ReceiveBuffer.keep.Goals as goal
 
@@ -99,7 +99,7 @@ returns-clause-kept c = λ _.
     let first = v.0.in_first in
     let is = on_ok c.add.result (sym c.is_err.ensures.value ∙ c.if-is_err.false) c.add.ensures.ok in
     let u = subst (λ (rs : List Range). IsUnion i.arrived rs c.args.first (c.args.first + length c.args.octets.now)) (sym is) c.add.ensures.added in
-    ap (λ (xs : List ℕ). Rattle.tcp_connection.specs.Arrived.receiver_of i.base xs i.start i.room c.add.new.self i.stop) c.write.ensures
+    ap (λ (xs : List ℕ). Rattle.tcp_connection.specs.Details.Arrived.receiver_of i.base xs i.start i.room c.add.new.self i.stop) c.write.ensures
     ∙ kept_is c.rings_stand.ensures i.base i.room i.start c.args.first i.items.items c.args.octets.now i.arrived c.add.new.self i.stop v.1 v.2
     (omega (arith, n, f, first)) (omega (arith, e, q)) u
     ∙ ap (λ (r : Receiver). record { base = r.base; cells = filled (c.args.first - r.base) c.args.octets.now r.cells; stop = r.stop }) c.self.view_is

@@ -1,6 +1,6 @@
 use Rattle.std.proofs.Common.{◌≡◌, ◌∙◌, true, false, refl, rules, sym, take}
 use Rattle.guard.specs.Watch.{admits}
-use Rattle.guard.specs.GuardedDevice.Guarded.{IsDropped, IsPassed}
+use Rattle.guard.specs.Details.Guarded.{IsDropped, IsPassed}
 use Rattle.guard.proofs.guarded_device.guarded.Guarded.hear.Goals as goal
 
 pub returns-then-admits-clause-heard : goal.returns-then-admits-clause-heard

@@ -2,8 +2,8 @@
 use Rattle.std.specs.Prelude.{ℕ, List, Result, slice_set}
 use Rattle.std.specs.Borrow.{LendsIfOk, Fml, RattleType, MutBor}
 use Rattle.fragmentation.specs.Assembly.{Assembly, with_key}
-use Rattle.fragmentation.specs.Lending.{key_of}
-use Rattle.fragmentation.specs.Place.{with_slot_at}
+use Rattle.fragmentation.specs.Details.Lending.{key_of}
+use Rattle.fragmentation.specs.Details.Place.{with_slot_at}
 use Rattle.fragmentation.specs.contracts.reassembly.PacketAssembler.{the_row}
 use Rattle.fragmentation.specs.contracts.own_slots.OwnSlots as own
 use Rattle.fragmentation.specs.contracts.lent_slots.LentSlots as lent

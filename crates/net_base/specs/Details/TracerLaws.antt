@@ -1,8 +1,8 @@
 -- Events that a tracer kept one after another.
 use Rattle.std.specs.Prelude.{Bool, List, [], ◌++◌}
 use Rattle.net_base.specs.Device.{Event}
-use Rattle.net_base.specs.DriverLaws.{none_appended, appended_on}
-use Rattle.net_base.specs.TracedEvents.{Traces}
+use Rattle.net_base.specs.Details.DriverLaws.{none_appended, appended_on}
+use Rattle.net_base.specs.Details.TracedEvents.{Traces}
 
 -- without an event a list is as complete as it was
 pub none_traced : (complete : Bool) (events : List Event) → Traces complete events [] complete events

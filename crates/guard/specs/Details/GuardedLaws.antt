@@ -4,7 +4,7 @@ use Rattle.std.proofs.Common.{sym, ap, ◌∙◌, subst}
 use Rattle.net_base.specs.Device.{Asked, Event, Frame, Nothing, Received, Sent, Withheld, count_after_refusal, refusals_after}
 use Rattle.guard.specs.Watch.{after_sending}
 use Rattle.guard.specs.declared.watch.Watch.{Watch}
-use Rattle.guard.specs.GuardedDevice.Guarded.{moment_after, passed_on, watch_after}
+use Rattle.guard.specs.Details.Guarded.{moment_after, passed_on, watch_after}
 
 passed_append : (xs ys : List Event) → passed_on (xs ++ ys) ≡ passed_on xs ++ passed_on ys
 passed_append [] ys = refl

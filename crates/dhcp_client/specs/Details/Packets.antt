@@ -7,7 +7,7 @@ use Rattle.ip_wire.specs.declared.ipv4_packet.Ipv4Repr.{Ipv4Repr}
 use Rattle.ip_wire.specs.declared.udp.UdpRepr.{UdpRepr}
 use Rattle.ip_wire.specs.Ipv4Packet as ipv4
 use Rattle.ip_wire.specs.Udp as udp
-use Rattle.dhcp_client.specs.Message as dhcp
+use Rattle.dhcp_client.specs.Details.Message as dhcp
 use Rattle.dhcp_client.specs.declared.messages.DhcpMessage.{DhcpMessage}
 
 -- a message asks for the mask, the router and the servers of names (RFC 2132 9.8)

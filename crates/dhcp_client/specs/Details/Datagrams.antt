@@ -2,7 +2,7 @@
 use Rattle.std.specs.Prelude.{◌≡◌, ℕ, List, Option, Some, None}
 use Rattle.ip_address.specs.declared.ip.IpAddress.TheVariants.{Ipv4}
 use Rattle.sockets.specs.declared.endpoint.IpEndpoint.{IpEndpoint}
-use Rattle.dhcp_client.specs.Message.{IsDhcp, dhcp_in}
+use Rattle.dhcp_client.specs.Details.Message.{IsDhcp, dhcp_in}
 use Rattle.dhcp_client.specs.declared.client.DhcpClient.{DhcpClient}
 use Rattle.dhcp_client.specs.declared.messages.DhcpMessage.{DhcpMessage}
 use Rattle.dhcp_client.specs.Answers.{after_receiving}

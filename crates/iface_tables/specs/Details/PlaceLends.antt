@@ -1,7 +1,7 @@
 -- What a place ends as, where its entries are lent. No public clause cites this module.
 use Rattle.std.specs.Prelude.{List}
 use Rattle.std.specs.Borrow.{Lends, Fml, RattleType, MutBor, Array}
-use Rattle.iface_tables.specs.Place.{place_with_items}
+use Rattle.iface_tables.specs.Details.Place.{place_with_items}
 use Rattle.iface_tables.specs.contracts.store.Place.{the_row}
 
 abbrev pub place_lends_slice : (T N : RattleType) → MutBor (the_row T N).Denot → MutBor (List T.Denot) → Fml

@@ -3,7 +3,7 @@ use Rattle.std.specs.Prelude.{◌≡◌, ℕ, ◌+◌, ◌≤◌, Bool, true, fa
 use Rattle.net_base.specs.declared.assembler.Range.{Range}
 use Rattle.net_base.specs.Ranges.{AreSeparate, covered, front}
 use Rattle.tcp_machine.specs.Receiving.{Receiver, filled, next}
-use Rattle.tcp_machine.specs.Ring.{cells_of}
+use Rattle.tcp_machine.specs.Details.Ring.{cells_of}
 
 -- at first SYN alone has arrived
 abbrev pub syn : List Range

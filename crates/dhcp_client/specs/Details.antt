@@ -1,0 +1,3 @@
+pub mod Datagrams
+pub mod Message
+pub mod Packets

@@ -1,0 +1,5 @@
+pub mod Lending
+pub mod Pending
+pub mod Place
+pub mod PlaceLending
+pub mod Reassembled

@@ -1,0 +1,3 @@
+pub mod Multicast
+pub mod PacketValues
+pub mod Pieces

@@ -1,0 +1,4 @@
+pub mod Place
+pub mod PlaceLends
+pub mod RouteNodes
+pub mod StoreLends

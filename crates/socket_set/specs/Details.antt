@@ -1,0 +1,4 @@
+pub mod Alike
+pub mod Busy
+pub mod Datagrams
+pub mod Keys

@@ -1,0 +1,4 @@
+pub mod Arrived
+pub mod Bounds
+pub mod Parts
+pub mod Sent
