@@ -110,12 +110,15 @@ def test_examples(text):
 
 
 def test_map(text):
-    """Names each crate that MAP.md has not once in the first cells of its tables, and each that isn't there."""
+    """Names each crate that MAP.md has not once in the first cells of its tables, each that stands above one on which it
+    builds, and each that isn't there."""
     rows = re.search(r"^## The layers\n(.*?)^## ", text, re.M | re.S).group(1)
     named = [name for cell in re.findall(r"^\|([^|]*)\|", rows, re.M) for name in NAME.findall(cell)]
     crates = read_crates()
     yield from (f"there is no crate {name}" for name in named if name not in crates)
     yield from (f"{name} stands there {named.count(name)} times" for name in crates if named.count(name) != 1)
+    for place, crate in enumerate(named):
+        yield from (f"{crate} builds on {name}, which stands below it" for name in crates.get(crate, []) if name in named[place:])
 
 
 def test_uses(crates):
