@@ -130,7 +130,7 @@ def print_behind(names):
     """Prints how much the contracts of some functions, or some files of definitions, stand on."""
     for name in names:
         files, lines, bare = behind(name)
-        print(f"{name}: {files} files, {lines:,} lines, {bare:,} of them without imports, comments and blank ones")
+        print(f"{name}: {files} files, {lines:,} lines, {bare:,} without imports, comments and blank lines")
     return not all(behind(name)[0] for name in names)
 
 
