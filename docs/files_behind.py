@@ -18,25 +18,22 @@ EXAMPLES = {
     "part": ["OfMldReport", "MldEgress", "mld_egress"],
     "socket": ["SocketOf::Icmp", r"\(Icmp s\)", "IcmpOffer", "icmp::Socket", "IcmpSocket", "icmp_open", "down_icmp"],
 }
-# the first line of an item, by the kind of file
+# The first line of an item, by the kind of file: a definition at the margin, or a lemma of a module there; what a line of code declares.
 ITEMS = {
-    ".antt": re.compile(r"^(?!(?:pub )?use |module |--)(?:(?:pub|abbrev|data|record) |  (?=[a-z]\S* :)|    (?=[a-z]\S* :))*([^\s:({]+)", re.M),
-    ".rt": re.compile(r'^ *(?:pub(?:\(\w+\))? )?(?:const |unsafe |extern "C" )*(?:fn|enum|struct|trait|type|mod|const) (\w+)', re.M),
+    ".antt": re.compile(r"^(?!(?:pub )?use |module |--)(?:(?:pub|abbrev|data|record) |(?: {2}| {4})(?=[a-z]\S* :))*([^\s:({]+)", re.M),
+    ".rt": re.compile(r"^ *(?:pub(?:\(\w+\))? )?(?:const |unsafe |extern \"C\" )*(?:fn|enum|struct|trait|type|mod|const) (\w+)", re.M),
 }
 ITEMS[".rs"] = ITEMS[".rt"]
 
 
-def crates():
-    """The names of the crates, lowest first."""
-    return re.findall(r"^(\w+)", (TOP / "crates.txt").read_text(encoding="utf-8"), re.M)
-
-
 def files():
-    """The files of code, definitions, proofs and cargo's tests, each with its folder: a crate, or one at the top."""
-    for crate in crates():
-        for path in sorted((TOP / "crates" / crate).glob("s*/**/*")) + sorted((TOP / "crates" / crate).glob("proofs/**/*")):
-            if path.suffix in (".rt", ".antt"):
-                yield crate, path
+    """The files of code, definitions, proofs and cargo's tests, each with its folder: a crate, the lowest first, or one at
+    the top."""
+    crates = re.findall(r"^(\w+)", (TOP / "crates.txt").read_text(encoding="utf-8"), re.M)
+    for crate in crates:
+        for folder in ("specs", "src", "proofs"):
+            found = sorted((TOP / "crates" / crate / folder).rglob("*"))
+            yield from ((crate, path) for path in found if path.suffix in (".antt", ".rt"))
     yield from (("c", path) for path in sorted((TOP / "c").glob("*.[ch]")))
     for folder in ("src", "tests"):
         yield from (("rust", path) for path in sorted((TOP / "rust" / folder).rglob("*.rs")))

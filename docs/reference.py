@@ -128,10 +128,10 @@ def behind(name):
 
 def print_behind(names):
     """Prints how much the contracts of some functions, or some files of definitions, stand on."""
-    for name in names:
-        files, lines, bare = behind(name)
+    counts = {name: behind(name) for name in names}
+    for name, (files, lines, bare) in counts.items():
         print(f"{name}: {files} files, {lines:,} lines, {bare:,} without imports, comments and blank lines")
-    return not all(behind(name)[0] for name in names)
+    return not all(files for files, _, _ in counts.values())
 
 
 def main(arguments):
