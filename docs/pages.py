@@ -1,8 +1,9 @@
 #!/usr/bin/env python3
 """Tests the pages: that each link leads to a file and to a heading there, that each file that a page names is there,
-that tables and lines aren't too long, that the lists of CONTRIBUTING.md name the files that such a change touches and
-names that stand in them, that numbers of crates are those of crates.txt, that who copies crates by CLIENT.md has all that
-their lines name, and that THEOREM.md has each law, and no other, and tells how many there are.
+that tables and lines aren't too long, that the examples of CONTRIBUTING.md stand somewhere, that MAP.md has each crate once,
+that numbers of crates are those of crates.txt, that who copies crates by CLIENT.md has all that their lines name, that
+THEOREM.md has each law, and no other, and tells how many there are, and that what promises stand on is counted right. Of
+crates.txt it tests that each crate names those that its line has, and that there aren't too many paths down.
 
 usage: pages.py            names what is wrong; its status is 1 if something is
        pages.py --words    prints how many words each page has
@@ -12,27 +13,20 @@ import pathlib
 import re
 import sys
 
+import files_behind
+import reference
+
 TOP = pathlib.Path(__file__).resolve().parent.parent
 PAGES = [TOP / "README.md", *sorted((TOP / "docs").glob("*.md")), TOP / "rust" / "README.md", TOP / "rust" / "API.md",
          TOP / "c" / "targets" / "README.md"]
 # pages whose lines are as long as their authors like
 OF_ANY_LENGTH = {"API.md"}
 
-# Of each list: its heading, the words of its examples, in the order in which it says in how many files each stands, and
-# files that have to be in it for another reason.
-LISTS = {
-    "Adding a message": ([r"PktTooBig"], []),
-    "Adding a call": ([r"SetAnyIp|TookAnyIp|any_ip", r"TookHardwareAddr|SetsHardwareAddr"], [
-        "crates/host_laws/specs/Laws/Restraint/Settings.antt",   # no proof fails without it
-        "crates/iface_c/src/properties.rt",                         # the setter of C
-    ]),
-    "Adding a kind of socket": (
-        [r"SocketOf::Icmp|\(Icmp s\)|IcmpOffer|icmp::Socket|IcmpSocket|icmp_open|down_icmp"], []),
-}
-COUNT = re.compile(r"stands? in (\d+) files")
-# clients, which only use what is there
-CLIENTS = {"interface_client"}
-FILE = re.compile(r"`([\w/]+\.(?:rt|antt|c|h|rs|md))`")
+# how many paths down the crates of crates.txt may have: the toolchain goes along each of them before its first proof
+MOST_PATHS = 500_000
+# sections of which each name has to stand somewhere in the code, but for those that stand for any
+PLACEHOLDERS = {"WORDS", "IsX", "x_in"}
+ADDING = re.compile(r"^## (Adding .*?)\n(.*?)(?=^## )", re.M | re.S)
 NAME = re.compile(r"`([A-Za-z_]\w*)`")
 # what stands between blanks, but no line between cells of a table
 WORD = re.compile(r"(?<!\S)(?=\S*\w)\S+")
@@ -95,52 +89,69 @@ def test_lines(text):
                 yield f"line {number}: a cell of {len(cell)} characters"
 
 
-def entries_of(section):
-    """The entries of a list, each with the files that it names: an entry begins with a crate, or with a folder at the
-    top."""
-    for folder, entry in re.findall(r"^- `(\w+)`(.*?)(?=^- |^$|\Z)", section, re.M | re.S):
-        top = folder if folder in ("c", "rust") else f"crates/{folder}"
-        yield entry, [f"{top}/{name}" for name in FILE.findall(entry)]
+def read_crates():
+    """The crates of crates.txt, lowest first, each with the names that its line has."""
+    lines = (TOP / "crates.txt").read_text(encoding="utf-8").splitlines()
+    heads = [line.partition("#")[0].partition(":") for line in lines]
+    return {head.split()[0]: names.split() for head, _, names in heads if head.strip()}
 
 
-def files_in(section):
-    """The files that a list names."""
-    return [name for _, files in entries_of(section) for name in files]
+def test_examples(text):
+    """Names each example that stands nowhere or that the page doesn't tell of, and each name that stands nowhere."""
+    told = set(re.findall(r"^\| `(\w+)` \|", text, re.M)) | set(re.findall(r"files_behind\.py (\w+)`", text))
+    for name, words in files_behind.EXAMPLES.items():
+        yield from (f"example {name}: {word} stands nowhere" for word in words if not any(files_behind.touched(word)))
+        if name not in told:
+            yield f"there is no word of the example {name}"
+    code = "\n".join([path.read_text(encoding="utf-8") for _, path in files_behind.files()] + list(ends_of_paths()))
+    there = set(re.findall(r"\w+", code)) | set(files_behind.EXAMPLES) | PLACEHOLDERS
+    for heading, section in ADDING.findall(text):
+        yield from (f"'{heading}': {name} stands nowhere" for name in NAME.findall(section) if name not in there)
 
 
-def lost_names(section):
-    """The names in a list that stand in no file of their entry, and are no crates."""
-    for entry, files in entries_of(section):
-        there = [TOP / name for name in files if (TOP / name).exists()]
-        words = set(re.findall(r"\w+", "\n".join(path.read_text(encoding="utf-8") for path in there)))
-        yield from (name for name in NAME.findall(entry) if name not in words and not (TOP / "crates" / name).exists())
+def test_map(text):
+    """Names each crate that MAP.md has not once in the first cells of its tables, each that stands above one on which it
+    builds, and each that isn't there."""
+    rows = re.search(r"^## The layers\n(.*?)^## ", text, re.M | re.S).group(1)
+    named = [name for cell in re.findall(r"^\|([^|]*)\|", rows, re.M) for name in NAME.findall(cell)]
+    crates = read_crates()
+    yield from (f"there is no crate {name}" for name in named if name not in crates)
+    yield from (f"{name} stands there {named.count(name)} times" for name in crates if named.count(name) != 1)
+    for place, crate in enumerate(named):
+        yield from (f"{crate} builds on {name}, which stands below it" for name in crates.get(crate, []) if name in named[place:])
 
 
-def files_with(words):
-    """The files of code, definitions, proofs and cargo's tests in which an example stands."""
-    found = [path for folder in ("src", "specs", "proofs") for path in TOP.glob(f"crates/*/{folder}/**/*")
-             if path.suffix in (".rt", ".antt") and path.relative_to(TOP).parts[1] not in CLIENTS]
-    found += [*(TOP / "c").glob("*.[ch]"), *(TOP / "rust" / "src").rglob("*.rs"), *(TOP / "rust" / "tests").glob("*.rs")]
-    return {str(path.relative_to(TOP)) for path in found if re.search(words, path.read_text(encoding="utf-8"))}
+def test_uses(crates):
+    """Names each crate that a line of crates.txt has and that no file of its crate names."""
+    for crate, names in crates.items():
+        code, all_text = "", ""
+        for path in (TOP / "crates" / crate).rglob("*"):
+            if path.suffix in (".rt", ".antt"):
+                text = path.read_text(encoding="utf-8")
+                code += re.sub(r"//.*", "", text) if path.suffix == ".rt" else ""
+                all_text += text
+        for name in set(names) & set(crates):
+            if not re.search(rf"\b{name}::|\buse {name}\b", code) and not re.search(rf"\bRattle\.{name}\b", all_text):
+                yield f"no file of {crate} names {name}"
 
 
-def test_lists(text):
-    """Names each file of a list that isn't there, each file that a list lacks, each number of files that is another one,
-    and each name that is gone."""
-    sections = dict(re.findall(r"^## (.*?)\n(.*?)(?=^## |\Z)", text, re.M | re.S))
-    for heading, (examples, needed) in LISTS.items():
-        named = set(files_in(sections.get(heading, "")))
-        for name in sorted(named):
-            if not (TOP / name).exists():
-                yield f"'{heading}': {name} isn't there"
-        found = [files_with(words) for words in examples]
-        for name in sorted(set(needed).union(*found) - named):
-            yield f"'{heading}' lacks {name}"
-        told, there = COUNT.findall(sections.get(heading, "")), [str(len(files)) for files in found]
-        if told != there:
-            yield f"'{heading}' tells of {' and '.join(told) or 'no'} files, and not of {' and '.join(there)}"
-        for name in lost_names(sections.get(heading, "")):
-            yield f"'{heading}': {name} stands in no file of its entry"
+def test_paths(crates):
+    """Says so where there are too many paths down."""
+    paths = {}
+    for crate, names in crates.items():
+        paths[crate] = 1 + sum(paths[name] for name in names if name in paths)
+    if sum(paths.values()) > MOST_PATHS:
+        yield f"{sum(paths.values()):,} paths down, of at most {MOST_PATHS:,}"
+
+
+def test_behind(text):
+    """Names each row of what a promise stands on whose numbers aren't those that are counted."""
+    for table in re.findall(r"^\|[^\n]*--behind.*\n\|[-|]*\n((?:\|.*\n)*)", text, re.M):
+        for row in table.splitlines():
+            name, told = row.split("`")[1], re.findall(r" ([\d,]+) \|", row)
+            counted = [f"{count:,}" for count in reference.behind(name)]
+            if told != counted:
+                yield f"behind {name}: {', '.join(told)}, and not {', '.join(counted)}"
 
 
 def test_counts(text, lines):
@@ -155,16 +166,14 @@ def test_counts(text, lines):
 
 def test_copies(text):
     """Names each crate that a row of CLIENT.md's table of what to copy lacks: one that a line of crates.txt names."""
-    uses = {}
-    for line in (TOP / "crates.txt").read_text(encoding="utf-8").splitlines():
-        head, _, names = line.partition("#")[0].partition(":")
-        if head.strip():
-            uses[head.split()[0]] = names.split()
+    uses = read_crates()
     first = set(re.search(r"as files, into `crates/`:\n\n((?:    .*\n)+)", text).group(1).split())
     copied = first
+    yield from (f"to copy: there is no crate {name}" for name in sorted(first - set(uses)))
     for row in re.search(r"^\| You want .*\n.*\n((?:\|.*\n)+)", text, re.M).group(1).splitlines():
         cell = row.strip("| ").split("|")[1]
         copied = (copied if "these" in cell else first) | set(re.findall(r"`(\w+)`", cell))
+        yield from (f"to copy: there is no crate {name}" for name in set(re.findall(r"`(\w+)`", cell)) - set(uses))
         lacks = {name for crate in copied for name in uses.get(crate, []) if name in uses} - copied
         yield from (f"to copy lacks {name}: {row.split('|')[1].strip()}" for name in sorted(lacks))
 
@@ -196,7 +205,7 @@ def test_law_counts(text):
 
 def test_laws(text):
     """Names each law that THEOREM.md lacks, and each that it has and that stands nowhere."""
-    code = {path: path.read_text(encoding="utf-8") for path in TOP.glob("crates/*/src/*.rt")}
+    code = {path: path.read_text(encoding="utf-8") for path in TOP.glob("crates/*/src/**/*.rt")}
     specs = {path: path.read_text(encoding="utf-8") for path in TOP.glob("crates/*/specs/**/*.antt")}
     of_laws = "\n".join(found for path, found in specs.items()
                         if "Laws" in path.parts or path.parts[-3] == "host_laws" and path.name != "TwoPolls.antt")
@@ -219,15 +228,15 @@ def main(arguments):
         for page, text in texts.items():
             print(f"{len(re.findall(WORD, text)):6} {page.relative_to(TOP)}")
         return False
-    problems, ends = [], ends_of_paths()
-    crates = len(re.findall(r"^\w", (TOP / "crates.txt").read_text(encoding="utf-8"), re.M))
+    problems, ends, crates = [], ends_of_paths(), read_crates()
     for page, text in texts.items():
-        found = [*test_links(page, text, texts), *test_files(text, ends), *test_counts(text, crates)]
+        found = [*test_links(page, text, texts), *test_files(text, ends), *test_counts(text, len(crates)), *test_behind(text)]
         found += [] if page.name in OF_ANY_LENGTH else test_lines(text)
         problems += [f"{page.relative_to(TOP)}: {problem}" for problem in found]
-    for name, test in (("CONTRIBUTING.md", test_lists), ("THEOREM.md", test_laws), ("THEOREM.md", test_law_counts),
-                       ("CLIENT.md", test_copies)):
+    for name, test in (("CONTRIBUTING.md", test_examples), ("THEOREM.md", test_laws), ("THEOREM.md", test_law_counts),
+                       ("CLIENT.md", test_copies), ("MAP.md", test_map)):
         problems += [f"docs/{name}: {problem}" for problem in test(texts[TOP / "docs" / name])]
+    problems += [f"crates.txt: {problem}" for problem in (*test_uses(crates), *test_paths(crates))]
     print("\n".join(problems + [f"{len(texts)} pages, {len(problems) or 'no'} problems"]))
     return bool(problems)
 

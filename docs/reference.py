@@ -9,8 +9,8 @@ usage: reference.py [FOLDER]           writes the pages into a folder, out/refer
                                        wasn't understood
        reference.py --files [WORDS]    prints each file of definitions in which these words stand,
                                        as 'RFC 4861', with what it has
-       reference.py --behind FILE ..   prints how many files and lines these definitions stand on,
-                                       with all that they import
+       reference.py --behind NAME ..   prints on how many files and lines of definitions the contract of
+                                       a function stands, with all that they import; or a file of them
 """
 import html
 import json
@@ -96,18 +96,42 @@ def print_files(words):
     return bool(problems)
 
 
-def print_behind(todo):
-    """Prints how many files and lines some definitions stand on."""
-    seen = {}
+def cited(name):
+    """The files of definitions that the contracts of the public functions of a name cite."""
+    for path in sorted(TOP.glob("crates/*/src/**/*.rt")):
+        text = path.read_text(encoding="utf-8")
+        for contract in re.findall(rf"^ *pub fn {name}\b(.*?)\n *\{{", text, re.M | re.S):
+            words = set(re.findall(r"\w+", contract))
+            for file, names in re.findall(r"ghost use (Rattle\.\w+\.specs\.[\w.]+)([^;]*);", text):
+                if words & set(re.findall(r"\w+", names) or [file.split(".")[-1]]):
+                    yield imported(file)
+
+
+def imported(words):
+    """The file of definitions that an import names."""
+    _, crate, _, *names = words.strip(".").split(".")
+    return f"crates/{crate}/specs/{'/'.join(names)}.antt"
+
+
+def behind(name):
+    """How many files of definitions the contract of a function, or a file, stands on; and how many lines these have, in
+    all and without imports, comments and blank lines."""
+    todo, seen = [name] if name.endswith(".antt") else list(cited(name)), {}
     while todo:
         path = todo.pop()
-        if path in seen or not (TOP / path).exists():
-            continue
-        text = seen[path] = (TOP / path).read_text(encoding="utf-8")
-        for crate, name in re.findall(r"^(?:pub )?use Rattle\.(\w+)\.specs\.([\w.]+)", text, re.M):
-            todo.append(f"crates/{crate}/specs/{name.strip('.').replace('.', '/')}.antt")
-    print(f"{len(seen)} files, {sum(text.count(chr(10)) for text in seen.values())} lines")
-    return not seen
+        if path not in seen and (TOP / path).exists():
+            text = seen[path] = (TOP / path).read_text(encoding="utf-8")
+            todo += map(imported, re.findall(r"^(?:pub )?use (Rattle\.\w+\.specs\.[\w.]+)", text, re.M))
+    lines = "".join(seen.values()).split("\n")[:-1]
+    return len(seen), len(lines), sum(not re.match(r"\s*(--|(pub )?use |$)", line) for line in lines)
+
+
+def print_behind(names):
+    """Prints how much the contracts of some functions, or some files of definitions, stand on."""
+    counts = {name: behind(name) for name in names}
+    for name, (files, lines, bare) in counts.items():
+        print(f"{name}: {files} files, {lines:,} lines, {bare:,} without imports, comments and blank lines")
+    return not all(files for files, _, _ in counts.values())
 
 
 def main(arguments):
