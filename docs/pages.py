@@ -3,7 +3,8 @@
 that tables and lines aren't too long, that the examples of CONTRIBUTING.md stand somewhere, that MAP.md has each crate once,
 that numbers of crates are those of crates.txt, that who copies crates by CLIENT.md has all that their lines name, that
 THEOREM.md has each law, and no other, and tells how many there are, and that what promises stand on is counted right. Of
-crates.txt it tests that each crate names those that its line has, and that there aren't too many paths down.
+crates.txt it tests that each crate names those that its line has, and that there aren't too many paths down; and of
+definitions, that those on which no promise stands are in a folder of their own (promises.py).
 
 usage: pages.py            names what is wrong; its status is 1 if something is
        pages.py --words    prints how many words each page has
@@ -14,6 +15,7 @@ import re
 import sys
 
 import files_behind
+import promises
 import reference
 
 TOP = pathlib.Path(__file__).resolve().parent.parent
@@ -237,6 +239,7 @@ def main(arguments):
                        ("CLIENT.md", test_copies), ("MAP.md", test_map)):
         problems += [f"docs/{name}: {problem}" for problem in test(texts[TOP / "docs" / name])]
     problems += [f"crates.txt: {problem}" for problem in (*test_uses(crates), *test_paths(crates))]
+    problems += promises.misplaced(promises.promised())
     print("\n".join(problems + [f"{len(texts)} pages, {len(problems) or 'no'} problems"]))
     return bool(problems)
 

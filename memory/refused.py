@@ -29,7 +29,7 @@ import typing
 
 HERE = pathlib.Path(__file__).resolve().parent
 CRATES = HERE.parent / "crates"
-TESTS = ["net_base_tests", "sockets_tests", "socket_set_tests", "host_tests", "script_tests", "interface_tests"]
+TESTS = ("wire_tests", "sockets_tests", "interface_tests", "script_tests")
 
 
 class Program(typing.NamedTuple):
