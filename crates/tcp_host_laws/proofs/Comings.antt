@@ -4,7 +4,7 @@ use Rattle.ip_address.specs.declared.cidr.IpCidr.{IpCidr}
 use Rattle.host_machine.specs.Context.Host.{Host, SocketSet}
 use Rattle.tcp_machine.specs.Segments as machine
 use Rattle.tcp_host.specs.declared.iss.Endpoints.{Endpoints}
-use Rattle.tcp_sockets.specs.Again.{reversed}
+use Rattle.tcp_sockets.specs.Reading.{reversed}
 use Rattle.tcp_host_laws.specs.Readings.{Brings, OfLife}
 use Rattle.tcp_host_laws.specs.Readings as readings
 use Rattle.tcp_host_laws.specs.Turns.{Came}

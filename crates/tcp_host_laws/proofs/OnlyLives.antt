@@ -5,7 +5,7 @@ use Rattle.host_machine.specs.Context.Host.{Host, SocketSet}
 use Rattle.host_machine.specs.Interface.Run.{Transition}
 use Rattle.tcp_machine.specs.Segments as machine
 use Rattle.tcp_host.specs.declared.iss.Endpoints.{Endpoints}
-use Rattle.tcp_sockets.specs.Again.{reversed}
+use Rattle.tcp_sockets.specs.Reading.{reversed}
 use Rattle.tcp_host_laws.specs.Lives.{Life, Event, side_of, after_event, after_events}
 use Rattle.tcp_host_laws.specs.Pairs.{StandsFor}
 use Rattle.tcp_host_laws.specs.TcpNetworks.Stations.{Station, Turn, Polled, Called, Goes, Stops, Works, Acts}

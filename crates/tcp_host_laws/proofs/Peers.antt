@@ -6,7 +6,7 @@ use Rattle.host_machine.specs.Context.Host.{Host}
 use Rattle.host_machine.specs.Interface.Run.{Transition}
 use Rattle.tcp_machine.specs.Segments as machine
 use Rattle.tcp_host.specs.declared.iss.Endpoints.{Endpoints}
-use Rattle.tcp_sockets.specs.Again.{reversed}
+use Rattle.tcp_sockets.specs.Reading.{reversed}
 use Rattle.tcp_laws.specs.Machines.{Side}
 use Rattle.tcp_host_laws.specs.Lives.{Life, side_of}
 use Rattle.tcp_host_laws.specs.Pairs.{StandsFor, MayCome, OfPeer, OfAnyone}

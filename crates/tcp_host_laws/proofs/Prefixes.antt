@@ -21,7 +21,7 @@ use Rattle.host_laws.specs.RawTcp.{SendsTcpByRaw, SpeaksTcpByRaw}
 use Rattle.host_laws.proofs.DatagramOrigin.{all_parted}
 use Rattle.host_laws.proofs.RawTcp.{networks_speak_tcp_by_raw}
 use Rattle.host_laws.proofs.Interface.GrantedEgress.{sent_frames-append}
-use Rattle.tcp_sockets.specs.Again.{AreEnds}
+use Rattle.tcp_sockets.specs.Reading.{AreEnds}
 use Rattle.tcp_host_laws.specs.Lives.{Life, Event as Happens, after_event, after_events}
 use Rattle.tcp_host_laws.specs.Turns.{WasSent}
 use Rattle.tcp_host_laws.proofs.Growing.{GoesOn, event_on}

@@ -22,7 +22,7 @@ use Rattle.tcp_connection.specs.Actions.{header_of}
 use Rattle.tcp_connection.specs.Segments.{segment_of}
 use Rattle.tcp_host.specs.declared.iss.Endpoints.{Endpoints}
 use Rattle.tcp_host.specs.Host.{no_settings}
-use Rattle.tcp_sockets.specs.Again.{AreEnds, FitFields, SaysOne, Fits, IsReset, reversed}
+use Rattle.tcp_sockets.specs.Reading.{AreEnds, FitFields, SaysOne, Fits, IsReset, reversed}
 use Rattle.tcp_sockets.specs.Arrivals.{Arrived}
 use Rattle.tcp_sockets.specs.Packets.{Segment, packet_text, reset_between, is_one_family}
 use Rattle.tcp_sockets.specs.Sending.{version_of, is_packet}

@@ -5,7 +5,7 @@ use Rattle.ip_address.specs.declared.protocol.IpVersion.{IpVersion}
 use Rattle.sockets.specs.Raw.{Sent as Packet, packet_in, stored_packet}
 use Rattle.tcp_machine.specs.Segments.{Options}
 use Rattle.tcp_connection.specs.Segments.{segment_of}
-use Rattle.tcp_sockets.specs.Again.{AreEnds, reversed}
+use Rattle.tcp_sockets.specs.Reading.{AreEnds, reversed}
 use Rattle.tcp_sockets.specs.Arrivals.{arrived_in}
 use Rattle.tcp_laws.specs.Machines.{Sent, arrived}
 use Rattle.tcp_host_laws.specs.Lives.{Life, side_of}

@@ -37,7 +37,7 @@ use Rattle.tcp_machine.specs.Timers.{after_time_wait, after_timers}
 use Rattle.tcp_machine.specs.Outgoing.{Action, SendSyn, SendNext, SendAgain, SendProbe, first_piece, next_piece, has_octets}
 use Rattle.tcp_machine.specs.Outgoing.{is_worth_sending, ack_if, tells_something}
 use Rattle.tcp_machine.specs.Outgoing.{action_pending, is_reset, is_syn_due, action}
-use Rattle.tcp_laws.specs.Again.{HasReason, RetransmissionsWait}
+use Rattle.tcp_laws.specs.Retransmissions.{HasReason, RetransmissionsWait}
 use Rattle.tcp_laws.proofs.ReceivingSteps.{false_true, first_of_two}
 use Rattle.tcp_laws.proofs.MachineArrivals.{either, last_of}
 use Rattle.tcp_laws.proofs.MachineTimers.{probing, once_more}

@@ -33,7 +33,7 @@ use Rattle.tcp_wire.proofs.Sums.{length-words_text}
 use Rattle.tcp_wire.proofs.TcpAgain as tcp_again
 use Rattle.tcp_wire.proofs.TcpAgain.{IsReadButOptions}
 use Rattle.tcp_machine.specs.Segments.{Options}
-use Rattle.tcp_sockets.specs.Again.{arrived_as, options_of, IsAddress, Fits, IsReadAgain, SegmentsAreReadAgain}
+use Rattle.tcp_sockets.specs.Reading.{arrived_as, options_of, IsAddress, Fits, IsReadAgain, SegmentsAreReadAgain}
 use Rattle.tcp_sockets.specs.Arrivals.{Arrived, HasSegment, arrived_in, endpoints_of, segment_of, is_for_host, is_syn, is_fin, is_rst}
 use Rattle.tcp_sockets.specs.Packets.{Segment, control_of, repr_of, ip_text, ipv4_header, ipv6_header}
 use Rattle.tcp_sockets.specs.Sending.{version_of}

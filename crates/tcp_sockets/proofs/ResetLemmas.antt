@@ -28,7 +28,7 @@ use Rattle.tcp_wire.specs.declared.tcp.TcpRepr.{TcpRepr}
 use Rattle.tcp_wire.specs.Tcp.{text, text_len, words_text}
 use Rattle.tcp_wire.proofs.Lengths.{options_words}
 use Rattle.tcp_connection.specs.declared.outgoing.Header.{Header}
-use Rattle.tcp_sockets.specs.Again.{IsReset, IsReadAsReset, ResetsAreReadAgain}
+use Rattle.tcp_sockets.specs.Reading.{IsReset, IsReadAsReset, ResetsAreReadAgain}
 use Rattle.tcp_sockets.specs.Arrivals.{arrived_in, is_rst}
 use Rattle.tcp_sockets.specs.Packets.{Segment, control_of, repr_of, ip_text, ipv4_header, ipv6_header}
 use Rattle.tcp_sockets.specs.Sending.{version_of}

@@ -1,4 +1,4 @@
-pub mod Again
+pub mod Reading
 pub mod Arrivals
 pub mod Destinations
 pub mod Packets

@@ -1,5 +1,5 @@
 //! Segments through packets.
-ghost use Rattle.tcp_sockets.specs.Again.{SegmentsAreReadAgain, ResetsAreReadAgain};
+ghost use Rattle.tcp_sockets.specs.Reading.{SegmentsAreReadAgain, ResetsAreReadAgain};
 
 /// A segment's packet is read as that segment, with its ends exchanged: at the socket that sends it, and at one that has
 /// stored it. Its checksum is right, and it arrives at the host to which it goes. Its options may be any: they are read

@@ -9,7 +9,7 @@ use Rattle.host_machine.specs.Interface.Run.{Transition}
 use Rattle.host_laws.specs.Network.{SentBySome, IsHost}
 use Rattle.host_laws.specs.RawTcp.{SendsTcpByRaw}
 use Rattle.tcp_host.specs.declared.iss.Endpoints.{Endpoints}
-use Rattle.tcp_sockets.specs.Again.{AreEnds, reversed}
+use Rattle.tcp_sockets.specs.Reading.{AreEnds, reversed}
 use Rattle.tcp_machine.specs.Segments as machine
 use Rattle.tcp_host_laws.specs.Lives.{Life, side_of}
 use Rattle.tcp_host_laws.specs.Pairs.{StandsFor}

@@ -4,7 +4,7 @@ use Rattle.std.specs.List.{slice_get}
 use Rattle.net_base.specs.declared.phy.Medium.{Medium}
 use Rattle.host_machine.specs.Context.Host.{Host}
 use Rattle.tcp_host.specs.declared.iss.Endpoints.{Endpoints}
-use Rattle.tcp_sockets.specs.Again.{reversed}
+use Rattle.tcp_sockets.specs.Reading.{reversed}
 use Rattle.tcp_laws.specs.Machines.{Move as Acted}
 use Rattle.tcp_host_laws.specs.Lives.{Life}
 use Rattle.tcp_host_laws.specs.Pairs.{IsOrder}

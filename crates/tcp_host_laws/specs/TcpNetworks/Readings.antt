@@ -2,7 +2,7 @@
 use Rattle.std.specs.Prelude.{◌≡◌, ℕ, ◌≤◌, ◌^◌, List}
 use Rattle.net_base.specs.declared.phy.Medium.{Medium}
 use Rattle.host_machine.specs.Context.Host.{Host}
-use Rattle.tcp_sockets.specs.Again.{reversed}
+use Rattle.tcp_sockets.specs.Reading.{reversed}
 use Rattle.tcp_laws.specs.Machines.{Move as Acted, StreamHolds}
 use Rattle.tcp_host_laws.specs.Lives.{Life, side_of}
 use Rattle.tcp_host_laws.specs.Pairs.{start_of, IsOrder, AreRecent}

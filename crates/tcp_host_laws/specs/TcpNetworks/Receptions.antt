@@ -16,7 +16,7 @@ use Rattle.host_laws.specs.Datagrams.{host_at_command}
 use Rattle.host_laws.specs.Network.{Runs, IsHost, WereSentBySome}
 use Rattle.host_laws.specs.RawArrivals.{raw_at}
 use Rattle.host_laws.specs.RawPackets.{SendsByRaw}
-use Rattle.tcp_sockets.specs.Again.{AreEnds}
+use Rattle.tcp_sockets.specs.Reading.{AreEnds}
 use Rattle.tcp_host_laws.specs.Lives.{Life}
 use Rattle.tcp_host_laws.specs.Readings.{Brings}
 use Rattle.tcp_host_laws.specs.TcpNetworks.Stations.{Station, Goes}
