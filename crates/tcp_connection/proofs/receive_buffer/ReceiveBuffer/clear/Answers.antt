@@ -10,5 +10,5 @@ returns c =
     let i = c.self.inside in
     let v = c.self.invariant in
     let same = ap (λ (r : Receiver). length r.cells) (sym c.self.view_is) ∙ room_of i.base i.items.items i.start i.room i.arrived i.stop v.1 v.2 in
-    ap (λ (rs : List Range). receiver_of 1 i.items.items 0 i.room rs None) c.syn-self-inside.ensures
+    ap (λ (rs : List Range). receiver_of 1 i.items.items 0 i.room rs None) c.only_syn-self-inside.ensures
     ∙ opened_is i.items.items i.room v.2 ∙ sym (ap open_receiver same)

@@ -8,6 +8,6 @@ pub returns : goal.returns
 returns c =
     let i = c.self.inside in
     let v = c.self.invariant in
-    ap (λ (n : ℕ). nat_lt n i.furthest) c.front.ensures
+    ap (λ (n : ℕ). nat_lt n i.furthest) c.peek_front.ensures
     ∙ sym (ap has_gap (sym c.self.view_is)
     ∙ gap_is c.rings_stand.ensures i.base i.items.items i.start i.room i.arrived i.stop i.furthest v.0 v.1 v.2 v.5)

@@ -7,7 +7,7 @@ pub returns-clause-value : goal.returns-clause-value
 returns-clause-value c =
     let i = c.self.inside in
     let v = c.self.invariant in
-    c.front.ensures
+    c.peek_front.ensures
     ∙ sym (ap next (sym c.self.view_is) ∙ next_of c.rings_stand.ensures i.base i.items.items i.start i.room i.arrived i.stop v.0 v.1 v.2)
 
 pub returns-clause-within : goal.returns-clause-within
@@ -15,6 +15,6 @@ returns-clause-within c =
     let i = c.self.inside in
     let v = c.self.invariant in
     let e = ap edge (sym c.self.view_is) ∙ edge_of i.base i.items.items i.start i.room i.arrived i.stop v.1 v.2 in
-    let f = c.front.ensures in
+    let f = c.peek_front.ensures in
     let w = front_within i.base i.room i.arrived v.0 in
     omega (arith, e, f, w)

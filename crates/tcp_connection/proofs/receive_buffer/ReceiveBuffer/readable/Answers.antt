@@ -7,8 +7,8 @@ pub returns : goal.returns
 returns c =
     let i = c.self.inside in
     let v = c.self.invariant in
-    let f = c.front.ensures in
-    let n : i.start + (c.front.result - i.base) - i.start ≡ Rattle.net_base.specs.Ranges.front i.arrived - i.base = omega (arith, f) in
+    let f = c.peek_front.ensures in
+    let n : i.start + (c.peek_front.result - i.base) - i.start ≡ Rattle.net_base.specs.Ranges.front i.arrived - i.base = omega (arith, f) in
     ap (λ (k : ℕ). take k (drop i.start c.deref.result.now)) n
     ∙ ap (λ (xs : List ℕ). take (Rattle.net_base.specs.Ranges.front i.arrived - i.base) (drop i.start xs)) c.deref.ensures.value
     ∙ sym (ap (λ (r : Receiver). in_order r.cells) (sym c.self.view_is)
