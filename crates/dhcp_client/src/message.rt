@@ -313,7 +313,7 @@ fn emit_header(repr: &DhcpRepr, out: &mut FrameBuffer)
 
 /// The fields before the client's hardware address.
 #[inline(always)]
-#[tactic(auto, unfolding(crate::specs::Message::fields_text))]
+#[tactic(auto, unfolding(crate::specs::Details::Message::fields_text))]
 fn fields_of(repr: &DhcpRepr) -> [u8; 28]
     ensures { result ≡ spec.fields_text repr.now }
 {

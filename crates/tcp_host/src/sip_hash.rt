@@ -109,7 +109,7 @@ pub fn sip_hash(key: &SipKey, words: &[u64]) -> u64
 }
 
 /// The hash of the ends of a connection.
-#[tactic(auto, unfolding(crate::specs::Homes::hash))]
+#[tactic(auto, unfolding(crate::specs::Details::Homes::hash))]
 pub fn hash(key: &SipKey, endpoints: &Endpoints) -> u64
     ensures { result ≡ places.hash key.now endpoints.now }
 {
@@ -130,7 +130,7 @@ pub fn hash(key: &SipKey, endpoints: &Endpoints) -> u64
 }
 
 /// Where the search for the ends of a connection begins, of so many homes.
-#[tactic(auto, unfolding(crate::specs::Homes::home))]
+#[tactic(auto, unfolding(crate::specs::Details::Homes::home))]
 pub fn home(key: &SipKey, homes: usize, endpoints: &Endpoints) -> usize
     requires { 0 < homes }
     ensures value { result ≡ places.home key.now homes endpoints.now }
