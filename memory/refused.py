@@ -43,7 +43,7 @@ class Program(typing.NamedTuple):
 
 PROGRAMS = {
     "scenes": Program(["scenes/data/*.txt"], [], 1, rb"Error: ([Oo]ut of memory|memory allocation failed)\n"),
-    "hostrun": Program(["hostrun/stdin", "exchanges/data/*.txt"], [], 3, rb"out of memory\n"),
+    "hostrun": Program(["hostrun/stdin", "hostrun/data/*.txt"], [], 3, rb"out of memory\n"),
     # Each error that may be there for want of memory has words of its own.
     "simulate": Program(
         ["simulate/data/reassembly_under_reordering.txt", "simulate/data/router_goes.txt"],

@@ -36,45 +36,125 @@ const BUDGET: usize = 1;
 const RANDOM: u32 = 0x3903_f326;
 
 fn main(rt: HostRuntime) -> Result<()> {
-    let alloc = rt.alloc();
-    let mut device = MemoryDevice::new(alloc, CAPABILITIES);
-    let mut interface = Interface::new(Config::new(HARDWARE.into()), &mut device, Instant::ZERO)?;
-    let mut sockets = SocketSet::new(Vec::new(alloc));
-    let (udp, raw) = add_sockets(alloc, &mut sockets)?;
-    let mut client = DhcpClient::new(HARDWARE, None);
-    let mut room = DhcpRoom::new();
-    let mut own = None;
-    for line in rt.lines(alloc) {
-        let millis = take_line(alloc, line?.as_str(), &mut device)?;
-        let now = u64::from(millis) * 1_000;
-        let moment = moment_of(millis);
-        interface.poll(moment, &mut device, &mut sockets, BUDGET);
-        hear(&mut client, &mut sockets, udp);
-        let message = client.next_message(now, RANDOM);
-        if let Some(message) = &message {
-            send(message, &mut sockets, udp, raw, &mut room);
-        }
-        let event = client.take_event();
-        if let Some(event) = &event {
-            apply(&rt, event, &mut own, &mut interface)?;
-        }
-        interface.poll(moment, &mut device, &mut sockets, BUDGET);
-        write_sent(&rt, alloc, &mut device)?;
+    let mut client = Client::new(rt.alloc())?;
+    let mut link = Link::new(rt.alloc())?;
+    serve(&rt, &mut client, &mut link)
+}
+
+/// Takes the lines of standard input, one after another.
+fn serve(rt: &HostRuntime, client: &mut Client, link: &mut Link) -> Result<()> {
+    for line in rt.lines(rt.alloc()) {
+        take_line(rt, line?.as_str(), client, link)?;
     }
     Ok(())
 }
 
+/// Takes a line: its frame comes, the client does what is to be done then, and what it leads to is printed.
+fn take_line(rt: &HostRuntime, line: &str, client: &mut Client, link: &mut Link) -> Result<()> {
+    let millis = read_line(rt.alloc(), line, &mut link.device)?;
+    link.poll(millis, client);
+    if let Some(event) = client.exchange(millis) {
+        apply(rt, &event, link)?;
+    }
+    link.poll(millis, client);
+    write_sent(rt, rt.alloc(), &link.device.take_sent())
+}
+
+/// The interface, its device, and its network, if it has one.
+#[derive(Drop)]
+struct Link {
+    interface: Interface,
+    device: MemoryDevice,
+    own: Option<Ipv4Cidr>,
+}
+
+impl Link {
+    /// An interface without an address.
+    fn new(alloc: Global) -> Result<Link> {
+        let mut device = MemoryDevice::new(alloc, CAPABILITIES);
+        let config = Config::new(HARDWARE.into());
+        Ok(Link {
+            interface: Interface::new(config, &mut device, Instant::ZERO)?,
+            device,
+            own: None,
+        })
+    }
+
+    /// A poll at a time in milliseconds.
+    fn poll(&mut self, millis: u32, client: &mut Client) {
+        self.interface.poll(
+            moment_of(millis),
+            &mut self.device,
+            &mut client.sockets,
+            BUDGET,
+        );
+    }
+}
+
+/// The client, with its sockets and room for a message.
+#[derive(Drop)]
+struct Client {
+    machine: DhcpClient,
+    room: DhcpRoom,
+    sockets: SocketSet<'static>,
+    udp: SocketHandle,
+    raw: SocketHandle,
+}
+
+impl Client {
+    /// A client that has done nothing yet.
+    fn new(alloc: Global) -> Result<Client> {
+        let mut sockets = SocketSet::new(Vec::new(alloc));
+        let (udp, raw) = add_sockets(alloc, &mut sockets)?;
+        Ok(Client {
+            machine: DhcpClient::new(HARDWARE, None),
+            room: DhcpRoom::new(),
+            sockets,
+            udp,
+            raw,
+        })
+    }
+
+    /// Takes what came to its socket, and queues the message that is due at a time in milliseconds. Returns what became of
+    /// the lease.
+    fn exchange(&mut self, millis: u32) -> Option<DhcpEvent> {
+        hear(&mut self.machine, &mut self.sockets, self.udp);
+        let message = self.machine.next_message(u64::from(millis) * 1_000, RANDOM);
+        if let Some(message) = &message {
+            send(
+                message,
+                &mut self.sockets,
+                self.udp,
+                self.raw,
+                &mut self.room,
+            );
+        }
+        self.machine.take_event()
+    }
+}
+
 /// Opens the sockets of a client: one at its port, and one for packets to all servers.
-fn add_sockets(alloc: Global, sockets: &mut SocketSet<'_>) -> Result<(SocketHandle, SocketHandle)> {
+fn add_sockets(
+    alloc: Global,
+    sockets: &mut SocketSet<'static>,
+) -> Result<(SocketHandle, SocketHandle)> {
+    Ok((add_udp(alloc, sockets)?, add_raw(alloc, sockets)?))
+}
+
+/// Opens the socket at the port of clients.
+fn add_udp(alloc: Global, sockets: &mut SocketSet<'static>) -> Result<SocketHandle> {
     let (rx, tx) = (Queue::new(alloc, 4, 4096)?, Queue::new(alloc, 1, 1472)?);
-    let udp = sockets.add(udp::Socket::new(68.into(), rx, tx))?;
+    Ok(sockets.add(udp::Socket::new(68.into(), rx, tx))?)
+}
+
+/// Opens the socket for packets to all servers.
+fn add_raw(alloc: Global, sockets: &mut SocketSet<'static>) -> Result<SocketHandle> {
     let (rx, tx) = (Queue::new(alloc, 0, 0)?, Queue::new(alloc, 1, 1500)?);
-    let raw = sockets.add(raw::Socket::new(IpVersion::Ipv4, IpProtocol::Udp, rx, tx))?;
-    Ok((udp, raw))
+    Ok(sockets.add(raw::Socket::new(IpVersion::Ipv4, IpProtocol::Udp, rx, tx))?)
 }
 
 /// Reads a line: its time in milliseconds, which is returned, and maybe a frame, which the device gets.
-fn take_line(alloc: Global, line: &str, device: &mut MemoryDevice) -> Result<u32> {
+fn read_line(alloc: Global, line: &str, device: &mut MemoryDevice) -> Result<u32> {
     let mut words = line.split_whitespace();
     let millis = words.next().unwrap_or("").parse()?;
     if let Some(frame) = words.next() {
@@ -84,9 +164,9 @@ fn take_line(alloc: Global, line: &str, device: &mut MemoryDevice) -> Result<u32
 }
 
 /// Prints the frames that were sent.
-fn write_sent(rt: &impl Print, alloc: Global, device: &mut MemoryDevice) -> Result<()> {
-    for frame in device.take_sent() {
-        println!(rt; "{}", hex::encode(alloc, &frame)?)?;
+fn write_sent(rt: &impl Print, alloc: Global, frames: &[Vec<u8>]) -> Result<()> {
+    for frame in frames {
+        println!(rt; "{}", hex::encode(alloc, frame)?)?;
     }
     Ok(())
 }
@@ -126,20 +206,25 @@ fn send(
 
 /// Gives the interface the network of a lease, or takes it away, and tells of it. A lease that was renewed mostly changes
 /// nothing, and then no neighbour is forgotten.
-fn apply(
-    rt: &impl Print,
-    event: &DhcpEvent,
-    own: &mut Option<Ipv4Cidr>,
-    interface: &mut Interface,
-) -> Result<()> {
-    let network = match event {
+fn apply(rt: &impl Print, event: &DhcpEvent, link: &mut Link) -> Result<()> {
+    let network = network_after(event);
+    if network != link.own {
+        link.own = network;
+        set_network(&mut link.interface, network)?;
+    }
+    tell(rt, event)
+}
+
+/// The network that the interface has after an event.
+fn network_after(event: &DhcpEvent) -> Option<Ipv4Cidr> {
+    match event {
         DhcpEvent::Configured(lease) => Some(network_of(lease)),
         DhcpEvent::Deconfigured => None,
-    };
-    if network != *own {
-        *own = network;
-        set_network(interface, network)?;
     }
+}
+
+/// Tells of an event.
+fn tell(rt: &impl Print, event: &DhcpEvent) -> Result<()> {
     match event {
         DhcpEvent::Configured(lease) => println!(rt;
             "{} from {}",

@@ -95,11 +95,10 @@ impl Link {
     /// for the gateway's other address, too.
     pub fn new(alloc: Global, number: u8, own: Ipv4Cidr, other: Ipv4Address) -> Result<Link> {
         let hardware = EthernetAddress([2, 0, 0, 0, 0, number]);
+        let mut sockets = SocketSet::new(Vec::new(alloc));
+        let errors = add_socket(alloc, &mut sockets)?;
         let mut device = MemoryDevice::new(alloc, CAPABILITIES);
         let interface = interface_at(alloc, hardware, own, &mut device)?;
-        let mut sockets = SocketSet::new(Vec::new(alloc));
-        let (rx, tx) = (Queue::new(alloc, 0, 0)?, Queue::new(alloc, 4, 4 * 576)?);
-        let errors = sockets.add(raw::Socket::new(IpVersion::Ipv4, IpProtocol::Icmp, rx, tx))?;
         let mut link = Link {
             alloc,
             interface,
@@ -192,15 +191,25 @@ impl Link {
     ) -> Result<()>
         requires { IsMoment now }
     {
-        if let Some(neighbor) = self.neighbor(now, hop) {
-            return self.emit(neighbor, &packet);
+        match self.neighbor(now, hop) {
+            Some(neighbor) => self.emit(neighbor, &packet),
+            None => self.hold(
+                now,
+                Held {
+                    hop,
+                    came_here,
+                    packet,
+                },
+            ),
         }
-        if self.held.len() < HELD && self.ask(now, hop)? {
-            self.held.push(Held {
-                hop,
-                came_here,
-                packet,
-            })?;
+    }
+
+    /// Keeps a packet whose next hop is asked for, if there is room.
+    fn hold(&mut self, now: Instant, packet: Held) -> Result<()>
+        requires { IsMoment now }
+    {
+        if self.held.len() < HELD && self.ask(now, packet.hop)? {
+            self.held.push(packet)?;
         }
         Ok(())
     }
@@ -251,11 +260,7 @@ impl Link {
 
     /// Sends a packet to a hardware address.
     fn emit(&mut self, neighbor: EthernetAddress, packet: &[u8]) -> Result<()> {
-        let mut frame = Vec::with_capacity(self.alloc, 14 + packet.len())?;
-        frame.extend_from_slice(&neighbor.0)?;
-        frame.extend_from_slice(&self.hardware.0)?;
-        frame.extend_from_slice(&ETHERTYPE)?;
-        frame.extend_from_slice(packet)?;
+        let frame = frame_of(self.alloc, neighbor, self.hardware, packet)?;
         self.sent.push(frame)?;
         Ok(())
     }
@@ -264,20 +269,65 @@ impl Link {
     fn ask(&mut self, now: Instant, hop: Ipv4Address) -> Result<bool>
         requires { IsMoment now }
     {
-        if self.asked.iter().any(|asked| asked.hop == hop) {
+        if is_asked_for(&self.asked, hop) {
             return Ok(true);
         }
         if self.asked.len() >= ASKED {
             return Ok(false);
         }
-        let (rx, tx) = (Queue::new(self.alloc, 0, 0)?, Queue::new(self.alloc, 1, 8)?);
-        let mut socket = icmp::Socket::new(icmp::Endpoint::Ident(0), rx, tx);
-        let _ = socket.try_send(hop.into(), &QUESTION);
-        let socket = self.sockets.add(socket)?;
+        let socket = add_question(self.alloc, &mut self.sockets, hop)?;
         let until = now + PATIENCE;
         self.asked.push(Asked { hop, socket, until })?;
         Ok(true)
     }
+}
+
+/// Whether a next hop is among those that are asked for.
+fn is_asked_for(asked: &[Asked], hop: Ipv4Address) -> bool {
+    for one in asked {
+        if one.hop == hop {
+            return true;
+        }
+    }
+    false
+}
+
+/// The frame by which a packet goes from one hardware address to another one.
+fn frame_of(
+    alloc: Global,
+    to: EthernetAddress,
+    from: EthernetAddress,
+    packet: &[u8],
+) -> Result<Vec<u8>> {
+    let mut frame = Vec::from_slice(alloc, &header_of(to, from))?;
+    frame.extend_from_slice(packet)?;
+    Ok(frame)
+}
+
+/// The header of such a frame.
+fn header_of(to: EthernetAddress, from: EthernetAddress) -> [u8; 14] {
+    let [a, b, c, d, e, f] = to.0;
+    let [g, h, i, j, k, l] = from.0;
+    let [high, low] = ETHERTYPE;
+    [a, b, c, d, e, f, g, h, i, j, k, l, high, low]
+}
+
+/// Adds the socket by which errors are sent.
+fn add_socket(alloc: Global, sockets: &mut SocketSet<'static>) -> Result<SocketHandle> {
+    let (rx, tx) = (Queue::new(alloc, 0, 0)?, Queue::new(alloc, 4, 4 * 576)?);
+    Ok(sockets.add(raw::Socket::new(IpVersion::Ipv4, IpProtocol::Icmp, rx, tx))?)
+}
+
+/// Adds a socket whose question waits for a next hop.
+fn add_question(
+    alloc: Global,
+    sockets: &mut SocketSet<'static>,
+    hop: Ipv4Address,
+) -> Result<SocketHandle> {
+    let (rx, tx) = (Queue::new(alloc, 0, 0)?, Queue::new(alloc, 1, 8)?);
+    let mut socket = icmp::Socket::new(icmp::Endpoint::Ident(0), rx, tx);
+    let _ = socket.try_send(hop.into(), &QUESTION);
+    Ok(sockets.add(socket)?)
 }
 
 /// An interface at an address, with AnyIP.
@@ -288,6 +338,12 @@ fn interface_at(
     device: &mut MemoryDevice,
 ) -> Result<Interface> {
     let mut interface = Interface::new(Config::new(hardware.into()), device, Instant::ZERO)?;
+    furnish(alloc, own, &mut interface)?;
+    Ok(interface)
+}
+
+/// Gives an interface its address, room for neighbours, and AnyIP.
+fn furnish(alloc: Global, own: Ipv4Cidr, interface: &mut Interface) -> Result<()> {
     interface.update_ip_addrs(move |_| {
         let mut addrs = ArrayVec::new();
         addrs.push(IpCidr::from(own));
@@ -296,7 +352,7 @@ fn interface_at(
     let neighbors = Vec::with_capacity(alloc, NEIGHBORS)?;
     interface.set_neighbor_storage(neighbors, Vec::with_capacity(alloc, NEIGHBORS)?);
     interface.set_any_ip(true);
-    Ok(interface)
+    Ok(())
 }
 
 /// The better of two ways.
@@ -311,16 +367,21 @@ fn better(best: Option<Way>, other: Way) -> Option<Way> {
 /// answered in time.
 pub fn settle(link: &mut Link, other: &mut Link, now: Instant) -> Result<()> {
     let asked = mem::replace(&mut link.asked, Vec::new(link.alloc));
-    for one in asked {
-        let neighbor = link.neighbor(now, one.hop);
-        if neighbor.is_none() && now < one.until {
-            link.asked.push(one)?;
-        } else {
-            link.sockets.remove(one.socket);
-            release(link, other, now, one.hop, neighbor)?;
-        }
+    for one in asked.as_slice() {
+        settle_one(link, other, now, *one)?;
     }
     Ok(())
+}
+
+/// Ends what was asked for by one question, or goes on to ask.
+fn settle_one(link: &mut Link, other: &mut Link, now: Instant, one: Asked) -> Result<()> {
+    let neighbor = link.neighbor(now, one.hop);
+    if neighbor.is_none() && now < one.until {
+        link.asked.push(one)?;
+        return Ok(());
+    }
+    link.sockets.remove(one.socket);
+    release(link, other, now, one.hop, neighbor)
 }
 
 /// Sends the packets that waited for a next hop to it, if it is a neighbour, and tells of them if it isn't.
@@ -335,13 +396,25 @@ fn release(
     for one in held {
         if one.hop != hop {
             link.held.push(one)?;
-        } else if let Some(neighbor) = neighbor {
-            link.emit(neighbor, &one.packet)?;
-        } else if one.came_here {
-            tell_of(link, now, &one.packet);
         } else {
-            tell_of(other, now, &one.packet);
+            release_one(link, other, now, &one, neighbor)?;
         }
+    }
+    Ok(())
+}
+
+/// Sends a packet that waited to a neighbour, if there is one, and tells of it if there isn't.
+fn release_one(
+    link: &mut Link,
+    other: &mut Link,
+    now: Instant,
+    one: &Held,
+    neighbor: Option<EthernetAddress>,
+) -> Result<()> {
+    match neighbor {
+        Some(neighbor) => return link.emit(neighbor, &one.packet),
+        None if one.came_here => tell_of(link, now, &one.packet),
+        None => tell_of(other, now, &one.packet),
     }
     Ok(())
 }

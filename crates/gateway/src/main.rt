@@ -28,27 +28,77 @@ fn main(rt: HostRuntime) -> Result<()> {
         Ipv4Cidr::new(Ipv4Address::new(10, 3, 0, 0), 16),
         Ipv4Address::new(10, 2, 0, 9),
     );
-    for line in rt.lines(alloc) {
-        let line = line?;
-        let mut words = line.as_str().split_whitespace();
-        let link = words.next().context("a link is missing")?;
-        let now = moment_of(words.next().context("a time is missing")?.parse()?);
-        if let Some(frame) = words.next() {
-            let frame = hex::decode(alloc, frame)?;
-            match link {
-                "1" => take(alloc, &mut near, &mut far, now, &frame)?,
-                "2" => take(alloc, &mut far, &mut near, now, &frame)?,
-                _ => bail!("a link is 1 or 2"),
-            }
-        }
-        settle(&mut near, &mut far, now)?;
-        settle(&mut far, &mut near, now)?;
-        near.poll(now)?;
-        far.poll(now)?;
-        print(&rt, alloc, 1, &mut near)?;
-        print(&rt, alloc, 2, &mut far)?;
+    serve(&rt, &mut near, &mut far)
+}
+
+/// Takes the lines of standard input, one after another.
+fn serve(rt: &HostRuntime, near: &mut Link, far: &mut Link) -> Result<()> {
+    for line in rt.lines(rt.alloc()) {
+        take_line(rt, line?.as_str(), near, far)?;
     }
     Ok(())
+}
+
+/// Takes a line: its frame comes, and what is due then is sent and printed.
+fn take_line(rt: &HostRuntime, line: &str, near: &mut Link, far: &mut Link) -> Result<()> {
+    let line = Line::read(rt.alloc(), line)?;
+    receive(rt.alloc(), &line, near, far)?;
+    send(line.now, near, far)?;
+    print(rt, rt.alloc(), 1, &near.take_sent())?;
+    print(rt, rt.alloc(), 2, &far.take_sent())
+}
+
+/// The frame of a line, if it has one, comes on its link.
+fn receive(alloc: Global, line: &Line, near: &mut Link, far: &mut Link) -> Result<()> {
+    match &line.frame {
+        Some(frame) if line.is_far => take(alloc, far, near, line.now, frame),
+        Some(frame) => take(alloc, near, far, line.now, frame),
+        None => Ok(()),
+    }
+}
+
+/// Sends what is due at a moment.
+fn send(now: Instant, near: &mut Link, far: &mut Link) -> Result<()>
+    requires { IsMoment now }
+{
+    settle(near, far, now)?;
+    settle(far, near, now)?;
+    near.poll(now)?;
+    far.poll(now)
+}
+
+/// What a line tells: a moment, and maybe a frame that comes then on one of the links.
+#[derive(Drop)]
+struct Line {
+    is_far: bool,
+    now: Instant,
+    frame: Option<Vec<u8>>,
+    ghost timely: { IsMoment now },
+}
+
+impl Line {
+    /// Reads `LINK MILLISECONDS` or `LINK MILLISECONDS FRAME`. The link is looked at only if there is a frame.
+    fn read(alloc: Global, text: &str) -> Result<Line> {
+        let mut words = text.split_whitespace();
+        let link = words.next().context("a link is missing")?;
+        let now = moment_of(words.next().context("a time is missing")?.parse()?);
+        let frame = frame_in(alloc, words.next())?;
+        let is_far = match link {
+            "1" => false,
+            "2" => true,
+            _ if frame.is_none() => false,
+            _ => bail!("a link is 1 or 2"),
+        };
+        Ok(Line { is_far, now, frame })
+    }
+}
+
+/// The frame of a word in hexadecimal, if there is a word.
+fn frame_in(alloc: Global, word: Option<&str>) -> Result<Option<Vec<u8>>> {
+    match word {
+        Some(word) => Ok(Some(hex::decode(alloc, word)?)),
+        None => Ok(None),
+    }
 }
 
 /// The moment after so many milliseconds.
@@ -59,9 +109,9 @@ fn moment_of(millis: u32) -> Instant
 }
 
 /// Prints the frames that a link sent.
-fn print(rt: &impl Print, alloc: Global, number: u8, link: &mut Link) -> Result<()> {
-    for frame in link.take_sent() {
-        println!(rt; "{number} {}", hex::encode(alloc, &frame)?)?;
+fn print(rt: &impl Print, alloc: Global, number: u8, frames: &[Vec<u8>]) -> Result<()> {
+    for frame in frames {
+        println!(rt; "{number} {}", hex::encode(alloc, frame)?)?;
     }
     Ok(())
 }
@@ -104,19 +154,13 @@ fn forward(
     if !is_from(came, other, packet.repr.src_addr) || packet.has_source_route() {
         return Ok(());
     }
-    let Some(side) = side_of(came, other, packet.repr.dst_addr) else {
-        came.tell(now, GatewayError::NoRoute, packet);
-        return Ok(());
-    };
-    if packet.repr.hop_limit <= 1 {
-        came.tell(now, GatewayError::Expired, packet);
-        return Ok(());
+    match side_of(came, other, packet.repr.dst_addr) {
+        None => came.tell(now, GatewayError::NoRoute, packet),
+        Some(_) if packet.repr.hop_limit <= 1 => came.tell(now, GatewayError::Expired, packet),
+        Some(Side::Here(hop)) => return came.send(now, hop, packet.lowered(alloc)?, true),
+        Some(Side::There(hop)) => return other.send(now, hop, packet.lowered(alloc)?, false),
     }
-    let octets = packet.lowered(alloc)?;
-    match side {
-        Side::Here(hop) => came.send(now, hop, octets, true),
-        Side::There(hop) => other.send(now, hop, octets, false),
-    }
+    Ok(())
 }
 
 /// Whether a packet with this source may come from a link: one host's address, which that link leads to, and no own one (RFC 1812

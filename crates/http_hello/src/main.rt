@@ -16,14 +16,19 @@ use std::alloc::Global;
 use std::io::{BufRead, BufReader, BufWriter, Write};
 
 fn main(rt: HostRuntime) -> Result<()> {
-    let alloc = rt.alloc();
     let limits = Limits::of_arguments(&rt)?;
+    let mut host = LineHost::new(rt.alloc(), &limits)?;
+    let mut pages = Pages::new(rt.alloc(), &limits, &mut host.streams)?;
+    serve(&rt, &mut host, &mut pages)
+}
+
+/// Takes the lines of standard input, one after another.
+fn serve(rt: &HostRuntime, host: &mut LineHost, pages: &mut Pages) -> Result<()> {
+    let alloc = rt.alloc();
     let mut output = BufWriter::new(alloc, rt.stdout())?;
     let input = BufReader::new(alloc, rt.reader())?;
-    let mut host = LineHost::new(alloc, &limits)?;
-    let mut pages = Pages::new(alloc, &limits, &mut host.streams)?;
     for text in input.lines(alloc) {
-        take_line(alloc, text?.as_str(), &mut host, &mut pages, &mut output)?;
+        take_line(alloc, text?.as_str(), host, pages, &mut output)?;
     }
     Ok(())
 }

@@ -84,23 +84,10 @@ impl Host {
         cidr: IpCidr,
         port: u16,
     ) -> Result<Host> {
-        let mut link = Link::new(alloc, medium);
-        let mut interface = Interface::new(Config::new(hardware_addr), &mut link, Instant::ZERO)?;
-        interface.update_ip_addrs(move |_| {
-            let mut list = ArrayVec::new();
-            list.push(cidr);
-            list
-        })?;
         let mut sockets = SocketSet::new(Vec::new(alloc));
-        for _ in 1..count {
-            add_idle(alloc, &mut sockets)?;
-        }
-        let rx = Queue::new(alloc, 4, 8192)?;
-        let tx = Queue::new(alloc, 4, 8192)?;
-        let handle = sockets
-            .add(udp::SocketOf::new(IpListenEndpoint { addr: None, port }, rx, tx))
-            .ok()
-            .context("no memory for the socket")?;
+        let handle = add_sockets(alloc, &mut sockets, count, port)?;
+        let mut link = Link::new(alloc, medium);
+        let interface = interface_at(hardware_addr, cidr, &mut link)?;
         Ok(Host {
             interface,
             link,
@@ -239,6 +226,39 @@ fn next_frame(frames: &[u8]) -> Option<(&[u8], &[u8])> {
     let high = *frames.get(16)?;
     let low = *frames.get(17)?;
     frames.split_at_checked(14 + usize::from(high) * 256 + usize::from(low))
+}
+
+/// An interface over a link, with an address in its network.
+fn interface_at(
+    hardware_addr: HardwareAddress,
+    cidr: IpCidr,
+    link: &mut Link,
+) -> Result<Interface> {
+    let mut interface = Interface::new(Config::new(hardware_addr), link, Instant::ZERO)?;
+    interface.update_ip_addrs(move |_| {
+        let mut list = ArrayVec::new();
+        list.push(cidr);
+        list
+    })?;
+    Ok(interface)
+}
+
+/// Adds sockets, of which the last one listens at a port and has room for four datagrams each way. Returns its handle.
+fn add_sockets(
+    alloc: Global,
+    sockets: &mut SocketSet<'static>,
+    count: u64,
+    port: u16,
+) -> Result<SocketHandle> {
+    for _ in 1..count {
+        add_idle(alloc, sockets)?;
+    }
+    let rx = Queue::new(alloc, 4, 8192)?;
+    let tx = Queue::new(alloc, 4, 8192)?;
+    sockets
+        .add(udp::SocketOf::new(IpListenEndpoint { addr: None, port }, rx, tx))
+        .ok()
+        .context("no memory for the socket")
 }
 
 /// Adds a socket at port 1, which receives and sends nothing.

@@ -15,93 +15,148 @@ mod host;
 mod link;
 
 use crate::host::Host;
+use crate::link::Link;
 use anyhow::{Context, Result, bail};
 use ip_wire::IpVersion;
 use net_base::phy::Medium;
 use std::alloc::Global;
 use std::env;
+use std::io::Print;
 
 /// Does it `rounds` times. Returns how many octets were read from the host's socket, or the peer's.
 fn run(host: &mut Host, peer: &mut Host, work: &str, rounds: u64, octets: Vec<u8>) -> Result<u64> {
-    let mut read = 0u64;
     match work {
-        "receive" | "packet" => {
+        "receive" | "packet" | "deliver" | "full" | "poll" => {
             host.link.load(octets);
-            for _ in 0..rounds {
-                host.receive();
-            }
+            take_in(host, work, rounds)
         }
-        "deliver" => {
-            host.link.load(octets);
-            for _ in 0..rounds {
-                read = read.wrapping_add(host.deliver() as u64);
-            }
+        "link" => Ok(send_over_link(host, peer, rounds, &octets)),
+        _ => hand_over(host, work, rounds, &octets),
+    }
+}
+
+/// What is done with the frame that the link delivers.
+fn take_in(host: &mut Host, work: &str, rounds: u64) -> Result<u64> {
+    match work {
+        "deliver" => Ok(deliver(host, rounds)),
+        "full" => {
+            receive(host, 3);
+            Ok(deliver(host, rounds))
         }
-        "send" => {
-            for _ in 0..rounds {
-                host.send(octets.as_slice());
-            }
-        }
+        "poll" => Ok(poll(host, rounds)),
+        _ => Ok(receive(host, rounds)),
+    }
+}
+
+/// What is done with octets that are handed over, or without any.
+fn hand_over(host: &mut Host, work: &str, rounds: u64, octets: &[u8]) -> Result<u64> {
+    match work {
+        "send" => Ok(send(host, rounds, octets)),
         "route" => {
             host.add_routes()?;
-            for _ in 0..rounds {
-                host.send_far(octets.as_slice());
-            }
+            Ok(send_far(host, rounds, octets))
         }
-        "full" => {
-            host.link.load(octets);
-            for _ in 0..3 {
-                host.receive();
-            }
-            for _ in 0..rounds {
-                read = read.wrapping_add(host.deliver() as u64);
-            }
-        }
-        "fragments" => {
-            for _ in 0..rounds {
-                host.receive_three(octets.as_slice());
-                read = read.wrapping_add(host.read() as u64);
-            }
-        }
-        "pieces" => {
-            for _ in 0..rounds {
-                host.receive_three(octets.as_slice());
-                host.send_two_pieces();
-            }
-        }
-        "cut" => {
-            for _ in 0..rounds {
-                host.send(octets.as_slice());
-                host.send_two_pieces();
-            }
-        }
-        "link" => {
-            for _ in 0..rounds {
-                host.send(octets.as_slice());
-                peer.receive_last(&host.link);
-                for _ in 0..2 {
-                    host.send_piece();
-                    peer.receive_last(&host.link);
-                }
-                read = read.wrapping_add(peer.read() as u64);
-            }
-        }
-        "poll" => {
-            host.link.load(octets);
-            for _ in 0..rounds {
-                host.poll();
-            }
-        }
-        "at" => {
-            for _ in 0..rounds {
-                read = read.wrapping_add(u64::from(host.poll_at()));
-            }
-        }
+        "fragments" => Ok(receive_fragments(host, rounds, octets)),
+        "pieces" => Ok(answer_in_pieces(host, rounds, octets)),
+        "cut" => Ok(send_in_pieces(host, rounds, octets)),
+        "at" => Ok(ask_when(host, rounds)),
         _ => bail!(
             "receive, deliver, full, send, route, packet, fragments, pieces, cut, link, poll or at?"
         ),
     }
-    Ok(read)
+}
+
+/// Receives a frame; nothing is read.
+fn receive(host: &mut Host, rounds: u64) -> u64 {
+    for _ in 0..rounds {
+        host.receive();
+    }
+    0
+}
+
+/// Delivers a frame to a socket.
+fn deliver(host: &mut Host, rounds: u64) -> u64 {
+    let mut read = 0u64;
+    for _ in 0..rounds {
+        read = read.wrapping_add(host.deliver() as u64);
+    }
+    read
+}
+
+/// Polls; nothing is read.
+fn poll(host: &mut Host, rounds: u64) -> u64 {
+    for _ in 0..rounds {
+        host.poll();
+    }
+    0
+}
+
+/// Sends a datagram; nothing is read.
+fn send(host: &mut Host, rounds: u64, octets: &[u8]) -> u64 {
+    for _ in 0..rounds {
+        host.send(octets);
+    }
+    0
+}
+
+/// Sends a datagram by a route; nothing is read.
+fn send_far(host: &mut Host, rounds: u64, octets: &[u8]) -> u64 {
+    for _ in 0..rounds {
+        host.send_far(octets);
+    }
+    0
+}
+
+/// Receives a datagram in three fragments.
+fn receive_fragments(host: &mut Host, rounds: u64, octets: &[u8]) -> u64 {
+    let mut read = 0u64;
+    for _ in 0..rounds {
+        host.receive_three(octets);
+        read = read.wrapping_add(host.read() as u64);
+    }
+    read
+}
+
+/// Answers a request in three fragments; nothing is read.
+fn answer_in_pieces(host: &mut Host, rounds: u64, octets: &[u8]) -> u64 {
+    for _ in 0..rounds {
+        host.receive_three(octets);
+        host.send_two_pieces();
+    }
+    0
+}
+
+/// Sends a datagram in three fragments; nothing is read.
+fn send_in_pieces(host: &mut Host, rounds: u64, octets: &[u8]) -> u64 {
+    for _ in 0..rounds {
+        host.send(octets);
+        host.send_two_pieces();
+    }
+    0
+}
+
+/// Sends a datagram in three fragments to another host, which reads it.
+fn send_over_link(host: &mut Host, peer: &mut Host, rounds: u64, octets: &[u8]) -> u64 {
+    let mut read = 0u64;
+    for _ in 0..rounds {
+        host.send(octets);
+        peer.receive_last(&host.link);
+        for _ in 0..2 {
+            host.send_piece();
+            peer.receive_last(&host.link);
+        }
+        read = read.wrapping_add(peer.read() as u64);
+    }
+    read
+}
+
+/// Asks when to poll again. Returns how often there was such an instant.
+fn ask_when(host: &mut Host, rounds: u64) -> u64 {
+    let mut read = 0u64;
+    for _ in 0..rounds {
+        read = read.wrapping_add(u64::from(host.poll_at()));
+    }
+    read
 }
 
 /// What the arguments ask for.
@@ -127,17 +182,21 @@ fn read_arguments(rt: &HostRuntime) -> Result<Asked> {
         Some(_) => IpVersion::Ipv6,
         None => IpVersion::Ipv4,
     };
-    let medium = match work.as_str() {
-        "packet" => Medium::Ip,
-        _ => Medium::Ethernet,
-    };
     Ok(Asked {
+        medium: medium_of(work.as_str()),
         work,
         rounds,
         sockets,
         version,
-        medium,
     })
+}
+
+/// The medium on which something is done.
+fn medium_of(work: &str) -> Medium {
+    match work {
+        "packet" => Medium::Ip,
+        _ => Medium::Ethernet,
+    }
 }
 
 /// Reads a line of hex digits.
@@ -159,10 +218,8 @@ struct Measured {
 /// Has a host do what is asked for, after a frame that it receives first.
 fn measure(alloc: Global, asked: &Asked, first: Vec<u8>, octets: Vec<u8>) -> Result<Measured> {
     let mut host = Host::new(alloc, asked.sockets, asked.medium, asked.version)?;
-    host.poll();
     let mut peer = Host::peer(alloc)?;
-    host.link.load(first);
-    host.receive();
+    begin(&mut host, first);
     let read = run(
         &mut host,
         &mut peer,
@@ -170,11 +227,23 @@ fn measure(alloc: Global, asked: &Asked, first: Vec<u8>, octets: Vec<u8>) -> Res
         asked.rounds,
         octets,
     )?;
+    measured(alloc, &host.link, read)
+}
+
+/// Has a host be polled, and receive its first frame.
+fn begin(host: &mut Host, first: Vec<u8>) {
+    host.poll();
+    host.link.load(first);
+    host.receive();
+}
+
+/// What was sent over a link, and read.
+fn measured(alloc: Global, link: &Link, read: u64) -> Result<Measured> {
     Ok(Measured {
         read,
-        frames: host.link.frames_sent(),
-        octets: host.link.octets_sent(),
-        last: hex::encode(alloc, host.link.last())?,
+        frames: link.frames_sent(),
+        octets: link.octets_sent(),
+        last: hex::encode(alloc, link.last())?,
     })
 }
 
@@ -182,7 +251,12 @@ fn main(rt: HostRuntime) -> Result<()> {
     let asked = read_arguments(&rt)?;
     let first = octets_of_line(&rt)?;
     let octets = octets_of_line(&rt)?;
-    let all = measure(rt.alloc(), &asked, first, octets)?;
+    let measured = measure(rt.alloc(), &asked, first, octets)?;
+    print(&rt, &measured)
+}
+
+/// Prints what the host sent and read.
+fn print(rt: &impl Print, all: &Measured) -> Result<()> {
     println!(rt;
         "sent {} frames, {} octets; read {} octets",
         all.frames, all.octets, all.read

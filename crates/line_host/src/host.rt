@@ -78,27 +78,19 @@ const SETTINGS: Settings = Settings {
 pub struct LineHost {
     /// Its connections.
     pub streams: TcpHost,
-    interface: Interface,
-    device: MemoryDevice,
-    sockets: SocketSet<'static>,
-    schedule: Schedule,
-    tcp: TcpSockets,
+    link: Link,
+    service: Service,
 }
 
 impl LineHost {
     /// A host without connections, as the limits say. It fails if the memory is refused.
     pub fn new(alloc: Global, limits: &Limits) -> Result<LineHost> {
-        let mut device = MemoryDevice::new(alloc, CAPABILITIES);
-        let mut sockets = SocketSet::new(Vec::new(alloc));
-        let v4 = pair(alloc, &mut sockets, IpVersion::Ipv4)?;
-        let v6 = pair(alloc, &mut sockets, IpVersion::Ipv6)?;
+        let link = Link::new(alloc)?;
+        let service = Service::new(alloc)?;
         Ok(LineHost {
             streams: TcpHost::new(alloc, limits.places, &config_for(limits.room))?,
-            interface: interface_over(alloc, &mut device)?,
-            device,
-            sockets,
-            schedule: Schedule::new(alloc, 4, PATIENCE)?,
-            tcp: TcpSockets::new(Some(v4), Some(v6), CAPABILITIES.checksum.tcp),
+            link,
+            service,
         })
     }
 
@@ -106,7 +98,7 @@ impl LineHost {
     pub fn receive(&mut self, line: &Line) {
         if let Some(frame) = &line.frame {
             // A frame that is too long, or for which there is no memory, is lost.
-            let _ = self.device.push(frame);
+            let _ = self.link.device.push(frame);
         }
         self.exchange_frames(moment_of(line.micros));
         self.exchange_segments(line.micros);
@@ -131,22 +123,13 @@ impl LineHost {
         micros: u64,
         output: &mut W,
     ) -> Result<()> {
-        for frame in self.device.take_sent() {
-            let text = hex::encode(alloc, &frame)?;
-            writeln!(output, "{text}")?;
-        }
-        match self.due_at(micros) {
-            Some(due) => writeln!(output, "at {due}")?,
-            None => writeln!(output, "at never")?,
-        }
-        output.flush()?;
-        Ok(())
+        write_frames(alloc, &self.link.device.take_sent(), output)?;
+        write_due(self.due_at(micros), output)
     }
 
     /// When something is due first, in microseconds. `None`, if nothing is due by itself.
     fn due_at(&mut self, micros: u64) -> Option<u64> {
-        let of_interface = self.interface.poll_at(moment_of(micros), &self.sockets);
-        let of_interface = of_interface.map(|due| due.total_micros().max(0) as u64);
+        let of_interface = self.link.due_at(micros, &self.service.sockets);
         match (of_interface, self.streams.poll_at()) {
             (Some(one), Some(other)) => Some(one.min(other)),
             (one, None) => one,
@@ -156,14 +139,8 @@ impl LineHost {
 
     /// What the sockets got goes to the connections, and what these send goes to the sockets.
     fn exchange_segments(&mut self, micros: u64) {
-        let interface = &self.interface;
-        self.tcp.poll_with_neighbors(
-            micros,
-            interface.ip_addrs(),
-            |address: IpAddress| -> bool { interface.has_neighbor(&address) },
-            &mut self.streams,
-            &mut self.sockets,
-        );
+        self.service
+            .exchange(micros, &self.link.interface, &mut self.streams);
     }
 
     /// A poll of the interface. Before it the schedule chooses which sockets are asked, and after it gives up what waited too
@@ -171,14 +148,111 @@ impl LineHost {
     fn exchange_frames(&mut self, now: Instant)
         requires { IsMoment now }
     {
-        let is_piece_left = self.interface.has_pending_fragment();
+        let is_piece_left = self.link.interface.has_pending_fragment();
+        self.service.begin_round(now, is_piece_left);
+        self.link.poll(now, &mut self.service.sockets);
+        self.service.end_round(now);
+    }
+}
+
+/// The interface of a host, and its device.
+#[derive(Drop)]
+struct Link {
+    interface: Interface,
+    device: MemoryDevice,
+}
+
+impl Link {
+    /// An interface at 192.168.69.7/24 and fd69::7/64. It fails if the memory is refused.
+    fn new(alloc: Global) -> Result<Link> {
+        let mut device = MemoryDevice::new(alloc, CAPABILITIES);
+        Ok(Link {
+            interface: interface_over(alloc, &mut device)?,
+            device,
+        })
+    }
+
+    /// When something is due first at the interface, in microseconds. `None`, if nothing is due by itself.
+    fn due_at(&mut self, micros: u64, sockets: &SocketSet<'static>) -> Option<u64> {
+        match self.interface.poll_at(moment_of(micros), sockets) {
+            Some(due) => Some(due.total_micros().max(0) as u64),
+            None => None,
+        }
+    }
+
+    /// A poll of the interface.
+    fn poll(&mut self, now: Instant, sockets: &mut SocketSet<'static>)
+        requires { IsMoment now }
+    {
+        self.interface.poll(now, &mut self.device, sockets, BUDGET);
+    }
+}
+
+/// The raw sockets of TCP, their schedule, and what goes between them and the connections.
+#[derive(Drop)]
+struct Service {
+    sockets: SocketSet<'static>,
+    schedule: Schedule,
+    tcp: TcpSockets,
+}
+
+impl Service {
+    /// The two sockets of each family. It fails if the memory is refused.
+    fn new(alloc: Global) -> Result<Service> {
+        let schedule = Schedule::new(alloc, 4, PATIENCE)?;
+        let mut sockets = SocketSet::new(Vec::new(alloc));
+        let tcp = tcp_over(alloc, &mut sockets)?;
+        Ok(Service {
+            sockets,
+            schedule,
+            tcp,
+        })
+    }
+
+    /// What the sockets got goes to the connections, and what these send goes to the sockets.
+    fn exchange(&mut self, micros: u64, interface: &Interface, streams: &mut TcpHost) {
+        self.tcp.poll_with_neighbors(
+            micros,
+            interface.ip_addrs(),
+            |address: IpAddress| -> bool { interface.has_neighbor(&address) },
+            streams,
+            &mut self.sockets,
+        );
+    }
+
+    /// The schedule chooses which sockets are asked.
+    fn begin_round(&mut self, now: Instant, is_piece_left: bool)
+        requires { IsMoment now }
+    {
         let mtu = CAPABILITIES.ip_mtu();
         self.schedule
             .before_round(now, mtu, is_piece_left, &mut self.sockets);
-        self.interface
-            .poll(now, &mut self.device, &mut self.sockets, BUDGET);
+    }
+
+    /// The schedule gives up what waited too long.
+    fn end_round(&mut self, now: Instant)
+        requires { IsMoment now }
+    {
         self.schedule.after_round(now, &mut self.sockets);
     }
+}
+
+/// Writes frames, each a line.
+fn write_frames<W: Write + Drop>(alloc: Global, frames: &[Vec<u8>], output: &mut W) -> Result<()> {
+    for frame in frames {
+        writeln!(output, "{}", hex::encode(alloc, frame)?)?;
+    }
+    Ok(())
+}
+
+/// Writes the moment of which a host wants to be told next.
+fn write_due<W: Write + Drop>(due: Option<u64>, output: &mut W) -> Result<()> {
+    match due {
+        Some(due) => writeln!(output, "at {due}")?,
+        None => writeln!(output, "at never")?,
+    }
+    output.flush()?;
+    Ok(())
 }
 
 /// What connections with so much room each way are made with. A program with a source of random numbers would ask it for the
@@ -217,12 +291,20 @@ fn moment_of(micros: u64) -> Instant
     Instant::from_micros_clamped(u128::from(micros))
 }
 
-/// The two raw sockets of a family.
+/// The raw sockets of both families, which are added to a set.
+fn tcp_over(alloc: Global, sockets: &mut SocketSet<'static>) -> Result<TcpSockets> {
+    let v4 = pair(alloc, sockets, IpVersion::Ipv4)?;
+    let v6 = pair(alloc, sockets, IpVersion::Ipv6)?;
+    Ok(TcpSockets::new(Some(v4), Some(v6), CAPABILITIES.checksum.tcp))
+}
+
+/// The two raw sockets of a family, which are added to a set.
 fn pair(alloc: Global, sockets: &mut SocketSet<'static>, version: IpVersion) -> Result<SocketPair> {
     let near = near_socket(alloc, version, PACKETS, PACKET_ROOM)?;
+    let near = sockets.add(near)?;
     let far = far_socket(alloc, version, FAR_ROOM)?;
     Ok(SocketPair {
-        near: sockets.add(near)?,
+        near,
         far: sockets.add(far)?,
     })
 }
@@ -231,6 +313,12 @@ fn pair(alloc: Global, sockets: &mut SocketSet<'static>, version: IpVersion) -> 
 fn interface_over(alloc: Global, device: &mut MemoryDevice) -> Result<Interface> {
     let config = InterfaceConfig::new(HARDWARE.into());
     let mut interface = Interface::new(config, device, Instant::ZERO)?;
+    furnish(alloc, &mut interface)?;
+    Ok(interface)
+}
+
+/// Gives an interface its addresses, and room for neighbours.
+fn furnish(alloc: Global, interface: &mut Interface) -> Result<()> {
     interface.update_ip_addrs(move |_| {
         let mut addrs = ArrayVec::new();
         addrs.push(IpCidr::from(Ipv4Cidr::new(OWN_V4, 24)));
@@ -239,5 +327,5 @@ fn interface_over(alloc: Global, device: &mut MemoryDevice) -> Result<Interface>
     })?;
     let neighbors = Vec::with_capacity(alloc, NEIGHBORS)?;
     interface.set_neighbor_storage(neighbors, Vec::with_capacity(alloc, NEIGHBORS)?);
-    Ok(interface)
+    Ok(())
 }

@@ -18,7 +18,8 @@ ghost use Rattle.ip_address.specs.Ip.{is_unspecified};
 
 use crate::frames::frame;
 use crate::scene_host::Host;
-use crate::words::{Words, any_address, count, end, moment, number, octet, short};
+use crate::script::tells;
+use crate::words::{Words, any_address, count, end, is_ok, moment, number, octet, short};
 use ip_wire::{IpProtocol, IpVersion, TcpControl, TcpSeqNumber};
 use socket_set::by_index;
 use sockets::queue::{NoMemory, Queue};
@@ -68,7 +69,7 @@ fn segment(call: &mut Words<'_>) -> Option<Segment>
 }
 
 impl Host {
-    /// A call at the sockets, by its word.
+    /// A call at the sockets, by its word, or a question to the interface.
     pub fn at_sockets(
         &mut self,
         word: &str,
@@ -76,74 +77,65 @@ impl Host {
         outcome: &mut Words<'_>,
     ) -> Option<bool> {
         match word {
-            "heard?" => return self.hears(call.next()?, outcome),
-            "due?" => return self.is_due(call.next()?, outcome.next()?),
-            "udp" => self.add_udp(short(call.next()?)?)?,
-            "icmp" => self.add_icmp(short(call.next()?)?)?,
-            "raw" => self.add_raw(IpVersion::Ipv4, octet(call.next()?)?)?,
-            "raw6" => self.add_raw(IpVersion::Ipv6, octet(call.next()?)?)?,
-            "tcp" => self.add_tcp(short(call.next()?)?)?,
-            "segment" => self.add_segment(call)?,
-            "send" => self.send(call)?,
-            "hold" => self.hold(call.next()?, call.next()?)?,
-            "abort" => self.abort(call.next()?)?,
-            "done" => self.drop_first(call.next()?)?,
-            _ => return None,
+            "heard?" => self.hears(call, outcome),
+            "due?" => self.is_due(call, outcome),
+            "udp" | "icmp" | "raw" | "raw6" | "tcp" | "segment" => {
+                self.adds(word, call)?;
+                is_ok(outcome)
+            }
+            "send" | "hold" | "abort" | "done" => {
+                self.uses(word, call)?;
+                is_ok(outcome)
+            }
+            _ => tells(&mut self.interface, word, call, outcome),
         }
-        Some(outcome.next()? == "ok")
     }
 
-    fn add_udp(&mut self, port: u16) -> Option<()> {
-        let (rx, tx) = queues(self.alloc)?;
-        self.add(udp::Socket::new(listening(port), rx, tx))
-    }
-
-    fn add_icmp(&mut self, ident: u16) -> Option<()> {
-        let (rx, tx) = queues(self.alloc)?;
-        self.add(icmp::Socket::new(icmp::Endpoint::Ident(ident), rx, tx))
-    }
-
-    fn add_raw(&mut self, version: IpVersion, protocol: u8) -> Option<()> {
-        let (rx, tx) = queues(self.alloc)?;
-        let protocol = IpProtocol::from_number(protocol);
-        self.add(raw::Socket::new(version, protocol, rx, tx))
-    }
-
-    fn add_tcp(&mut self, port: u16) -> Option<()> {
-        let (rx, tx) = queues(self.alloc)?;
-        self.add(tcp::Socket::new(listening(port), None, rx, tx))
+    // A socket is added, by the word of its kind.
+    fn adds(&mut self, word: &str, call: &mut Words<'_>) -> Option<()> {
+        match word {
+            "udp" => self.add(udp_socket(self.alloc, call)?),
+            "icmp" => self.add(icmp_socket(self.alloc, call)?),
+            "raw" => self.add(raw_socket(self.alloc, IpVersion::Ipv4, call)?),
+            "raw6" => self.add(raw_socket(self.alloc, IpVersion::Ipv6, call)?),
+            "tcp" => self.add(tcp_socket(self.alloc, call)?),
+            _ => self.add_segment(call),
+        }
     }
 
     // A TCP socket with a segment to send.
     fn add_segment(&mut self, call: &mut Words<'_>) -> Option<()> {
-        let port = short(call.next()?)?;
-        let segment = segment(call)?;
-        let payload = frame(call.next()?)?;
-        if port == 0 {
-            return None;
-        }
-        let (rx, tx) = queues(self.alloc)?;
-        let mut socket = tcp::Socket::new(listening(port), None, rx, tx);
-        let sent = socket.send(segment, payload.as_slice());
+        let mut socket = tcp_socket(self.alloc, call)?;
+        let is_sent = send_segment(&mut socket, call);
         self.add(socket)?;
-        sent.ok()
+        is_sent
+    }
+
+    // Something is done with a socket, by a word for it.
+    fn uses(&mut self, word: &str, call: &mut Words<'_>) -> Option<()> {
+        let index = count(call.next()?)?;
+        match word {
+            "send" => self.send(index, call),
+            "hold" => self.hold(index, call),
+            "abort" => self.abort(index),
+            _ => self.drop_first(index),
+        }
     }
 
     // A socket gets something to send.
-    fn send(&mut self, call: &mut Words<'_>) -> Option<()> {
-        let index = count(call.next()?)?;
+    fn send(&mut self, index: usize, call: &mut Words<'_>) -> Option<()> {
         match by_index::socket_mut(&mut self.sockets, index)? {
             SocketOf::Udp(socket) => send_udp(socket, call),
             SocketOf::Icmp(socket) => send_icmp(socket, call),
-            SocketOf::Raw(socket) => socket.send((), frame(call.next()?)?.as_slice()).ok(),
+            SocketOf::Raw(socket) => send_raw(socket, call),
             SocketOf::Tcp(_) => None,
         }
     }
 
     // A TCP socket sends nothing before a moment.
-    fn hold(&mut self, index: &str, timestamp: &str) -> Option<()> {
-        let timestamp = moment(timestamp)?;
-        match by_index::socket_mut(&mut self.sockets, count(index)?)? {
+    fn hold(&mut self, index: usize, call: &mut Words<'_>) -> Option<()> {
+        let timestamp = moment(call.next()?)?;
+        match by_index::socket_mut(&mut self.sockets, index)? {
             SocketOf::Tcp(socket) => {
                 socket.hold_until(timestamp);
                 Some(())
@@ -153,8 +145,8 @@ impl Host {
     }
 
     // A TCP socket gives up.
-    fn abort(&mut self, index: &str) -> Option<()> {
-        match by_index::socket_mut(&mut self.sockets, count(index)?)? {
+    fn abort(&mut self, index: usize) -> Option<()> {
+        match by_index::socket_mut(&mut self.sockets, index)? {
             SocketOf::Tcp(socket) => {
                 socket.abort();
                 Some(())
@@ -164,8 +156,8 @@ impl Host {
     }
 
     // A UDP socket drops what came to it first.
-    fn drop_first(&mut self, index: &str) -> Option<()> {
-        match by_index::socket_mut(&mut self.sockets, count(index)?)? {
+    fn drop_first(&mut self, index: usize) -> Option<()> {
+        match by_index::socket_mut(&mut self.sockets, index)? {
             SocketOf::Udp(socket) => {
                 socket.done();
                 Some(())
@@ -174,26 +166,80 @@ impl Host {
         }
     }
 
-    // Whether a socket has to be polled again when the word says.
-    fn is_due(&mut self, index: &str, word: &str) -> Option<bool> {
-        let poll_at = match word {
-            "Now" => PollAt::Now,
-            "Ingress" => PollAt::Ingress,
-            _ => PollAt::Time(moment(word)?),
-        };
-        let socket = by_index::socket_mut(&mut self.sockets, count(index)?)?;
+    // Whether a socket has to be polled again when the outcome says.
+    fn is_due(&mut self, call: &mut Words<'_>, outcome: &mut Words<'_>) -> Option<bool> {
+        let index = count(call.next()?)?;
+        let poll_at = poll_at_in(outcome)?;
+        let socket = by_index::socket_mut(&mut self.sockets, index)?;
         Some(socket.poll_at() == poll_at)
     }
 
     // Whether that came to a socket first which the outcome tells.
-    fn hears(&mut self, index: &str, outcome: &mut Words<'_>) -> Option<bool> {
-        match by_index::socket_mut(&mut self.sockets, count(index)?)? {
+    fn hears(&mut self, call: &mut Words<'_>, outcome: &mut Words<'_>) -> Option<bool> {
+        let index = count(call.next()?)?;
+        match by_index::socket_mut(&mut self.sockets, index)? {
             SocketOf::Udp(socket) => udp_hears(socket, outcome),
             SocketOf::Icmp(socket) => icmp_hears(socket, outcome),
             SocketOf::Raw(socket) => raw_hears(socket, outcome),
             SocketOf::Tcp(socket) => tcp_hears(socket, outcome),
         }
     }
+}
+
+// A UDP socket, by its port.
+fn udp_socket(alloc: Global, call: &mut Words<'_>) -> Option<udp::Socket<'static>> {
+    let port = short(call.next()?)?;
+    let (rx, tx) = queues(alloc)?;
+    Some(udp::Socket::new(listening(port), rx, tx))
+}
+
+// An ICMP socket, by its identifier.
+fn icmp_socket(alloc: Global, call: &mut Words<'_>) -> Option<icmp::Socket<'static>> {
+    let ident = short(call.next()?)?;
+    let (rx, tx) = queues(alloc)?;
+    Some(icmp::Socket::new(icmp::Endpoint::Ident(ident), rx, tx))
+}
+
+// A raw socket, by its protocol.
+fn raw_socket(
+    alloc: Global,
+    version: IpVersion,
+    call: &mut Words<'_>,
+) -> Option<raw::Socket<'static>> {
+    let protocol = IpProtocol::from_number(octet(call.next()?)?);
+    let (rx, tx) = queues(alloc)?;
+    Some(raw::Socket::new(version, protocol, rx, tx))
+}
+
+// A TCP socket, by its port.
+fn tcp_socket(alloc: Global, call: &mut Words<'_>) -> Option<tcp::Socket<'static>> {
+    let port = short(call.next()?)?;
+    let (rx, tx) = queues(alloc)?;
+    Some(tcp::Socket::new(listening(port), None, rx, tx))
+}
+
+// A TCP socket gets a segment to send.
+fn send_segment(socket: &mut tcp::Socket<'static>, call: &mut Words<'_>) -> Option<()> {
+    let segment = segment(call)?;
+    let payload = frame(call.next()?)?;
+    if socket.local().port == 0 {
+        return None;
+    }
+    socket.send(segment, payload.as_slice()).ok()
+}
+
+// When a socket has to be polled again.
+fn poll_at_in(outcome: &mut Words<'_>) -> Option<PollAt> {
+    match outcome.next()? {
+        "Now" => Some(PollAt::Now),
+        "Ingress" => Some(PollAt::Ingress),
+        word => Some(PollAt::Time(moment(word)?)),
+    }
+}
+
+fn send_raw(socket: &mut raw::Socket<'_>, call: &mut Words<'_>) -> Option<()> {
+    let packet = frame(call.next()?)?;
+    socket.send((), packet.as_slice()).ok()
 }
 
 fn send_udp(socket: &mut udp::Socket<'_>, call: &mut Words<'_>) -> Option<()> {

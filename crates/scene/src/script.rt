@@ -39,21 +39,22 @@
 //! - `receive T FRAME` `= FRAME`, `none`: a frame is handed over, and this one is shown
 //! - `udp PORT`, `icmp IDENT`, `raw PROTOCOL`, `tcp PORT` ..: a socket: see `kinds`
 
+ghost use Rattle.std.specs.Prelude.{IfSome};
 ghost use Rattle.host_machine.specs.Interface.Step.{IsTimely};
 
 use crate::frames::{Octets, frame};
 use crate::scene_host::{ETHERNET, Host, IP, OWN};
 use crate::words::{
-    Words, address_v6, any_address, count, hardware, medium, moment, networks, number, octet,
-    routes, wide,
+    Words, address_v6, any_address, count, hardware, is_ok, medium, moment, networks, number,
+    octet, routes, wide,
 };
 use arrayvec::ArrayVec;
 use host_machine::TimeoutError;
 use iface_tables::Phase;
 use iface_tables::route::{Route, RouteTableFull};
 use interface::{
-    AddrError, Answer, Command, HardwareError, MulticastError, NewError, PollIngressSingleResult,
-    PollResult,
+    AddrError, Answer, Command, HardwareError, Interface, MulticastError, NewError,
+    PollIngressSingleResult, PollResult,
 };
 use ip_wire::{HardwareAddress, IpAddress};
 use net_base::phy::{ChecksumCapabilities, Device, DeviceCapabilities};
@@ -128,173 +129,116 @@ impl Host {
         let mut outcome = outcome.split_whitespace();
         let sent = self.device.sent().len();
         let refusals = self.device.refusals();
+        let is_right = self.comes(&mut call, &mut outcome)?;
+        let is_refused = self.was_refused(refusals);
+        Some(is_right && self.sends(sent, is_refused, &mut outcome)?)
+    }
+
+    // Makes a call, and says whether its answer is the one told. `None` if it isn't a call.
+    fn comes(&mut self, call: &mut Words<'_>, outcome: &mut Words<'_>) -> Option<bool> {
         let word = call.next()?;
-        let is_right = self.calls(word, &mut call, &mut outcome)?;
-        if call.next().is_some() {
-            return None;
+        let is_right = self.calls(word, call, outcome)?;
+        match call.next() {
+            None => Some(is_right),
+            Some(_) => None,
         }
+    }
+
+    // Whether the device refused leave as it was told to, since there were so many refusals.
+    fn was_refused(&mut self, refusals: u64) -> bool {
         let is_refused = self.refusing && self.device.refusals() != refusals;
         if is_refused {
             self.refusing = false;
         }
-        Some(is_right && self.sends(sent, is_refused, &mut outcome)?)
+        is_refused
     }
 
     // Whether the rest of the outcome tells of the refused leave and of the frames sent, and no more.
     fn sends(&self, before: usize, is_refused: bool, outcome: &mut Words<'_>) -> Option<bool> {
-        let mut word = outcome.next();
-        if is_refused {
-            if word != Some("refused") {
-                return Some(false);
-            }
-            word = outcome.next();
+        if is_refused && outcome.next() != Some("refused") {
+            return Some(false);
         }
-        let sent = self.device.sent().get(before..)?;
-        match word {
-            None => return Some(sent.is_empty()),
-            Some("tx") => {}
-            Some(_) => return Some(false),
-        }
-        for octets in sent {
-            let Some(word) = outcome.next() else {
-                return Some(false);
-            };
-            if octets.as_slice() != frame(word)?.as_slice() {
-                return Some(false);
-            }
-        }
-        Some(outcome.next().is_none())
+        are_told(self.device.sent().get(before..)?, outcome)
     }
 
-    // A call by its word.
+    // A call by its word: a command, or something else.
     fn calls(&mut self, word: &str, call: &mut Words<'_>, outcome: &mut Words<'_>) -> Option<bool> {
-        match word {
-            "host" => self.is_made(call, outcome),
-            "addr" => self.asks(Command::UpdateIpAddrs(networks(call)?), outcome),
-            "addr?" => Some(self.interface.ip_addrs() == networks(outcome)?.as_slice()),
-            "own?" => {
-                let addr = any_address(call.next()?)?;
-                Some(is_told(self.interface.has_ip_addr(&addr), outcome.next()?))
-            }
-            "member?" => {
-                let addr = any_address(call.next()?)?;
-                let is_member = self.interface.has_multicast_group(&addr);
-                Some(is_told(is_member, outcome.next()?))
-            }
-            "solicited?" => {
-                let group = address_v6(call.next()?)?;
-                let is_own = self.interface.context().has_solicited_node(&group);
-                Some(is_told(is_own, outcome.next()?))
-            }
-            "source?" => {
-                let dst_addr = address_v6(call.next()?)?;
-                let source = self.interface.get_source_address_ipv6(&dst_addr);
-                Some(source == address_v6(outcome.next()?)?)
-            }
-            "join" => self.asks(
-                Command::JoinMulticastGroup(any_address(call.next()?)?),
-                outcome,
-            ),
-            "leave" => self.asks(
-                Command::LeaveMulticastGroup(any_address(call.next()?)?),
-                outcome,
-            ),
-            "anyip" => self.asks(Command::SetAnyIp(true), outcome),
-            "hardware" => self.asks(Command::SetHardwareAddr(hardware(call.next()?)?), outcome),
-            "hardware?" => self.is_at(outcome.next()?),
-            "routes" => self.asks(Command::UpdateRoutes(routes(call)?), outcome),
-            "routes?" => { Some(self.interface.routes().as_slice() == routes(outcome)?.as_slice()) }
-            "gw" => self.adds_default(call.next()?, outcome.next()?),
-            "ungw" => self.removes_default(outcome.next()?),
-            "ungw6" => self.removes_default_v6(outcome.next()?),
-            "timeout" => {
-                let timeout = Duration::from_micros(wide(call.next()?)?);
-                self.asks(Command::SetReassemblyTimeout(timeout), outcome)
-            }
-            "timeout?" => {
-                let timeout = Duration::from_micros(wide(outcome.next()?)?);
-                Some(self.interface.reassembly_timeout() == timeout)
-            }
-            _ => self.learns(word, call, outcome),
+        if let Some(command) = setting_in(word, call) {
+            return self.asks(command, outcome);
         }
+        if let Some(command) = polling_in(word, call) {
+            return self.asks(command, outcome);
+        }
+        self.changes(word, call, outcome)
     }
 
-    // The same for what is learnt from routers.
-    fn learns(
+    // A call by its word that makes a host anew, or changes its default routes, or asks what is due.
+    fn changes(
         &mut self,
         word: &str,
         call: &mut Words<'_>,
         outcome: &mut Words<'_>,
     ) -> Option<bool> {
         match word {
-            "slaac" => {
-                let made = match call.next() {
-                    Some("ip") => Host::with_slaac(self.alloc, HardwareAddress::Ip, IP),
-                    Some(word) => Host::with_slaac(
-                        self.alloc,
-                        OWN,
-                        DeviceCapabilities {
-                            max_transmission_unit: count(word)?,
-                            ..ETHERNET
-                        },
-                    ),
-                    None => Host::with_slaac(self.alloc, OWN, ETHERNET),
-                };
-                *self = made.ok()?;
-                is_ok(outcome)
-            }
-            "phase?" => {
-                let slaac = self.interface.context().slaac();
-                let is_so = phase_text(slaac.phase()) == outcome.next()?;
-                Some(is_so && slaac.num_solicitations() == octet(outcome.next()?)?)
-            }
-            "slaac_at" => {
-                let timestamp = moment(call.next()?)?;
-                let instant = instant(outcome.next()?)?;
-                Some(self.interface.context().slaac().poll_at(timestamp) == instant)
-            }
-            "synced?" => Some(self.interface.slaac_updated_at() == moment(outcome.next()?)?),
-            _ => self.polls(word, call, outcome),
+            "host" => self.is_made(call, outcome),
+            "slaac" => self.is_made_anew(call, outcome),
+            "gw" => self.adds_default(call, outcome),
+            "ungw" => self.removes_default(outcome),
+            "ungw6" => self.removes_default_v6(outcome),
+            "at" => self.is_due_at(call, outcome),
+            "delay" => self.is_due_in(call, outcome),
+            "receive" => self.shows(call, outcome),
+            _ => self.at_device(word, call, outcome),
         }
     }
 
-    // The same for frames and moments.
-    fn polls(&mut self, word: &str, call: &mut Words<'_>, outcome: &mut Words<'_>) -> Option<bool> {
+    // The same for the device.
+    fn at_device(
+        &mut self,
+        word: &str,
+        call: &mut Words<'_>,
+        outcome: &mut Words<'_>,
+    ) -> Option<bool> {
         match word {
-            "rx" => {
-                self.queue(frames(call)?.as_slice())?;
-                is_ok(outcome)
-            }
-            "rx?" => Some(self.device.queued() == count(outcome.next()?)?),
-            "begins" => {
-                self.takes_beginnings(frame(call.next()?)?.as_slice())?;
-                is_ok(outcome)
-            }
-            "refuse" => {
-                let given = match call.next() {
-                    Some(word) => count(word)?,
-                    None => 0,
-                };
-                self.refuse_after(given)?;
-                is_ok(outcome)
-            }
-            "ingress" => self.asks(Command::PollIngressSingle(moment(call.next()?)?), outcome),
-            "egress" => self.asks(Command::PollEgress(moment(call.next()?)?), outcome),
-            "poll" => {
-                let timestamp = moment(call.next()?)?;
-                let budget = count(call.next()?)?;
-                self.asks(Command::Poll(timestamp, budget), outcome)
-            }
-            "maintain" => self.asks(Command::PollMaintenance(moment(call.next()?)?), outcome),
-            "at" => self.is_due_at(call.next()?, outcome.next()?),
-            "delay" => self.is_due_in(call.next()?, outcome.next()?),
-            "receive" => self.shows(call, outcome.next()?),
+            "rx" => self.hears_of(call, outcome),
+            "rx?" => self.has_queued(outcome),
+            "begins" => self.takes_beginnings(call, outcome),
+            "refuse" => self.will_refuse(call, outcome),
             _ => self.at_sockets(word, call, outcome),
         }
     }
 
+    // A frame arrives: those that are left, one behind the other.
+    fn hears_of(&mut self, call: &mut Words<'_>, outcome: &mut Words<'_>) -> Option<bool> {
+        let frame = frames(call)?;
+        self.queue(frame.as_slice())?;
+        is_ok(outcome)
+    }
+
+    // Whether so many frames wait.
+    fn has_queued(&self, outcome: &mut Words<'_>) -> Option<bool> {
+        Some(self.device.queued() == count(outcome.next()?)?)
+    }
+
+    // The device will refuse a question for leave.
+    fn will_refuse(&mut self, call: &mut Words<'_>, outcome: &mut Words<'_>) -> Option<bool> {
+        let given = match call.next() {
+            Some(word) => count(word)?,
+            None => 0,
+        };
+        self.refuse_after(given)?;
+        is_ok(outcome)
+    }
+
     // Each proper beginning of a frame arrives and is taken. `None` if one isn't.
-    fn takes_beginnings(&mut self, octets: &[u8]) -> Option<()> {
+    fn takes_beginnings(&mut self, call: &mut Words<'_>, outcome: &mut Words<'_>) -> Option<bool> {
+        let frame = frame(call.next()?)?;
+        self.takes_each(frame.as_slice())?;
+        is_ok(outcome)
+    }
+
+    // The same, by the frame's octets.
+    fn takes_each(&mut self, octets: &[u8]) -> Option<()> {
         for len in 1..octets.len() {
             self.takes(octets.get(..len)?)?;
         }
@@ -321,16 +265,7 @@ impl Host {
     // A host is made, or it is said why it isn't.
     fn is_made(&mut self, call: &mut Words<'_>, outcome: &mut Words<'_>) -> Option<bool> {
         let hardware_addr = hardware(call.next()?)?;
-        let capabilities = DeviceCapabilities {
-            medium: medium(call.next()?)?,
-            max_transmission_unit: count(call.next()?)?,
-            max_burst_size: match call.next() {
-                Some("max") => Some(usize::MAX),
-                Some(word) => Some(count(word)?),
-                None => None,
-            },
-            checksum: ChecksumCapabilities::ALL,
-        };
+        let capabilities = capabilities_in(call)?;
         let word = outcome.next()?;
         match Host::new(self.alloc, hardware_addr, capabilities) {
             Ok(host) => {
@@ -341,22 +276,18 @@ impl Host {
         }
     }
 
-    // Whether it has this hardware address.
-    fn is_at(&self, word: &str) -> Option<bool> {
-        let addr = self.interface.hardware_addr();
-        if word == "none" {
-            return Some(addr.is_none());
-        }
-        Some(addr == Some(hardware(word)?))
+    // A host is made that takes addresses from routers.
+    fn is_made_anew(&mut self, call: &mut Words<'_>, outcome: &mut Words<'_>) -> Option<bool> {
+        let (hardware_addr, capabilities) = slaac_link_in(call)?;
+        *self = Host::with_slaac(self.alloc, hardware_addr, capabilities).ok()?;
+        is_ok(outcome)
     }
 
-    // It gets a default route, in place of the one by the router that the word says.
-    fn adds_default(&mut self, router: &str, word: &str) -> Option<bool> {
-        let old = match word {
-            "RouteTableFull" => Err(RouteTableFull),
-            _ => Ok(default_by(word)?),
-        };
-        match any_address(router)? {
+    // It gets a default route, in place of the one by the router that the outcome tells.
+    fn adds_default(&mut self, call: &mut Words<'_>, outcome: &mut Words<'_>) -> Option<bool> {
+        let router = any_address(call.next()?)?;
+        let old = replaced_in(outcome)?;
+        match router {
             IpAddress::Ipv4(router) => {
                 let answer = self.run(Command::AddDefaultIpv4Route(router));
                 Some(answer == Answer::AddDefaultIpv4Route(old))
@@ -368,48 +299,273 @@ impl Host {
         }
     }
 
-    // It loses its default route, the one by the router that the word says.
-    fn removes_default(&mut self, word: &str) -> Option<bool> {
-        let old = default_by(word)?;
+    // It loses its default route, the one by the router that the outcome tells.
+    fn removes_default(&mut self, outcome: &mut Words<'_>) -> Option<bool> {
+        let old = default_by(outcome.next()?)?;
         let answer = self.run(Command::RemoveDefaultIpv4Route);
         Some(answer == Answer::RemoveDefaultIpv4Route(old))
     }
 
     // The same of IPv6.
-    fn removes_default_v6(&mut self, word: &str) -> Option<bool> {
-        let old = default_by(word)?;
+    fn removes_default_v6(&mut self, outcome: &mut Words<'_>) -> Option<bool> {
+        let old = default_by(outcome.next()?)?;
         let answer = self.run(Command::RemoveDefaultIpv6Route);
         Some(answer == Answer::RemoveDefaultIpv6Route(old))
     }
 
-    // Whether it has to be polled again at the instant that the word says.
-    fn is_due_at(&mut self, timestamp: &str, word: &str) -> Option<bool> {
-        let instant = instant(word)?;
-        let answer = self.run(Command::PollAt(moment(timestamp)?));
+    // Whether it has to be polled again at the instant that the outcome tells.
+    fn is_due_at(&mut self, call: &mut Words<'_>, outcome: &mut Words<'_>) -> Option<bool> {
+        let timestamp = moment(call.next()?)?;
+        let instant = instant(outcome.next()?)?;
+        let answer = self.run(Command::PollAt(timestamp));
         Some(answer == Answer::PollAt(instant))
     }
 
     // Whether that is in so many microseconds.
-    fn is_due_in(&mut self, timestamp: &str, word: &str) -> Option<bool> {
-        let delay = match word {
-            "none" => None,
-            _ => Some(Duration::from_micros(u64::from(number(word)?))),
-        };
-        let answer = self.run(Command::PollDelay(moment(timestamp)?));
+    fn is_due_in(&mut self, call: &mut Words<'_>, outcome: &mut Words<'_>) -> Option<bool> {
+        let timestamp = moment(call.next()?)?;
+        let delay = delay(outcome.next()?)?;
+        let answer = self.run(Command::PollDelay(timestamp));
         Some(answer == Answer::PollDelay(delay))
     }
 
-    // Whether the word's frame is shown in response to the one handed over.
-    fn shows(&mut self, call: &mut Words<'_>, word: &str) -> Option<bool> {
+    // Whether the outcome's frame is shown in response to the one handed over.
+    fn shows(&mut self, call: &mut Words<'_>, outcome: &mut Words<'_>) -> Option<bool> {
         let timestamp = moment(call.next()?)?;
         let handed_over = frame(call.next()?)?;
         let shown = self
             .interface
             .receive_frame(timestamp, handed_over.as_slice(), &mut self.sockets);
-        match shown {
-            None => Some(word == "none"),
-            Some(octets) => Some(word != "none" && octets == frame(word)?.as_slice()),
+        is_shown(shown, outcome.next()?)
+    }
+}
+
+// A command that sets something, by its word.
+fn setting_in(word: &str, call: &mut Words<'_>) -> Option<Command>
+    ensures { IfSome result IsTimely }
+{
+    match word {
+        "addr" => Some(Command::UpdateIpAddrs(networks(call)?)),
+        "join" => Some(Command::JoinMulticastGroup(any_address(call.next()?)?)),
+        "leave" => Some(Command::LeaveMulticastGroup(any_address(call.next()?)?)),
+        "anyip" => Some(Command::SetAnyIp(true)),
+        "hardware" => Some(Command::SetHardwareAddr(hardware(call.next()?)?)),
+        "routes" => Some(Command::UpdateRoutes(routes(call)?)),
+        "timeout" => Some(Command::SetReassemblyTimeout(span_in(call)?)),
+        _ => None,
+    }
+}
+
+// A command that polls, by its word.
+fn polling_in(word: &str, call: &mut Words<'_>) -> Option<Command>
+    ensures { IfSome result IsTimely }
+{
+    match word {
+        "ingress" => Some(Command::PollIngressSingle(moment(call.next()?)?)),
+        "egress" => Some(Command::PollEgress(moment(call.next()?)?)),
+        "maintain" => Some(Command::PollMaintenance(moment(call.next()?)?)),
+        "poll" => Some(Command::Poll(moment(call.next()?)?, count(call.next()?)?)),
+        _ => None,
+    }
+}
+
+// A span in microseconds.
+fn span_in(words: &mut Words<'_>) -> Option<Duration> {
+    Some(Duration::from_micros(wide(words.next()?)?))
+}
+
+// Whether the outcome tells what an interface has.
+pub(crate) fn tells(
+    interface: &mut Interface,
+    word: &str,
+    call: &mut Words<'_>,
+    outcome: &mut Words<'_>,
+) -> Option<bool> {
+    match word {
+        "own?" => is_own(interface, call, outcome),
+        "member?" => is_member(interface, call, outcome),
+        "solicited?" => is_solicited(interface, call, outcome),
+        "source?" => sends_from(interface, call, outcome),
+        "addr?" => has_addrs(interface, outcome),
+        "routes?" => has_routes(interface, outcome),
+        "hardware?" => is_at(interface, outcome),
+        _ => tells_of_time(interface, word, call, outcome),
+    }
+}
+
+// The same of spans and instants, and of what is learnt from routers.
+fn tells_of_time(
+    interface: &mut Interface,
+    word: &str,
+    call: &mut Words<'_>,
+    outcome: &mut Words<'_>,
+) -> Option<bool> {
+    match word {
+        "timeout?" => Some(interface.reassembly_timeout() == span_in(outcome)?),
+        "phase?" => is_in_phase(interface, outcome),
+        "slaac_at" => is_due_of_slaac(interface, call, outcome),
+        "synced?" => Some(interface.slaac_updated_at() == moment(outcome.next()?)?),
+        _ => None,
+    }
+}
+
+// Whether it takes an address for its own.
+fn is_own(interface: &Interface, call: &mut Words<'_>, outcome: &mut Words<'_>) -> Option<bool> {
+    let addr = any_address(call.next()?)?;
+    Some(is_told(interface.has_ip_addr(&addr), outcome.next()?))
+}
+
+// Whether it is a member of a group.
+fn is_member(interface: &Interface, call: &mut Words<'_>, outcome: &mut Words<'_>) -> Option<bool> {
+    let addr = any_address(call.next()?)?;
+    Some(is_told(interface.has_multicast_group(&addr), outcome.next()?))
+}
+
+// Whether a group is the solicited-node group of one of its addresses.
+fn is_solicited(
+    interface: &mut Interface,
+    call: &mut Words<'_>,
+    outcome: &mut Words<'_>,
+) -> Option<bool> {
+    let group = address_v6(call.next()?)?;
+    let is_own = interface.context().has_solicited_node(&group);
+    Some(is_told(is_own, outcome.next()?))
+}
+
+// Whether it sends from an address to a destination.
+fn sends_from(
+    interface: &Interface,
+    call: &mut Words<'_>,
+    outcome: &mut Words<'_>,
+) -> Option<bool> {
+    let dst_addr = address_v6(call.next()?)?;
+    let source = interface.get_source_address_ipv6(&dst_addr);
+    Some(source == address_v6(outcome.next()?)?)
+}
+
+// Whether it has these addresses.
+fn has_addrs(interface: &Interface, outcome: &mut Words<'_>) -> Option<bool> {
+    let addrs = networks(outcome)?;
+    Some(interface.ip_addrs() == addrs.as_slice())
+}
+
+// Whether it has these routes.
+fn has_routes(interface: &Interface, outcome: &mut Words<'_>) -> Option<bool> {
+    let list = routes(outcome)?;
+    Some(interface.routes().as_slice() == list.as_slice())
+}
+
+// Whether it has this hardware address.
+fn is_at(interface: &Interface, outcome: &mut Words<'_>) -> Option<bool> {
+    let addr = interface.hardware_addr();
+    match outcome.next()? {
+        "none" => Some(addr.is_none()),
+        word => Some(addr == Some(hardware(word)?)),
+    }
+}
+
+// Whether its search for routers is so far, and so many solicitations may still go.
+fn is_in_phase(interface: &mut Interface, outcome: &mut Words<'_>) -> Option<bool> {
+    let slaac = interface.context().slaac();
+    let is_so = phase_text(slaac.phase()) == outcome.next()?;
+    Some(is_so && slaac.num_solicitations() == octet(outcome.next()?)?)
+}
+
+// Whether something is to be done of what it learnt from routers at the instant that the outcome tells.
+fn is_due_of_slaac(
+    interface: &mut Interface,
+    call: &mut Words<'_>,
+    outcome: &mut Words<'_>,
+) -> Option<bool> {
+    let timestamp = moment(call.next()?)?;
+    let instant = instant(outcome.next()?)?;
+    Some(interface.context().slaac().poll_at(timestamp) == instant)
+}
+
+// What a device can do, by its medium, its MTU and maybe its burst.
+fn capabilities_in(call: &mut Words<'_>) -> Option<DeviceCapabilities> {
+    Some(DeviceCapabilities {
+        medium: medium(call.next()?)?,
+        max_transmission_unit: count(call.next()?)?,
+        max_burst_size: burst_in(call)?,
+        checksum: ChecksumCapabilities::ALL,
+    })
+}
+
+// A burst, if there is one.
+fn burst_in(call: &mut Words<'_>) -> Option<Option<usize>> {
+    match call.next() {
+        Some("max") => Some(Some(usize::MAX)),
+        Some(word) => Some(Some(count(word)?)),
+        None => Some(None),
+    }
+}
+
+// The hardware address and the device of a host that takes addresses from routers.
+fn slaac_link_in(call: &mut Words<'_>) -> Option<(HardwareAddress, DeviceCapabilities)> {
+    match call.next() {
+        Some("ip") => Some((HardwareAddress::Ip, IP)),
+        Some(word) => Some((OWN, ethernet_of(count(word)?))),
+        None => Some((OWN, ETHERNET)),
+    }
+}
+
+// An Ethernet device for frames of up to so many octets.
+fn ethernet_of(max_transmission_unit: usize) -> DeviceCapabilities {
+    DeviceCapabilities {
+        max_transmission_unit,
+        ..ETHERNET
+    }
+}
+
+// Whether these frames were sent, and no more.
+fn are_told(sent: &[Vec<u8>], outcome: &mut Words<'_>) -> Option<bool> {
+    match outcome.next() {
+        None => Some(sent.is_empty()),
+        Some("tx") => are_frames(sent, outcome),
+        Some(_) => Some(false),
+    }
+}
+
+// Whether the frames are those that the rest of the outcome names.
+fn are_frames(sent: &[Vec<u8>], outcome: &mut Words<'_>) -> Option<bool> {
+    for octets in sent {
+        if !is_frame(octets, outcome.next())? {
+            return Some(false);
         }
+    }
+    Some(outcome.next().is_none())
+}
+
+// Whether a frame is the one that a word names, if there is a word.
+fn is_frame(octets: &[u8], word: Option<&str>) -> Option<bool> {
+    match word {
+        Some(word) => Some(octets == frame(word)?.as_slice()),
+        None => Some(false),
+    }
+}
+
+// Whether the frame shown is the one that a word names.
+fn is_shown(shown: Option<&[u8]>, word: &str) -> Option<bool> {
+    match shown {
+        None => Some(word == "none"),
+        Some(octets) => Some(word != "none" && octets == frame(word)?.as_slice()),
+    }
+}
+
+// The route that another one replaces, or that it can't.
+fn replaced_in(outcome: &mut Words<'_>) -> Option<Result<Option<Route>, RouteTableFull>> {
+    match outcome.next()? {
+        "RouteTableFull" => Some(Err(RouteTableFull)),
+        word => Some(Ok(default_by(word)?)),
+    }
+}
+
+// A span, or `none`.
+fn delay(word: &str) -> Option<Option<Duration>> {
+    match word {
+        "none" => Some(None),
+        _ => Some(Some(Duration::from_micros(u64::from(number(word)?)))),
     }
 }
 
@@ -429,11 +585,6 @@ fn phase_text(phase: Phase) -> &'static str {
         Phase::Maintaining => "maintaining",
         Phase::None => "none",
     }
-}
-
-// Whether nothing but `ok` is to come of it.
-fn is_ok(outcome: &mut Words<'_>) -> Option<bool> {
-    Some(outcome.next()? == "ok")
 }
 
 // Whether an answer is the one that the word says.

@@ -181,3 +181,8 @@ pub fn end(addr: &str, port: &str) -> Option<IpEndpoint>
     }
     Some(IpEndpoint { addr, port })
 }
+
+/// Whether nothing but `ok` is to come of a call.
+pub fn is_ok(outcome: &mut Words<'_>) -> Option<bool> {
+    Some(outcome.next()? == "ok")
+}

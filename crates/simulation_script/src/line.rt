@@ -7,7 +7,7 @@ use crate::script::{
 use crate::words::Words;
 use anyhow::{Context, Result, bail};
 use arrayvec::ArrayVec;
-use ip_wire::{EthernetAddress, IpAddress, IpCidr, Ipv4Address, Ipv4Cidr};
+use ip_wire::{EthernetAddress, IpAddress, IpCidr, Ipv4Address, Ipv4Cidr, Ipv6Cidr};
 use sockets::IpEndpoint;
 use std::alloc::Global;
 
@@ -56,59 +56,79 @@ fn read_line(alloc: Global, script: &mut Script, line: &str) -> Result<()> {
         return Ok(());
     }
     let word = words.word()?;
+    read_statement(alloc, script, word, &mut words)?;
+    words.end()
+}
+
+/// Reads what follows the first word of a line.
+fn read_statement(
+    alloc: Global,
+    script: &mut Script,
+    word: &str,
+    words: &mut Words<'_>,
+) -> Result<()> {
     match word {
-        "seed" | "until" | "patience" => read_setting(script, word, &mut words)?,
-        "loss" | "repeat" | "reorder" | "delay" | "change" => {
-            read_treatment(script, word, &mut words)?;
-        }
-        "rate" => read_rate(script, &mut words)?,
-        "down" => read_outage(script, &mut words)?,
-        "chart" => read_section(script, &mut words)?,
-        "host" => read_host(alloc, script, &mut words)?,
-        "hosts" => read_hosts(alloc, script, &mut words)?,
-        "addr" | "gateway" | "join" | "udp" => read_part(script, word, &mut words)?,
-        "echo" => read_echo(script, &mut words)?,
-        "router" => read_router(script, &mut words)?,
-        "send" => read_flow(script, &mut words)?,
-        "ping" => read_ping(script, &mut words)?,
-        "listen" => read_listener(script, &mut words)?,
-        "stream" => read_stream(script, &mut words)?,
-        "raw" => read_packet(alloc, script, &mut words)?,
-        "frame" => read_frame(alloc, script, &mut words)?,
-        "leave" => read_leave(script, &mut words)?,
+        "seed" | "until" | "patience" => read_setting(script, word, words),
+        "loss" | "repeat" | "reorder" | "delay" | "change" => read_treatment(script, word, words),
+        "rate" => read_rate(script, words),
+        "down" => read_outage(script, words),
+        "chart" => read_section(script, words),
+        "router" => read_router(script, words),
+        "frame" => read_frame(alloc, script, words),
+        "leave" => read_leave(script, words),
+        _ => read_statement_of_host(alloc, script, word, words),
+    }
+}
+
+/// Reads a host, a part of one, or what one sends.
+fn read_statement_of_host(
+    alloc: Global,
+    script: &mut Script,
+    word: &str,
+    words: &mut Words<'_>,
+) -> Result<()> {
+    match word {
+        "host" => read_host(alloc, script, words),
+        "hosts" => read_hosts(alloc, script, words),
+        "addr" | "gateway" | "join" | "udp" | "echo" => read_part(script, word, words),
+        "send" => read_flow(script, words),
+        "ping" => read_ping(script, words),
+        "listen" => read_listener(script, words),
+        "stream" => read_stream(script, words),
+        "raw" => read_packet(alloc, script, words),
         _ => bail!("{word} is no word of scripts"),
     }
-    words.end()
 }
 
 /// Reads what a setting is.
 fn read_setting(script: &mut Script, word: &str, words: &mut Words<'_>) -> Result<()> {
+    let most = if word == "seed" { u64::MAX } else { LATEST };
+    let number = words.number(most)?;
     match word {
-        "seed" => script.seed = words.number(u64::MAX)?,
-        "patience" => script.patience = Some(words.number(LATEST)?),
-        _ => script.until = words.number(LATEST)?,
+        "seed" => script.seed = number,
+        "patience" => script.patience = Some(number),
+        _ => script.until = number,
     }
     Ok(())
 }
 
 /// Reads how copies are treated: all, or those to the host that is named.
 fn read_treatment(script: &mut Script, word: &str, words: &mut Words<'_>) -> Result<()> {
-    let first = words.number(if word == "delay" { LATEST } else { 1000 })?;
-    let second = match word {
-        "delay" | "reorder" => words.number(LATEST)?,
-        _ => 0,
-    };
-    if words.is_empty() {
-        treat(&mut script.treatment, word, first, second);
-        return Ok(());
-    }
-    let number = host_in(script, words)?;
-    let mut treatment = script.treatment_of(number);
+    let (first, second) = treatment_numbers_in(word, words)?;
+    let host = last_host_in(script, words)?;
+    let mut treatment = script.treatment_of(host);
     treat(&mut treatment, word, first, second);
-    if let Some(host) = script.hosts.get_mut(number) {
-        host.treatment = Some(treatment);
-    }
+    script.set_treatment(host, treatment);
     Ok(())
+}
+
+/// The two numbers of a part of a treatment, of which the second is 0 where the part has one.
+fn treatment_numbers_in(word: &str, words: &mut Words<'_>) -> Result<(u64, u64)> {
+    match word {
+        "delay" => Ok((words.number(LATEST)?, words.number(LATEST)?)),
+        "reorder" => Ok((words.number(1000)?, words.number(LATEST)?)),
+        _ => Ok((words.number(1000)?, 0)),
+    }
 }
 
 /// Changes one part of a treatment.
@@ -130,32 +150,40 @@ fn treat(treatment: &mut Treatment, word: &str, first: u64, second: u64) {
 
 /// Reads how fast frames leave all hosts, or the host that is named.
 fn read_rate(script: &mut Script, words: &mut Words<'_>) -> Result<()> {
+    let rate = rate_in(words)?;
+    let host = last_host_in(script, words)?;
+    script.set_rate(host, rate);
+    Ok(())
+}
+
+/// A rate, and how many frames may wait.
+fn rate_in(words: &mut Words<'_>) -> Result<Rate> {
     let kilobits = words.number(MAX_KILOBITS)?;
     if kilobits == 0 {
         bail!("0 is no rate");
     }
     let frames = words.number(MAX_WAITING)?;
-    let rate = Some(Rate { kilobits, frames });
-    if words.is_empty() {
-        script.rate = rate;
-        return Ok(());
-    }
-    let number = host_in(script, words)?;
-    if let Some(host) = script.hosts.get_mut(number) {
-        host.rate = rate;
-    }
-    Ok(())
+    Ok(Rate { kilobits, frames })
 }
 
 /// Reads when a host is cut off.
 fn read_outage(script: &mut Script, words: &mut Words<'_>) -> Result<()> {
-    let number = host_in(script, words)?;
-    let from = words.number(LATEST)?;
-    let until = words.number(LATEST)?;
-    let Some(host) = script.hosts.get_mut(number) else {
-        bail!("no host");
-    };
-    if host.outages.try_push(Outage { from, until }).is_err() {
+    let host = host_in(script, words)?;
+    let outage = outage_in(words)?;
+    expect_room(script.add_outage(host, outage))
+}
+
+/// When an outage begins, and when it has ended.
+fn outage_in(words: &mut Words<'_>) -> Result<Outage> {
+    Ok(Outage {
+        from: words.number(LATEST)?,
+        until: words.number(LATEST)?,
+    })
+}
+
+/// Fails unless a host had room for one more of something.
+fn expect_room(has_room: bool) -> Result<()> {
+    if !has_room {
         bail!("too many of these at one host");
     }
     Ok(())
@@ -163,8 +191,22 @@ fn read_outage(script: &mut Script, words: &mut Words<'_>) -> Result<()> {
 
 /// Reads what a chart shows.
 fn read_section(script: &mut Script, words: &mut Words<'_>) -> Result<()> {
-    let from = words.number(LATEST)?;
-    let until = words.number(LATEST)?;
+    let section = section_in(script, words)?;
+    script.section = Some(section);
+    Ok(())
+}
+
+/// From when on, until when, and which hosts a chart shows.
+fn section_in(script: &Script, words: &mut Words<'_>) -> Result<Section> {
+    Ok(Section {
+        from: words.number(LATEST)?,
+        until: words.number(LATEST)?,
+        hosts: columns_in(script, words)?,
+    })
+}
+
+/// The numbers of the hosts that the words left name.
+fn columns_in(script: &Script, words: &mut Words<'_>) -> Result<ArrayVec<usize, MAX_COLUMNS>> {
     let mut hosts = ArrayVec::new();
     for _ in 0..=MAX_COLUMNS {
         if words.is_empty() {
@@ -174,8 +216,7 @@ fn read_section(script: &mut Script, words: &mut Words<'_>) -> Result<()> {
             bail!("too many hosts");
         }
     }
-    script.section = Some(Section { from, until, hosts });
-    Ok(())
+    Ok(hosts)
 }
 
 /// A host with this name, without addresses.
@@ -202,16 +243,20 @@ fn read_host(alloc: Global, script: &mut Script, words: &mut Words<'_>) -> Resul
     if script.host_named(name).is_some() {
         bail!("{name} is a host already");
     }
-    let mut slaac = false;
-    if !words.is_empty() {
-        if words.word()? != "slaac" {
-            bail!("only slaac may follow");
-        }
-        slaac = true;
-    }
+    let slaac = may_follow(words, "slaac")?;
     let name = String::from_str(alloc, name)?;
-    script.hosts.push(host_line(name, hardware_addr, slaac))?;
-    Ok(())
+    script.add_host(host_line(name, hardware_addr, slaac))
+}
+
+/// Whether a word follows. Fails if there is another one.
+fn may_follow(words: &mut Words<'_>, last: &str) -> Result<bool> {
+    if words.is_empty() {
+        return Ok(false);
+    }
+    if words.word()? != last {
+        bail!("only {last} may follow");
+    }
+    Ok(true)
 }
 
 /// Reads many hosts: their number, the address of the first with its prefix, and the port of their sockets. Addresses
@@ -224,16 +269,21 @@ fn read_hosts(alloc: Global, script: &mut Script, words: &mut Words<'_>) -> Resu
     let port = port_in(words)?;
     let mut bits = first.address.bits;
     for i in 0..count {
-        let [a, b, c, d] = bits.to_be_bytes();
         let name = format!(in alloc; "h{}", i.saturating_add(1))?;
-        let mut host = host_line(name, EthernetAddress([2, 0, a, b, c, d]), false);
         let address = Ipv4Cidr::new(Ipv4Address { bits }, first.prefix_len);
-        let _ = host.addresses.try_push(IpCidr::Ipv4(address));
-        let _ = host.ports.try_push(port);
-        script.hosts.push(host)?;
+        script.add_host(numbered_host(name, address, port))?;
         bits = bits.wrapping_add(1);
     }
     Ok(())
+}
+
+/// A host with this name, one address, from which its Ethernet address follows, and a socket at a port.
+fn numbered_host(name: String, address: Ipv4Cidr, port: u16) -> HostLine {
+    let [a, b, c, d] = address.address.bits.to_be_bytes();
+    let mut host = host_line(name, EthernetAddress([2, 0, a, b, c, d]), false);
+    let _ = host.addresses.try_push(IpCidr::Ipv4(address));
+    let _ = host.ports.try_push(port);
+    host
 }
 
 /// The number of the host that the next word names.
@@ -245,55 +295,96 @@ fn host_in(script: &Script, words: &mut Words<'_>) -> Result<usize> {
     }
 }
 
+/// The number of the host that the last word names; `None` if no word is left.
+fn last_host_in(script: &Script, words: &mut Words<'_>) -> Result<Option<usize>> {
+    if words.is_empty() {
+        return Ok(None);
+    }
+    Ok(Some(host_in(script, words)?))
+}
+
 /// Reads an address, a router, a group or a port of a host.
 fn read_part(script: &mut Script, word: &str, words: &mut Words<'_>) -> Result<()> {
     let number = host_in(script, words)?;
-    let Some(host) = script.hosts.get_mut(number) else {
-        bail!("no host");
-    };
-    let has_room = match word {
-        "addr" => host.addresses.try_push(words.network()?).is_ok(),
-        "gateway" => host.gateways.try_push(words.address()?).is_ok(),
-        "join" => host.groups.try_push(words.address()?).is_ok(),
-        _ => host.ports.try_push(port_in(words)?).is_ok(),
-    };
-    if !has_room {
-        bail!("too many of these at one host");
+    match script.hosts.get_mut(number) {
+        Some(host) => read_part_of(host, word, words),
+        None => bail!("no host"),
     }
-    Ok(())
 }
 
-/// Reads a socket that sends back what it receives.
-fn read_echo(script: &mut Script, words: &mut Words<'_>) -> Result<()> {
-    let number = host_in(script, words)?;
-    let port = port_in(words)?;
-    let Some(host) = script.hosts.get_mut(number) else {
-        bail!("no host");
-    };
-    if host.ports.try_push(port).is_err() || host.echoes.try_push(port).is_err() {
-        bail!("too many of these at one host");
+/// Reads a part of a host, by the word before it.
+fn read_part_of(host: &mut HostLine, word: &str, words: &mut Words<'_>) -> Result<()> {
+    match word {
+        "addr" => read_address(host, words),
+        "gateway" => read_gateway(host, words),
+        "join" => read_group(host, words),
+        "echo" => read_echo(host, words),
+        _ => read_port(host, words),
     }
-    Ok(())
+}
+
+/// Reads an address of a host, with its network.
+fn read_address(host: &mut HostLine, words: &mut Words<'_>) -> Result<()> {
+    let address = words.network()?;
+    expect_room(host.addresses.try_push(address).is_ok())
+}
+
+/// Reads the router of a default route.
+fn read_gateway(host: &mut HostLine, words: &mut Words<'_>) -> Result<()> {
+    let gateway = words.address()?;
+    expect_room(host.gateways.try_push(gateway).is_ok())
+}
+
+/// Reads a group that a host joins.
+fn read_group(host: &mut HostLine, words: &mut Words<'_>) -> Result<()> {
+    let group = words.address()?;
+    expect_room(host.groups.try_push(group).is_ok())
+}
+
+/// Reads the port of a socket.
+fn read_port(host: &mut HostLine, words: &mut Words<'_>) -> Result<()> {
+    let port = port_in(words)?;
+    expect_room(host.ports.try_push(port).is_ok())
+}
+
+/// Reads the port of a socket that sends back what it receives.
+fn read_echo(host: &mut HostLine, words: &mut Words<'_>) -> Result<()> {
+    let port = port_in(words)?;
+    let has_room = host.ports.try_push(port).is_ok() && host.echoes.try_push(port).is_ok();
+    expect_room(has_room)
 }
 
 /// Reads a router.
 fn read_router(script: &mut Script, words: &mut Words<'_>) -> Result<()> {
-    let host = host_in(script, words)?;
-    let IpCidr::Ipv6(prefix) = words.network()? else {
-        bail!("only IPv6");
-    };
-    let lifetime = u16::try_from(words.number(MAX_LIFETIME)?)?;
-    let every = words.number(LATEST)?;
-    if every == 0 {
-        bail!("0 is no time between advertisements");
-    }
-    script.routers.push(Router {
-        host,
-        prefix,
-        lifetime,
-        every,
-    })?;
+    let router = router_in(script, words)?;
+    script.routers.push(router)?;
     Ok(())
+}
+
+/// The host of a router, its prefix, its lifetime, and how often it advertises.
+fn router_in(script: &Script, words: &mut Words<'_>) -> Result<Router> {
+    Ok(Router {
+        host: host_in(script, words)?,
+        prefix: prefix_in(words)?,
+        lifetime: u16::try_from(words.number(MAX_LIFETIME)?)?,
+        every: interval_in(words)?,
+    })
+}
+
+/// A prefix of IPv6.
+fn prefix_in(words: &mut Words<'_>) -> Result<Ipv6Cidr> {
+    match words.network()? {
+        IpCidr::Ipv6(prefix) => Ok(prefix),
+        IpCidr::Ipv4(_) => bail!("only IPv6"),
+    }
+}
+
+/// A time between advertisements, other than 0.
+fn interval_in(words: &mut Words<'_>) -> Result<u64> {
+    match words.number(LATEST)? {
+        0 => bail!("0 is no time between advertisements"),
+        every => Ok(every),
+    }
 }
 
 /// A port other than 0.
@@ -306,33 +397,47 @@ fn port_in(words: &mut Words<'_>) -> Result<u16> {
 
 /// Reads traffic.
 fn read_flow(script: &mut Script, words: &mut Words<'_>) -> Result<()> {
+    let flow = flow_in(script, words)?;
+    script.flows.push(flow)?;
+    Ok(())
+}
+
+/// From which host and port datagrams go where, how long they are, how many, and when.
+fn flow_in(script: &Script, words: &mut Words<'_>) -> Result<Flow> {
     let host = host_in(script, words)?;
+    Ok(Flow {
+        host,
+        port: open_port_in(script, host, words)?,
+        remote: endpoint_in(words)?,
+        size: size_in(words)?,
+        pace: pace_in(words, u64::MAX)?,
+    })
+}
+
+/// The port of a socket of a host.
+fn open_port_in(script: &Script, host: usize, words: &mut Words<'_>) -> Result<u16> {
     let port = port_in(words)?;
-    let has_socket = script
-        .hosts
-        .get(host)
-        .is_some_and(|line| line.ports.as_slice().contains(&port));
-    if !has_socket {
+    if !script.has_socket(host, port) {
         bail!("the host has no socket at {port}");
     }
-    let addr = words.address()?;
-    let remote = IpEndpoint {
-        addr,
+    Ok(port)
+}
+
+/// An address, and a port other than 0.
+fn endpoint_in(words: &mut Words<'_>) -> Result<IpEndpoint> {
+    Ok(IpEndpoint {
+        addr: words.address()?,
         port: port_in(words)?,
-    };
+    })
+}
+
+/// The length of a payload.
+fn size_in(words: &mut Words<'_>) -> Result<usize> {
     let size = words.number(MAX_PAYLOAD)? as usize;
     if size < 8 {
         bail!("a payload has 8 octets or more");
     }
-    let flow = Flow {
-        host,
-        port,
-        remote,
-        size,
-        pace: pace_in(words, u64::MAX)?,
-    };
-    script.flows.push(flow)?;
-    Ok(())
+    Ok(size)
 }
 
 /// Reads how many of something are sent, at most so many, and when.
@@ -341,69 +446,75 @@ fn pace_in(words: &mut Words<'_>, most: u64) -> Result<Pace> {
         count: words.number(most)?,
         start: words.number(LATEST)?,
         every: words.number(LATEST)?,
-        is_random: is_random(words)?,
+        is_random: may_follow(words, "random")?,
     })
-}
-
-/// Whether the word `random` follows.
-fn is_random(words: &mut Words<'_>) -> Result<bool> {
-    if words.is_empty() {
-        return Ok(false);
-    }
-    if words.word()? != "random" {
-        bail!("only random may follow");
-    }
-    Ok(true)
 }
 
 /// Reads echo requests.
 fn read_ping(script: &mut Script, words: &mut Words<'_>) -> Result<()> {
-    let ping = Ping {
-        host: host_in(script, words)?,
-        remote: words.address()?,
-        pace: pace_in(words, MAX_PINGS)?,
-    };
+    let ping = ping_in(script, words)?;
     script.pings.push(ping)?;
     Ok(())
 }
 
+/// From which host echo requests go where, how many, and when.
+fn ping_in(script: &Script, words: &mut Words<'_>) -> Result<Ping> {
+    Ok(Ping {
+        host: host_in(script, words)?,
+        remote: words.address()?,
+        pace: pace_in(words, MAX_PINGS)?,
+    })
+}
+
 /// Reads a port at which a host accepts connections.
 fn read_listener(script: &mut Script, words: &mut Words<'_>) -> Result<()> {
+    let listener = listener_in(script, words)?;
+    script.listeners.push(listener)?;
+    Ok(())
+}
+
+/// A host, and a port of it at which it doesn't listen yet.
+fn listener_in(script: &Script, words: &mut Words<'_>) -> Result<Listener> {
     let host = host_in(script, words)?;
     let port = port_in(words)?;
     if script.listens(host, port) {
         bail!("the host listens at {port} already");
     }
-    script.listeners.push(Listener { host, port })?;
-    Ok(())
+    Ok(Listener { host, port })
 }
 
 /// Reads a connection by which a host sends.
 fn read_stream(script: &mut Script, words: &mut Words<'_>) -> Result<()> {
+    let stream = stream_in(script, words)?;
+    if script.streams.len() >= MAX_STREAMS {
+        bail!("too many streams");
+    }
+    script.streams.push(stream)?;
+    Ok(())
+}
+
+/// From which host a stream goes where, how many octets it has, and when it begins.
+fn stream_in(script: &Script, words: &mut Words<'_>) -> Result<Stream> {
     let host = host_in(script, words)?;
     let addr = words.address()?;
-    let own = script
-        .hosts
-        .get(host)
-        .and_then(|line| line.address_for(&addr));
-    let Some(local) = own else {
-        bail!("the host has no address from which {addr} is reached");
-    };
-    let stream = Stream {
+    Ok(Stream {
         host,
-        local,
+        local: own_address_for(script, host, addr)?,
         remote: IpEndpoint {
             addr,
             port: port_in(words)?,
         },
         octets: words.number(MAX_OCTETS)?,
         start: words.number(LATEST)?,
-    };
-    if script.streams.len() >= MAX_STREAMS {
-        bail!("too many streams");
+    })
+}
+
+/// The address from which a host connects to another one.
+fn own_address_for(script: &Script, host: usize, addr: IpAddress) -> Result<IpAddress> {
+    match script.address_for(host, &addr) {
+        Some(own) => Ok(own),
+        None => bail!("the host has no address from which {addr} is reached"),
     }
-    script.streams.push(stream)?;
-    Ok(())
 }
 
 /// The octets of the next word, in hex digits.
@@ -413,30 +524,50 @@ fn octets_in(alloc: Global, words: &mut Words<'_>) -> Result<Vec<u8>> {
 
 /// Reads a packet of a raw socket.
 fn read_packet(alloc: Global, script: &mut Script, words: &mut Words<'_>) -> Result<()> {
-    let host = host_in(script, words)?;
-    let at = words.number(LATEST)?;
-    let octets = octets_in(alloc, words)?;
-    script.packets.push(RawPacket { host, at, octets })?;
+    let packet = packet_in(alloc, script, words)?;
+    script.packets.push(packet)?;
     Ok(())
+}
+
+/// From which host a packet goes, when, and its octets.
+fn packet_in(alloc: Global, script: &Script, words: &mut Words<'_>) -> Result<RawPacket> {
+    Ok(RawPacket {
+        host: host_in(script, words)?,
+        at: words.number(LATEST)?,
+        octets: octets_in(alloc, words)?,
+    })
 }
 
 /// Reads a frame from outside.
 fn read_frame(alloc: Global, script: &mut Script, words: &mut Words<'_>) -> Result<()> {
+    let frame = frame_in(alloc, words)?;
+    script.frames.push(frame)?;
+    Ok(())
+}
+
+/// When a frame from outside arrives, and its octets.
+fn frame_in(alloc: Global, words: &mut Words<'_>) -> Result<OutsideFrame> {
     let at = Some(words.number(LATEST)?);
     let octets = octets_in(alloc, words)?;
     if octets.len() < 14 || octets.len() > 1514 {
         bail!("a frame has 14 to 1514 octets");
     }
     let from = None;
-    script.frames.push(OutsideFrame { at, from, octets })?;
-    Ok(())
+    Ok(OutsideFrame { at, from, octets })
 }
 
 /// Reads that a host leaves a group.
 fn read_leave(script: &mut Script, words: &mut Words<'_>) -> Result<()> {
-    let host = host_in(script, words)?;
-    let at = words.number(LATEST)?;
-    let group = words.address()?;
-    script.leaves.push(Leave { host, at, group })?;
+    let leave = leave_in(script, words)?;
+    script.leaves.push(leave)?;
     Ok(())
+}
+
+/// Which host leaves a group, and when.
+fn leave_in(script: &Script, words: &mut Words<'_>) -> Result<Leave> {
+    Ok(Leave {
+        host: host_in(script, words)?,
+        at: words.number(LATEST)?,
+        group: words.address()?,
+    })
 }

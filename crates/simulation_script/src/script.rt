@@ -1,5 +1,6 @@
 //! What a script says.
 
+use anyhow::Result;
 use arrayvec::ArrayVec;
 use ip_wire::{EthernetAddress, IpAddress, IpCidr, Ipv6Cidr};
 use sockets::IpEndpoint;
@@ -101,10 +102,16 @@ impl HostLine {
     /// The address from which it connects to another one: the first whose network has that, or else the first of its
     /// family. `None` if it has none of that family.
     pub fn address_for(&self, remote: &IpAddress) -> Option<IpAddress> {
-        let addresses = self.addresses.as_slice();
-        let near = addresses.iter().find(|own| own.contains_addr(remote));
-        let found = near.or_else(|| addresses.iter().find(|own| is_same_family(own, remote)));
-        Some(found?.address())
+        let mut found = None;
+        for own in self.addresses.as_slice() {
+            if own.contains_addr(remote) {
+                return Some(own.address());
+            }
+            if found.is_none() && is_same_family(own, remote) {
+                found = Some(own.address());
+            }
+        }
+        found
     }
 }
 
@@ -308,39 +315,128 @@ impl Script {
         }
     }
 
-    /// How copies of frames to a host are treated.
-    pub fn treatment_of(&self, host: usize) -> Treatment {
-        let own = self.hosts.get(host).and_then(|line| line.treatment);
-        own.unwrap_or(self.treatment)
+    /// How copies of frames to a host are treated; without a host, to those of which nothing else is said.
+    pub fn treatment_of(&self, host: Option<usize>) -> Treatment {
+        match self.line(host) {
+            Some(line) => line.treatment.unwrap_or(self.treatment),
+            None => self.treatment,
+        }
     }
 
     /// How fast frames leave a host; `None`: at once.
     pub fn rate_of(&self, host: usize) -> Option<Rate> {
-        let own = self.hosts.get(host).and_then(|line| line.rate);
-        own.or(self.rate)
+        match self.hosts.get(host) {
+            Some(line) => line.rate.or(self.rate),
+            None => self.rate,
+        }
+    }
+
+    /// The address from which a host connects to another one, if it has one of its family.
+    pub fn address_for(&self, host: usize, remote: &IpAddress) -> Option<IpAddress> {
+        self.hosts.get(host)?.address_for(remote)
+    }
+
+    /// Whether a host has a UDP socket at a port.
+    pub fn has_socket(&self, host: usize, port: u16) -> bool {
+        match self.hosts.get(host) {
+            Some(line) => line.ports.as_slice().contains(&port),
+            None => false,
+        }
     }
 
     /// Whether a host accepts connections at a port.
     pub fn listens(&self, host: usize, port: u16) -> bool {
-        self.listeners
-            .iter()
-            .any(|line| line.host == host && line.port == port)
+        for listener in self.listeners.as_slice() {
+            if listener.host == host && listener.port == port {
+                return true;
+            }
+        }
+        false
     }
 
     /// Whether a host listens at a port at least, or sends a stream.
     pub fn has_connections(&self, host: usize) -> bool {
-        self.listeners.iter().any(|line| line.host == host)
-            || self.streams.iter().any(|line| line.host == host)
+        self.has_listener(host) || self.has_stream(host)
+    }
+
+    /// Whether a host listens at a port at least.
+    fn has_listener(&self, host: usize) -> bool {
+        for listener in self.listeners.as_slice() {
+            if listener.host == host {
+                return true;
+            }
+        }
+        false
+    }
+
+    /// Whether a host sends a stream.
+    fn has_stream(&self, host: usize) -> bool {
+        for stream in self.streams.as_slice() {
+            if stream.host == host {
+                return true;
+            }
+        }
+        false
     }
 
     /// Whether a host is cut off from the link at a time.
     pub fn is_cut_off(&self, host: usize, time: u64) -> bool {
-        let Some(line) = self.hosts.get(host) else {
-            return false;
-        };
-        let outages = line.outages.as_slice();
-        outages
-            .iter()
-            .any(|outage| outage.from <= time && time < outage.until)
+        match self.hosts.get(host) {
+            Some(line) => is_within(line.outages.as_slice(), time),
+            None => false,
+        }
     }
+
+    /// The line of a host, if there is one.
+    fn line(&self, host: Option<usize>) -> Option<&HostLine> {
+        self.hosts.get(host?)
+    }
+
+    /// Adds a host. Fails if the memory is refused.
+    pub(crate) fn add_host(&mut self, line: HostLine) -> Result<()> {
+        self.hosts.push(line)?;
+        Ok(())
+    }
+
+    /// Sets how copies to a host, or to all others, are treated.
+    pub(crate) fn set_treatment(&mut self, host: Option<usize>, treatment: Treatment) {
+        match host {
+            None => self.treatment = treatment,
+            Some(number) => {
+                if let Some(line) = self.hosts.get_mut(number) {
+                    line.treatment = Some(treatment);
+                }
+            }
+        }
+    }
+
+    /// Sets how fast frames leave a host, or all others.
+    pub(crate) fn set_rate(&mut self, host: Option<usize>, rate: Rate) {
+        match host {
+            None => self.rate = Some(rate),
+            Some(number) => {
+                if let Some(line) = self.hosts.get_mut(number) {
+                    line.rate = Some(rate);
+                }
+            }
+        }
+    }
+
+    /// Adds a time for which a host is cut off, and returns whether there was room for it.
+    pub(crate) fn add_outage(&mut self, host: usize, outage: Outage) -> bool {
+        match self.hosts.get_mut(host) {
+            Some(line) => line.outages.try_push(outage).is_ok(),
+            None => false,
+        }
+    }
+}
+
+/// Whether a time is within one of several outages.
+fn is_within(outages: &[Outage], time: u64) -> bool {
+    for outage in outages {
+        if outage.from <= time && time < outage.until {
+            return true;
+        }
+    }
+    false
 }

@@ -70,26 +70,19 @@ impl Connections {
         line: &HostLine,
         sockets: &mut SocketSet<'static>,
     ) -> Result<Connections> {
-        let mut own = Vec::new(alloc);
-        own.extend_from_slice(line.addresses.as_slice())?;
-        let places = places_for(script, number);
-        let mut host = TcpHost::new(alloc, places, &config_of(number))?;
-        let mut listeners = Vec::new(alloc);
-        for listener in script.listeners.iter() {
-            if listener.host == number {
-                listeners.push(host.listen(alloc, listener.port, None, places)?)?;
-            }
-        }
-        let v4 = pair(alloc, sockets, IpVersion::Ipv4)?;
-        let v6 = pair(alloc, sockets, IpVersion::Ipv6)?;
+        let tcp = tcp_over(alloc, sockets)?;
+        let own = Vec::from_slice(alloc, line.addresses.as_slice())?;
+        let senders = senders_of(alloc, script, number)?;
+        let piece = Vec::from_elem(alloc, 0, PIECE)?;
+        let (host, listeners) = host_of(alloc, script, number)?;
         Ok(Connections {
             host,
-            tcp: TcpSockets::new(Some(v4), Some(v6), Checksum::Both),
+            tcp,
             own,
             listeners,
-            senders: senders_of(alloc, script, number)?,
+            senders,
             receivers: Vec::new(alloc),
-            piece: Vec::from_elem(alloc, 0, PIECE)?,
+            piece,
         })
     }
 
@@ -120,14 +113,7 @@ impl Connections {
     fn accept(&mut self) -> Result<()> {
         for i in 0..self.listeners.len() {
             let listener = self.listeners[i];
-            for _ in 0..u16::MAX {
-                let Some(handle) = self.host.accept(listener) else {
-                    break;
-                };
-                if let Some(endpoints) = self.host.endpoints(handle) {
-                    self.receivers.push(Receiver::new(handle, endpoints))?;
-                }
-            }
+            accept_at(listener, &mut self.host, &mut self.receivers)?;
         }
         Ok(())
     }
@@ -152,6 +138,44 @@ pub fn earlier(one: Option<u64>, other: Option<u64>) -> Option<u64>
         (one, None) => one,
         (None, other) => other,
     }
+}
+
+/// Accepts the connections that wait at a listener.
+fn accept_at(listener: usize, host: &mut TcpHost, receivers: &mut Vec<Receiver>) -> Result<()> {
+    for _ in 0..u16::MAX {
+        let Some(handle) = host.accept(listener) else {
+            break;
+        };
+        if let Some(endpoints) = host.endpoints(handle) {
+            receivers.push(Receiver::new(handle, endpoints))?;
+        }
+    }
+    Ok(())
+}
+
+/// The connections of the host of this number, and its listeners.
+fn host_of(alloc: Global, script: &Script, number: usize) -> Result<(TcpHost, Vec<usize>)> {
+    let places = places_for(script, number);
+    let mut host = TcpHost::new(alloc, places, &config_of(number))?;
+    let listeners = listeners_of(alloc, script, number, &mut host)?;
+    Ok((host, listeners))
+}
+
+/// Has a host listen at the ports of a script, and returns its listeners.
+fn listeners_of(
+    alloc: Global,
+    script: &Script,
+    number: usize,
+    host: &mut TcpHost,
+) -> Result<Vec<usize>> {
+    let places = places_for(script, number);
+    let mut listeners = Vec::new(alloc);
+    for listener in script.listeners.iter() {
+        if listener.host == number {
+            listeners.push(host.listen(alloc, listener.port, None, places)?)?;
+        }
+    }
+    Ok(listeners)
 }
 
 /// The senders of the streams of a host.
@@ -200,12 +224,20 @@ fn config_of(number: usize) -> Config
     }
 }
 
+/// Adds the raw sockets of both families.
+fn tcp_over(alloc: Global, sockets: &mut SocketSet<'static>) -> Result<TcpSockets> {
+    let v4 = pair(alloc, sockets, IpVersion::Ipv4)?;
+    let v6 = pair(alloc, sockets, IpVersion::Ipv6)?;
+    Ok(TcpSockets::new(Some(v4), Some(v6), Checksum::Both))
+}
+
 /// Adds the two raw sockets of a family.
 fn pair(alloc: Global, sockets: &mut SocketSet<'static>, version: IpVersion) -> Result<SocketPair> {
     let near = near_socket(alloc, version, PACKETS, PACKET_ROOM)?;
+    let near = sockets.add(near)?;
     let far = far_socket(alloc, version, FAR_ROOM)?;
     Ok(SocketPair {
-        near: sockets.add(near)?,
+        near,
         far: sockets.add(far)?,
     })
 }

@@ -6,7 +6,7 @@ ghost use Rattle.simulation_streams.specs.Transmitted as spec;
 use crate::sender::{FIRST_PORT, ends_of};
 use anyhow::Result;
 use ip_wire::{EthernetProtocol, EthernetRepr, IpAddress, IpCidr, IpVersion, Ipv4Cidr, Ipv6Cidr};
-use simulation_script::script::Script;
+use simulation_script::script::{Script, Stream};
 use std::alloc::Global;
 use tcp_connection::segment::Segment;
 use tcp_host::iss::Endpoints;
@@ -95,6 +95,16 @@ struct Seen {
 }
 
 impl Seen {
+    /// A stream of this number, of which nothing was sent.
+    fn new(stream: &Stream, number: usize) -> Seen {
+        Seen {
+            from: stream.host,
+            ends: reversed(&ends_of(stream, number)),
+            octets: stream.octets,
+            transmitted: Transmitted::NONE,
+        }
+    }
+
     /// The place of the octet with a number, if it is known: that of the SYN was seen.
     fn place_of(&self, number: u32) -> Option<u64> {
         let sent = self.transmitted;
@@ -151,30 +161,23 @@ pub struct Transmissions {
 }
 
 impl Transmissions {
-    /// Nothing was sent yet. Fails if the memory is refused.
-    pub fn new(alloc: Global, script: &Script) -> Result<Transmissions> {
-        let mut streams = Vec::new(alloc);
-        let mut remotes = Vec::new(alloc);
-        let mut locals = Vec::new(alloc);
-        for (i, stream) in script.streams.iter().enumerate() {
-            streams.push(Seen {
-                from: stream.host,
-                ends: reversed(&ends_of(stream, i)),
-                octets: stream.octets,
-                transmitted: Transmitted::NONE,
-            })?;
-            if !is_own(&stream.remote.addr, &remotes) {
-                remotes.push(alone(&stream.remote.addr))?;
-            }
-            if !is_own(&stream.local, &locals) {
-                locals.push(alone(&stream.local))?;
-            }
+    /// Nothing is seen yet.
+    pub fn new(alloc: Global) -> Transmissions {
+        Transmissions {
+            streams: Vec::new(alloc),
+            remotes: Vec::new(alloc),
+            locals: Vec::new(alloc),
         }
-        Ok(Transmissions {
-            streams,
-            remotes,
-            locals,
-        })
+    }
+
+    /// The streams of a script are seen from now on. Fails if the memory is refused.
+    pub fn add_streams(&mut self, script: &Script) -> Result<()> {
+        for (i, stream) in script.streams.iter().enumerate() {
+            self.streams.push(Seen::new(stream, i))?;
+            add_address(&mut self.remotes, &stream.remote.addr)?;
+            add_address(&mut self.locals, &stream.local)?;
+        }
+        Ok(())
     }
 
     /// A host sends a frame: if it has a segment of one of its streams, that is counted.
@@ -238,6 +241,14 @@ fn segment_in<'f>(frame: &'f [u8], remotes: &[IpCidr]) -> Option<Arrival<'f>>
         _ => return None,
     };
     arrival_in(packet, version, remotes, false)
+}
+
+/// Adds an address to a list, unless it is there.
+fn add_address(addresses: &mut Vec<IpCidr>, address: &IpAddress) -> Result<()> {
+    if !is_own(address, addresses) {
+        addresses.push(alone(address))?;
+    }
+    Ok(())
 }
 
 /// An address as a network of its own.

@@ -15,14 +15,19 @@ use std::alloc::Global;
 use std::io::{BufRead, BufReader, BufWriter, Write};
 
 fn main(rt: HostRuntime) -> Result<()> {
-    let alloc = rt.alloc();
     let limits = Limits::of_arguments(&rt)?;
+    let mut host = LineHost::new(rt.alloc(), &limits)?;
+    let mut echo = Echo::new(rt.alloc(), &limits, &mut host.streams)?;
+    serve(&rt, &mut host, &mut echo)
+}
+
+/// Takes the lines of standard input, one after another.
+fn serve(rt: &HostRuntime, host: &mut LineHost, echo: &mut Echo) -> Result<()> {
+    let alloc = rt.alloc();
     let mut output = BufWriter::new(alloc, rt.stdout())?;
     let input = BufReader::new(alloc, rt.reader())?;
-    let mut host = LineHost::new(alloc, &limits)?;
-    let mut echo = Echo::new(alloc, &limits, &mut host.streams)?;
     for text in input.lines(alloc) {
-        take_line(alloc, text?.as_str(), &mut host, &mut echo, &mut output)?;
+        take_line(alloc, text?.as_str(), host, echo, &mut output)?;
     }
     Ok(())
 }

@@ -3,6 +3,9 @@ use net_base::phy::{ChecksumCapabilities, DeviceCapabilities, Driver, FRAME_BUFF
 use net_base::time::Instant;
 use std::alloc::{AllocError, Global};
 
+/// The number of descriptors in each ring.
+pub const RING: usize = 4;
+
 /// Room for a frame, and the frame's length.
 #[derive(Drop)]
 struct Descriptor {
@@ -75,6 +78,16 @@ impl Ring {
 pub struct Card {
     pub received: Ring,
     pub to_send: Ring,
+}
+
+impl Card {
+    /// A card with empty rings. Fails if memory for them is refused.
+    pub fn new(alloc: Global) -> Result<Card, AllocError> {
+        Ok(Card {
+            received: Ring::new(alloc, RING)?,
+            to_send: Ring::new(alloc, RING)?,
+        })
+    }
 }
 
 impl Driver for Card {
