@@ -531,8 +531,8 @@ fn payload_of(alloc: Global, flow: u32, number: u32, size: usize) -> Result<Vec<
 
 /// Writes the payload of a flow's datagram.
 fn fill(payload: &mut [u8], flow: u32, number: u32) {
-    for i in 0..payload.len() {
-        payload[i] = octet_of(flow, number, i);
+    for (i, octet) in payload.iter_mut().enumerate() {
+        *octet = octet_of(flow, number, i);
     }
     if let Some(front) = payload.get_mut(..8) {
         front.copy_from_slice(&name_of(flow, number));

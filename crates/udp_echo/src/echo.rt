@@ -19,9 +19,6 @@ const BUDGET: usize = 1;
 /// How long a datagram waits for a neighbour that doesn't answer: three requests, a second apart (RFC 4861 10).
 const PATIENCE: Duration = Duration { micros: 3_000_000 };
 
-/// A program with a clock would ask it.
-const NOW: Instant = Instant::ZERO;
-
 /// A host that sends back what comes to its socket.
 #[derive(Drop)]
 pub struct Echo {
@@ -46,9 +43,11 @@ impl Echo {
         alloc: Global,
         device: &mut D,
     ) -> Result<()> {
-        self.round(NOW, device);
+        // A program with a clock would ask it here.
+        let now = Instant::ZERO;
+        self.round(now, device);
         self.service.send_back(rt, alloc)?;
-        self.round(NOW, device);
+        self.round(now, device);
         self.service.tell_given_up(rt)
     }
 
