@@ -1,27 +1,10 @@
-//! Tests of DHCP and DNS.
+//! Tests of `dhcp_client` and of `dns_client`: their messages as octets, what a client does with them in time, and the
+//! sockets that they go through.
 #![tactic(auto)]
 
 #[cfg(test)]
-mod datagrams;
+mod cases;
 #[cfg(test)]
-mod dhcp_sockets_tests;
+mod dhcp;
 #[cfg(test)]
-mod dns_client_tests;
-#[cfg(test)]
-mod dns_resolver_tests;
-#[cfg(test)]
-mod dns_wire_tests;
-#[cfg(test)]
-mod exchanges;
-#[cfg(test)]
-mod losses;
-#[cfg(test)]
-mod messages;
-#[cfg(test)]
-mod octets;
-#[cfg(test)]
-mod refused;
-#[cfg(test)]
-mod renewals;
-#[cfg(test)]
-mod servers;
+mod dns;

@@ -1,90 +1,105 @@
-use crate::frames::{icmpv6_of, ipv4_of};
+//! What the host answers, and how much of it goes.
+use crate::frames::{Change, Frame, Kind, at, octets_of};
 use guard::answers::{Answer, Answers, answer_of};
-use net_base::time::Instant;
 
-// A segment over IPv4 with these flags (RFC 9293 3.1).
-fn segment(flags: u8) -> [u8; 54] {
-    let mut frame = ipv4_of(6, 1, 1, 0);
-    frame[47] = flags;
-    frame
-}
+/// A segment over IPv4 with RST (RFC 9293 3.1), and one with SYN.
+const RESET: Frame = (Kind::Ipv4(6, 1, 1, 0), &[Change::Octets(47, &[0x14])]);
 
-// Each kind of answer is told by its octets, and nothing else is one.
-#[test]
-fn answers_are_told(rt: HostRuntime) {
-    let error = Some(Answer::Error);
-    let rows: [(&[u8], Option<Answer>); 11] = [
-        (&ipv4_of(1, 1, 1, 0), Some(Answer::EchoReply)),
-        (&icmpv6_of(129, 1, 0), Some(Answer::EchoReply)),
-        (&ipv4_of(1, 1, 1, 3), error),
-        (&ipv4_of(1, 1, 1, 12), error),
-        (&icmpv6_of(1, 1, 0), error),
-        (&icmpv6_of(4, 1, 0), error),
-        (&segment(0x14), Some(Answer::Reset)),
-        (&segment(0x12), None),
-        (&ipv4_of(1, 1, 1, 8), None),
-        (&ipv4_of(17, 1, 1, 0), None),
-        (&icmpv6_of(136, 1, 1), None),
-    ];
-    for (index, (frame, answer)) in rows.iter().enumerate() {
-        assert!(&rt; answer_of(frame) == *answer, "{index}");
-    }
-}
+const SYN: Frame = (Kind::Ipv4(6, 1, 1, 0), &[Change::Octets(47, &[0x12])]);
 
-// A frame at this many milliseconds, how long what it answers is, and as which answer it is held back.
-type Row<'a> = (u32, &'a [u8], usize, Option<Answer>);
+const ECHO_REPLY: Frame = (Kind::Ipv4(1, 1, 1, 0), &[]);
 
-// Judges answers one after the other, and gives the first row that says otherwise.
-fn first_wrong(answers: &mut Answers, rows: &[Row<'_>]) -> Option<usize> {
-    for (index, (millis, frame, len, held_back)) in rows.iter().enumerate() {
-        let now = Instant::from_micros(i64::from(*millis) * 1_000);
-        if answers.judge(now, frame, *len) != *held_back {
-            return Some(index);
+const ERROR: Frame = (Kind::Ipv4(1, 1, 1, 3), &[]);
+
+/// Each kind of answer is told by its octets, and nothing else is one.
+const KINDS: [(Frame, Option<Answer>); 11] = [
+    (ECHO_REPLY, Some(Answer::EchoReply)),
+    ((Kind::Icmpv6(129, 1, 0), &[]), Some(Answer::EchoReply)),
+    (ERROR, Some(Answer::Error)),
+    ((Kind::Ipv4(1, 1, 1, 12), &[]), Some(Answer::Error)),
+    ((Kind::Icmpv6(1, 1, 0), &[]), Some(Answer::Error)),
+    ((Kind::Icmpv6(4, 1, 0), &[]), Some(Answer::Error)),
+    (RESET, Some(Answer::Reset)),
+    (SYN, None),
+    ((Kind::Ipv4(1, 1, 1, 8), &[]), None),
+    ((Kind::Ipv4(17, 1, 1, 0), &[]), None),
+    ((Kind::Icmpv6(136, 1, 1), &[]), None),
+];
+
+/// The place of the first frame that is told otherwise.
+fn first_other() -> Option<usize> {
+    for (place, (frame, answer)) in KINDS.iter().enumerate() {
+        if answer_of(octets_of(frame).as_slice()) != *answer {
+            return Some(place);
         }
     }
     None
 }
 
-// Ten of a kind are sent at once, and one more each ten milliseconds; kinds have rates of their own.
+#[test]
+fn answers_are_told(rt: HostRuntime) {
+    assert!(rt; first_other().is_none());
+}
+
+/// A frame at this many milliseconds, how long what it answers is, and as which answer it is held back.
+type Row = (u32, Frame, usize, Option<Answer>);
+
+/// Judges answers one after the other, and gives the place of the first row that says otherwise.
+fn first_wrong(answers: &mut Answers, rows: &[Row]) -> Option<usize> {
+    for (place, (millis, frame, len, held_back)) in rows.iter().enumerate() {
+        if answers.judge(at(*millis), octets_of(frame).as_slice(), *len) != *held_back {
+            return Some(place);
+        }
+    }
+    None
+}
+
+/// Whether the rows are right so many times, one after the other.
+fn are_right(answers: &mut Answers, rows: &[Row], times: usize) -> bool {
+    for _ in 0..times {
+        if first_wrong(answers, rows).is_some() {
+            return false;
+        }
+    }
+    true
+}
+
+/// Ten of a kind are sent at once, and one more each ten milliseconds; kinds have rates of their own.
+const SENT: [Row; 1] = [(500, ERROR, 54, None)];
+
+const BEHIND_TEN: [Row; 6] = [
+    (500, (Kind::Icmpv6(1, 1, 0), &[]), 86, Some(Answer::Error)),
+    (500, ECHO_REPLY, 54, None),
+    (500, RESET, 54, None),
+    (509, ERROR, 54, Some(Answer::Error)),
+    (510, ERROR, 54, None),
+    (510, ERROR, 54, Some(Answer::Error)),
+];
+
 #[test]
 fn ten_errors_are_sent_at_once(rt: HostRuntime) {
     let mut answers = Answers::new();
-    let error = ipv4_of(1, 1, 1, 3);
-    for _ in 0..10 {
-        assert!(&rt;
-            answers
-                .judge(Instant::from_millis(500), &error, 54)
-                .is_none()
-        );
-    }
-    let rows: [Row<'_>; 6] = [
-        (500, &icmpv6_of(1, 1, 0), 86, Some(Answer::Error)),
-        (500, &ipv4_of(1, 1, 1, 0), 54, None),
-        (500, &segment(0x14), 54, None),
-        (509, &error, 54, Some(Answer::Error)),
-        (510, &error, 54, None),
-        (510, &error, 54, Some(Answer::Error)),
-    ];
-    assert_eq!(rt; first_wrong(&mut answers, &rows), None);
+    let are_sent = are_right(&mut answers, &SENT, 10);
+    assert!(rt; are_sent && first_wrong(&mut answers, &BEHIND_TEN).is_none());
 }
 
-// An error is at most three times as long as what it answers; one that is longer takes nothing of the rate. Echo replies and resets
-// may have any length.
+/// An error is at most three times as long as what it answers; one that is longer takes nothing of the rate.
+const TOO_LONG: [Row; 1] = [(500, ERROR, 17, Some(Answer::Error))];
+
+/// Echo replies and resets may have any length.
+const BEHIND_LONG_ONES: [Row; 3] = [
+    (500, ERROR, 18, None),
+    (500, ECHO_REPLY, 1, None),
+    (500, RESET, 1, None),
+];
+
+const UNBOUNDED: [Row; 1] = [(500, ERROR, 1, None)];
+
 #[test]
 fn long_errors_are_held_back(rt: HostRuntime) {
     let mut answers = Answers::new();
-    let error = ipv4_of(1, 1, 1, 3);
-    for _ in 0..20 {
-        let judged = answers.judge(Instant::from_millis(500), &error, 17);
-        assert!(&rt; judged == Some(Answer::Error));
-    }
-    let rows: [Row<'_>; 3] = [
-        (500, &error, 18, None),
-        (500, &ipv4_of(1, 1, 1, 0), 1, None),
-        (500, &segment(0x14), 1, None),
-    ];
-    let wrong = first_wrong(&mut answers, &rows);
+    let are_held_back = are_right(&mut answers, &TOO_LONG, 20)
+        && are_right(&mut answers, &BEHIND_LONG_ONES, 1);
     answers.longest_error = 0;
-    let unbounded = answers.judge(Instant::from_millis(500), &error, 1);
-    assert!(rt; wrong.is_none() && unbounded.is_none());
+    assert!(rt; are_held_back && first_wrong(&mut answers, &UNBOUNDED).is_none());
 }

@@ -1,7 +1,6 @@
-// Frames on Ethernet, by their octets, for a host with 192.168.1.1 and fe80::1.
+//! Frames on Ethernet, by their octets, for a host with 192.168.1.1 and fe80::1.
 
-ghost use Rattle.std.specs.Prelude.{◌+◌, ◌≤◌, length};
-
+use arrayvec::ArrayVec;
 use iface_tables::neighbor::Cache;
 use ip_wire::{
     EthernetAddress, HardwareAddress, IpAddress, IpCidr, Ipv4Address, Ipv4Cidr, Ipv6Address,
@@ -31,11 +30,86 @@ pub fn hardware() -> Option<HardwareAddress> {
     Some(HardwareAddress::Ethernet(EthernetAddress(HARDWARE)))
 }
 
-/// Puts six octets into a frame at an offset.
-pub fn put(frame: &mut [u8], at: usize, octets: [u8; 6])
-    requires { at + 6 ≤ length frame.old }
-{
-    frame[at..at + 6].copy_from_slice(&octets);
+/// A frame for the host, by what is particular in it.
+#[derive(Clone, Copy)]
+pub enum Kind {
+    /// [`arp_of`].
+    Arp(u8),
+    /// [`request_for`].
+    RequestFor(u8),
+    /// [`ipv4_of`].
+    Ipv4(u8, u8, u8, u8),
+    /// [`ports`].
+    Ports(u16, u16),
+    /// [`icmpv6_of`].
+    Icmpv6(u8, u8, u8),
+    /// [`icmpv6_behind_options`].
+    BehindOptions(u8, u8, u8),
+}
+
+/// What is otherwise in a frame.
+#[derive(Clone, Copy)]
+pub enum Change {
+    /// These octets stand at this place.
+    Octets(usize, &'static [u8]),
+    /// It has so many octets in all: those behind are cut off, or are 0.
+    Len(usize),
+}
+
+/// A frame, and what is otherwise in it.
+pub type Frame = (Kind, &'static [Change]);
+
+/// The octets of a frame, of which there are 94 at most.
+pub type Octets = ArrayVec<u8, 94>;
+
+/// The octets of a frame.
+pub fn octets_of(frame: &Frame) -> Octets {
+    let (kind, changes) = frame;
+    let mut octets = Octets::new();
+    let _ = match *kind {
+        Kind::Arp(last) => octets.try_extend_from_slice(&arp_of(last)),
+        Kind::RequestFor(last) => octets.try_extend_from_slice(&request_for(last)),
+        Kind::Ipv4(protocol, third, last, first) => {
+            octets.try_extend_from_slice(&ipv4_of(protocol, third, last, first))
+        }
+        Kind::Ports(from, to) => octets.try_extend_from_slice(&ports(from, to)),
+        Kind::Icmpv6(message, last, about) => {
+            octets.try_extend_from_slice(&icmpv6_of(message, last, about))
+        }
+        Kind::BehindOptions(message, last, about) => {
+            octets.try_extend_from_slice(&icmpv6_behind_options(message, last, about))
+        }
+    };
+    for change in *changes {
+        apply(&mut octets, change);
+    }
+    octets
+}
+
+fn apply(octets: &mut Octets, change: &Change) {
+    match *change {
+        Change::Octets(place, new) => put(octets.as_mut_slice(), place, new),
+        Change::Len(len) => {
+            octets.truncate(len);
+            for _ in octets.len()..len {
+                let _ = octets.try_push(0);
+            }
+        }
+    }
+}
+
+/// Puts octets at a place, as far as there is room.
+fn put(octets: &mut [u8], place: usize, new: &[u8]) {
+    for (offset, octet) in new.iter().enumerate() {
+        if let Some(there) = octets.get_mut(place.saturating_add(offset)) {
+            *there = *octet;
+        }
+    }
+}
+
+/// The moment this many milliseconds behind the origin.
+pub fn at(millis: u32) -> Instant {
+    Instant::from_micros(i64::from(millis) * 1_000)
 }
 
 /// A cache that knows 192.168.1.2 for a minute from the origin on.

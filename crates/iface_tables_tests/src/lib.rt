@@ -1,4 +1,4 @@
-//! Tests of tables, of fragments and of the guard.
+//! Tests of `iface_tables` (neighbours, routes, groups, and what is learnt from routers), of `fragmentation` and of `guard`.
 #![tactic(auto)]
 
 #[cfg(test)]

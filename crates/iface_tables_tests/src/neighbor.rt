@@ -1,9 +1,10 @@
+//! The cache of neighbours.
 use iface_tables::neighbor::{Answer, Cache};
 use ip_wire::{EthernetAddress, HardwareAddress, IpAddress, Ipv4Address, Ipv6Address};
 use net_base::time::Instant;
 use std::alloc::{AllocError, Global};
 
-// 10.0.0.1 to 10.0.0.4, and fe80::5.
+/// 10.0.0.1 to 10.0.0.4, and fe80::5.
 const FIRST: IpAddress = IpAddress::Ipv4(Ipv4Address { bits: 0x0a00_0001 });
 
 const SECOND: IpAddress = IpAddress::Ipv4(Ipv4Address { bits: 0x0a00_0002 });
@@ -20,61 +21,109 @@ const LINK_A: HardwareAddress = HardwareAddress::Ethernet(EthernetAddress([0, 0,
 
 const LINK_B: HardwareAddress = HardwareAddress::Ethernet(EthernetAddress([0, 0, 0, 0, 0, 2]));
 
-#[test]
-fn a_neighbor_is_known_until_its_end(rt: HostRuntime) {
-    let mut cache = Cache::new();
+fn is_known_until_its_end(cache: &mut Cache) -> bool {
     let was_unknown = cache.lookup(&FIRST, Instant::ZERO) == Answer::NotFound;
     cache.fill(FIRST, LINK_A, Instant::ZERO);
-    let is_known = cache.lookup(&FIRST, Instant::ZERO) == Answer::Found(LINK_A)
-        && cache.lookup(&FIRST, Instant::from_secs(120)) == Answer::NotFound;
-    assert!(rt; was_unknown && is_known);
+    was_unknown
+        && cache.lookup(&FIRST, Instant::ZERO) == Answer::Found(LINK_A)
+        && cache.lookup(&FIRST, Instant::from_secs(120)) == Answer::NotFound
+}
+
+#[test]
+fn a_neighbor_is_known_until_its_end(rt: HostRuntime) {
+    assert!(rt; is_known_until_its_end(&mut Cache::new()));
+}
+
+fn is_replaced(cache: &mut Cache) -> bool {
+    cache.fill(FIRST, LINK_A, Instant::ZERO);
+    cache.fill(FIRST, LINK_B, Instant::ZERO);
+    cache.lookup(&FIRST, Instant::ZERO) == Answer::Found(LINK_B)
+        && cache.nth_by_expiry(0).is_some()
+        && cache.nth_by_expiry(1).is_none()
 }
 
 #[test]
 fn a_neighbor_is_replaced(rt: HostRuntime) {
-    let mut cache = Cache::new();
-    cache.fill(FIRST, LINK_A, Instant::ZERO);
-    cache.fill(FIRST, LINK_B, Instant::ZERO);
-    let is_replaced = cache.lookup(&FIRST, Instant::ZERO) == Answer::Found(LINK_B);
-    let is_one = cache.nth_by_expiry(0).is_some() && cache.nth_by_expiry(1).is_none();
-    assert!(rt; is_replaced && is_one);
+    assert!(rt; is_replaced(&mut Cache::new()));
 }
 
-#[test]
-fn one_of_least_end_makes_room(rt: HostRuntime) {
-    let mut cache = Cache::new();
+/// What a cache answers at a second, of the five neighbours.
+fn answers(cache: &Cache) -> [Answer; 5] {
+    let second = Instant::from_secs(1);
+    [
+        cache.lookup(&FIRST, second),
+        cache.lookup(&SECOND, second),
+        cache.lookup(&THIRD, second),
+        cache.lookup(&FOURTH, second),
+        cache.lookup(&FIFTH, second),
+    ]
+}
+
+/// Learns four neighbours, of whom the second one ends first.
+fn learn_four(cache: &mut Cache) {
     cache.fill(FIRST, LINK_A, Instant::from_millis(100));
     cache.fill(SECOND, LINK_A, Instant::from_millis(50));
     cache.fill(THIRD, LINK_A, Instant::from_millis(200));
     cache.fill(FOURTH, LINK_A, Instant::from_millis(250));
+}
+
+/// The second one, or the first one, isn't known.
+const WITHOUT_SECOND: [Answer; 5] = [
+    Answer::Found(LINK_A),
+    Answer::NotFound,
+    Answer::Found(LINK_A),
+    Answer::Found(LINK_A),
+    Answer::Found(LINK_B),
+];
+
+const WITHOUT_FIRST: [Answer; 5] = [
+    Answer::NotFound,
+    Answer::Found(LINK_A),
+    Answer::Found(LINK_A),
+    Answer::Found(LINK_A),
+    Answer::Found(LINK_B),
+];
+
+fn makes_room(cache: &mut Cache) -> bool {
+    learn_four(cache);
     cache.fill(FIFTH, LINK_B, Instant::from_millis(300));
-    let second = Instant::from_secs(1);
-    let is_right = cache.lookup(&FIRST, second) == Answer::Found(LINK_A)
-        && cache.lookup(&SECOND, second) == Answer::NotFound
-        && cache.lookup(&THIRD, second) == Answer::Found(LINK_A)
-        && cache.lookup(&FOURTH, second) == Answer::Found(LINK_A)
-        && cache.lookup(&FIFTH, second) == Answer::Found(LINK_B);
-    assert!(rt; is_right);
+    answers(cache) == WITHOUT_SECOND
+}
+
+#[test]
+fn one_of_least_end_makes_room(rt: HostRuntime) {
+    assert!(rt; makes_room(&mut Cache::new()));
+}
+
+/// A tenth of a second, and two seconds.
+const SOON: Instant = Instant { micros: 100_000 };
+
+const LATER: Instant = Instant { micros: 2_000_000 };
+
+fn is_silent_to_all(cache: &mut Cache) -> bool {
+    cache.fill(FIRST, LINK_A, Instant::ZERO);
+    let was_unknown = cache.lookup(&SECOND, Instant::ZERO) == Answer::NotFound;
+    cache.limit_rate(Instant::ZERO);
+    was_unknown
+        && cache.lookup(&FIRST, SOON) == Answer::Found(LINK_A)
+        && cache.lookup(&SECOND, SOON) == Answer::RateLimited
+        && cache.lookup(&FIFTH, SOON) == Answer::RateLimited
+}
+
+fn stays_silent_behind_a_flush(cache: &mut Cache) -> bool {
+    cache.flush();
+    cache.lookup(&FIRST, SOON) == Answer::RateLimited
+        && cache.lookup(&SECOND, LATER) == Answer::NotFound
+        && !cache.lookup(&FIRST, LATER).found()
 }
 
 #[test]
 fn a_silence_is_for_all_and_outlasts_a_flush(rt: HostRuntime) {
-    let (soon, later) = (Instant::from_millis(100), Instant::from_millis(2000));
     let mut cache = Cache::new();
-    cache.fill(FIRST, LINK_A, Instant::ZERO);
-    let was_unknown = cache.lookup(&SECOND, Instant::ZERO) == Answer::NotFound;
-    cache.limit_rate(Instant::ZERO);
-    let is_for_all = cache.lookup(&FIRST, soon) == Answer::Found(LINK_A)
-        && cache.lookup(&SECOND, soon) == Answer::RateLimited
-        && cache.lookup(&FIFTH, soon) == Answer::RateLimited;
-    cache.flush();
-    let outlasts_a_flush = cache.lookup(&FIRST, soon) == Answer::RateLimited
-        && cache.lookup(&SECOND, later) == Answer::NotFound
-        && !cache.lookup(&FIRST, later).found();
-    assert!(rt; was_unknown && is_for_all && outlasts_a_flush);
+    assert!(rt; is_silent_to_all(&mut cache) && stays_silent_behind_a_flush(&mut cache));
 }
 
-// Whether a cache has these neighbours alone, in order: each address, and when it ends.
+/// Whether a cache has these neighbours alone, in order: each address, and when it ends.
 fn has(cache: &Cache, wanted: &[(IpAddress, Instant)]) -> bool {
     for (i, wanted) in wanted.iter().enumerate() {
         match cache.nth_by_expiry(i) {
@@ -85,42 +134,45 @@ fn has(cache: &Cache, wanted: &[(IpAddress, Instant)]) -> bool {
     cache.nth_by_expiry(wanted.len()).is_none()
 }
 
-#[test]
-fn neighbors_stand_by_their_ends(rt: HostRuntime) {
-    let second = Instant::from_secs(1);
-    let mut cache = Cache::new();
-    cache.fill(FIRST, LINK_A, Instant::from_millis(100));
-    cache.fill(SECOND, LINK_A, Instant::from_millis(50));
-    cache.fill(THIRD, LINK_A, Instant::from_millis(200));
-    cache.fill(FOURTH, LINK_A, Instant::from_millis(250));
+/// The neighbours by their ends, once the second one was renewed and the fifth one took the place of the first one.
+const RENEWED: [(IpAddress, Instant); 4] = [
+    (THIRD, Instant { micros: 60_200_000 }),
+    (FOURTH, Instant { micros: 60_250_000 }),
+    (SECOND, Instant { micros: 60_300_000 }),
+    (FIFTH, Instant { micros: 60_400_000 }),
+];
+
+/// The same once the first one took the place of the third one.
+const LEARNT_AGAIN: [(IpAddress, Instant); 4] = [
+    (FIRST, Instant { micros: 60_010_000 }),
+    (FOURTH, Instant { micros: 60_250_000 }),
+    (SECOND, Instant { micros: 60_300_000 }),
+    (FIFTH, Instant { micros: 60_400_000 }),
+];
+
+fn stand_by_their_ends(cache: &mut Cache) -> bool {
+    learn_four(cache);
     cache.reset_expiry_if_existing(SECOND, LINK_A, Instant::from_millis(300));
     cache.fill(FIFTH, LINK_B, Instant::from_millis(400));
-    let is_right = cache.lookup(&FIRST, second) == Answer::NotFound
-        && cache.lookup(&SECOND, second) == Answer::Found(LINK_A)
-        && cache.lookup(&THIRD, second) == Answer::Found(LINK_A)
-        && cache.lookup(&FOURTH, second) == Answer::Found(LINK_A)
-        && cache.lookup(&FIFTH, second) == Answer::Found(LINK_B);
-    let wanted = [
-        (THIRD, Instant::from_millis(60_200)),
-        (FOURTH, Instant::from_millis(60_250)),
-        (SECOND, Instant::from_millis(60_300)),
-        (FIFTH, Instant::from_millis(60_400)),
-    ];
-    let are_in_order = has(&cache, &wanted);
-    cache.fill(FIRST, LINK_B, Instant::from_millis(10));
-    let is_replaced = cache.lookup(&THIRD, second) == Answer::NotFound
-        && cache.lookup(&FIRST, second) == Answer::Found(LINK_B)
-        && cache.lookup(&FIRST, Instant::from_millis(60_010)) == Answer::NotFound;
-    let wanted = [
-        (FIRST, Instant::from_millis(60_010)),
-        (FOURTH, Instant::from_millis(60_250)),
-        (SECOND, Instant::from_millis(60_300)),
-        (FIFTH, Instant::from_millis(60_400)),
-    ];
-    assert!(rt; is_right && are_in_order && is_replaced && has(&cache, &wanted));
+    answers(cache) == WITHOUT_FIRST && has(cache, &RENEWED)
 }
 
-// A cache that has learnt five neighbours, one after the other.
+fn is_learnt_again(cache: &mut Cache) -> bool {
+    let second = Instant::from_secs(1);
+    cache.fill(FIRST, LINK_B, Instant::from_millis(10));
+    cache.lookup(&THIRD, second) == Answer::NotFound
+        && cache.lookup(&FIRST, second) == Answer::Found(LINK_B)
+        && cache.lookup(&FIRST, Instant::from_millis(60_010)) == Answer::NotFound
+        && has(cache, &LEARNT_AGAIN)
+}
+
+#[test]
+fn neighbors_stand_by_their_ends(rt: HostRuntime) {
+    let mut cache = Cache::new();
+    assert!(rt; stand_by_their_ends(&mut cache) && is_learnt_again(&mut cache));
+}
+
+/// A cache that has learnt five neighbours, one after the other.
 fn with_five(mut cache: Cache) -> Cache {
     cache.fill(FIRST, LINK_A, Instant::from_millis(100));
     cache.fill(SECOND, LINK_A, Instant::from_millis(150));
@@ -130,63 +182,65 @@ fn with_five(mut cache: Cache) -> Cache {
     cache
 }
 
+/// Those five by their ends.
+const FIVE: [(IpAddress, Instant); 5] = [
+    (FIRST, Instant { micros: 60_100_000 }),
+    (SECOND, Instant { micros: 60_150_000 }),
+    (THIRD, Instant { micros: 60_200_000 }),
+    (FOURTH, Instant { micros: 60_250_000 }),
+    (FIFTH, Instant { micros: 60_300_000 }),
+];
+
+/// Whether a cache over storage for so many neighbours, and for so many hints, knows those of the five from this one on.
+fn knows_from(alloc: Global, neighbors: usize, hints: usize, first: usize) -> bool {
+    match (with_room(alloc, neighbors, hints), FIVE.get(first..)) {
+        (Ok(cache), Some(last)) => has(&with_five(cache), last),
+        _ => false,
+    }
+}
+
+/// No storage leaves the room of the cache itself.
 #[test]
 fn storage_has_room_for_as_many_as_its_capacity(rt: HostRuntime) {
-    let five = Vec::with_capacity(rt.alloc(), 5).expect(&rt, "room");
-    let hints = Vec::with_capacity(rt.alloc(), 5).expect(&rt, "room");
-    let one = Vec::with_capacity(rt.alloc(), 1).expect(&rt, "room");
-    let none = Vec::new(rt.alloc());
-    let first_five = [
-        (FIRST, Instant::from_millis(60_100)),
-        (SECOND, Instant::from_millis(60_150)),
-        (THIRD, Instant::from_millis(60_200)),
-        (FOURTH, Instant::from_millis(60_250)),
-        (FIFTH, Instant::from_millis(60_300)),
-    ];
-    let all = &first_five[..];
-    let cache = with_five(Cache::with_storage(five, hints));
-    let knows_five = has(&cache, all);
-    let cache = with_five(Cache::with_storage(one, none));
-    let knows_one = has(&cache, &all[4..]);
-    let (none, hints) = (Vec::new(rt.alloc()), Vec::new(rt.alloc()));
-    let cache = with_five(Cache::with_storage(none, hints));
-    let knows_four = has(&cache, &all[1..]);
-    assert!(rt; knows_five && knows_one && knows_four);
+    let alloc = rt.alloc();
+    let is_right = knows_from(alloc, 5, 5, 0)
+        && knows_from(alloc, 1, 0, 4)
+        && knows_from(alloc, 0, 0, 1);
+    assert!(rt; is_right);
+}
+
+/// Whether a cache that is silent forgets all but that in other storage, and knows two then.
+fn is_changed(alloc: Global) -> Result<bool, AllocError> {
+    let two = Vec::with_capacity(alloc, 2)?;
+    let hints = Vec::with_capacity(alloc, 2)?;
+    let mut cache = with_five(Cache::new());
+    cache.limit_rate(Instant::ZERO);
+    cache.set_storage(two, hints);
+    let is_empty = has(&cache, &[]) && cache.lookup(&FIRST, SOON) == Answer::RateLimited;
+    let mut cache = with_five(cache);
+    cache.flush();
+    Ok(is_empty && has(&with_five(cache), &FIVE[3..]))
 }
 
 #[test]
 fn storage_is_changed_without_a_trace_but_the_silence(rt: HostRuntime) {
-    let two = Vec::with_capacity(rt.alloc(), 2).expect(&rt, "room");
-    let hints = Vec::with_capacity(rt.alloc(), 2).expect(&rt, "room");
-    let mut cache = with_five(Cache::new());
-    cache.limit_rate(Instant::ZERO);
-    cache.set_storage(two, hints);
-    let soon = Instant::from_millis(100);
-    let is_empty = has(&cache, &[]) && cache.lookup(&FIRST, soon) == Answer::RateLimited;
-    let mut cache = with_five(cache);
-    cache.flush();
-    let cache = with_five(cache);
-    let last_two = [
-        (FOURTH, Instant::from_millis(60_250)),
-        (FIFTH, Instant::from_millis(60_300)),
-    ];
-    assert!(rt; is_empty && has(&cache, &last_two));
+    assert!(rt; is_changed(rt.alloc()) == Ok(true));
 }
 
-// 10.1.0.0 and those after it.
+/// 10.1.0.0 and those after it.
 fn address(number: u16) -> IpAddress {
     IpAddress::Ipv4(Ipv4Address {
         bits: 0x0a01_0000 + u32::from(number),
     })
 }
 
-// A cache with so much room for neighbours and for hints.
+/// A cache with so much room for neighbours and for hints.
 fn with_room(alloc: Global, neighbors: usize, hints: usize) -> Result<Cache, AllocError> {
     let storage = Vec::with_capacity(alloc, neighbors)?;
     Ok(Cache::with_storage(storage, Vec::with_capacity(alloc, hints)?))
 }
 
-// Learns these addresses, each a millisecond after the one before.
+/// Learns these addresses, each a millisecond after the one before.
 fn learn(cache: &mut Cache, numbers: &[u16], first: i64) {
     for (i, number) in numbers.iter().enumerate() {
         let learnt = address(*number);
@@ -196,7 +250,7 @@ fn learn(cache: &mut Cache, numbers: &[u16], first: i64) {
     }
 }
 
-// Whether a cache knows all of these addresses after a minute, or none of them.
+/// Whether a cache knows all of these addresses after a minute, or none of them.
 fn knows(cache: &Cache, numbers: &[u16], all: bool) -> bool {
     let minute = Instant::from_secs(60);
     for number in numbers {
@@ -208,7 +262,7 @@ fn knows(cache: &Cache, numbers: &[u16], all: bool) -> bool {
     true
 }
 
-// The numbers below 200.
+/// The numbers below 200.
 fn numbers(alloc: Global) -> Result<Vec<u16>, AllocError> {
     let mut numbers = Vec::with_capacity(alloc, 200)?;
     for number in 0..200u16 {
@@ -217,7 +271,7 @@ fn numbers(alloc: Global) -> Result<Vec<u16>, AllocError> {
     Ok(numbers)
 }
 
-// Whether a cache with room for 64 knows the last 64 of 200 that it learns, and forgets all when it is flushed.
+/// Whether a cache with room for 64 knows the last 64 of 200 that it learns, and forgets all when it is flushed.
 fn knows_the_last(alloc: Global, hints: usize) -> Result<bool, AllocError> {
     let numbers = numbers(alloc)?;
     let Some((old, last)) = numbers.as_slice().split_at_checked(136) else {
@@ -232,17 +286,24 @@ fn knows_the_last(alloc: Global, hints: usize) -> Result<bool, AllocError> {
     Ok(is_right && forgets && knows(&cache, last, false) && knows(&cache, &old[72..], true))
 }
 
-#[test]
-fn neighbors_are_found_with_however_many_hints(rt: HostRuntime) {
-    let mut is_right = true;
-    // Without hints, with those of one place for all, of a few, and of as many as neighbours.
-    for hints in [0, 1, 7, 64] {
-        is_right &= knows_the_last(rt.alloc(), hints).unwrap_or(false);
+/// Without hints, with those of one place for all, of a few, and of as many as neighbours.
+const HINTS: [usize; 4] = [0, 1, 7, 64];
+
+fn knows_the_last_always(alloc: Global) -> bool {
+    for hints in &HINTS {
+        if knows_the_last(alloc, *hints) != Ok(true) {
+            return false;
+        }
     }
-    assert!(rt; is_right);
+    true
 }
 
-// Renews these addresses, each a millisecond after the one before.
+#[test]
+fn neighbors_are_found_with_however_many_hints(rt: HostRuntime) {
+    assert!(rt; knows_the_last_always(rt.alloc()));
+}
+
+/// Renews these addresses, each a millisecond after the one before.
 fn renew(cache: &mut Cache, numbers: &[u16], first: i64) {
     for (i, number) in numbers.iter().enumerate() {
         if first >= 0 && first < 1000 && i < 1000 {
@@ -252,8 +313,8 @@ fn renew(cache: &mut Cache, numbers: &[u16], first: i64) {
     }
 }
 
-// Whether those that aren't renewed make room, in the order in which they were learnt, and then the others, in the order
-// in which they were renewed.
+/// Whether those that aren't renewed make room, in the order in which they were learnt, and then the others, in the order
+/// in which they were renewed.
 fn makes_room_by_turns(alloc: Global, hints: usize) -> Result<bool, AllocError> {
     let mut cache = with_room(alloc, 8, hints)?;
     learn(&mut cache, &[0, 1, 2, 3, 4, 5, 6, 7], 1);
@@ -267,33 +328,51 @@ fn makes_room_by_turns(alloc: Global, hints: usize) -> Result<bool, AllocError> 
     Ok(is_right && knows(&cache, &[20, 21, 22, 23, 24, 25, 26, 27], true))
 }
 
+/// Without hints, with those of one place for all, and of as many as neighbours.
+const FEW_HINTS: [usize; 3] = [0, 1, 8];
+
+fn makes_room_by_turns_always(alloc: Global) -> bool {
+    for hints in &FEW_HINTS {
+        if makes_room_by_turns(alloc, *hints) != Ok(true) {
+            return false;
+        }
+    }
+    true
+}
+
 #[test]
 fn renewals_by_turns_choose_who_makes_room(rt: HostRuntime) {
-    let mut is_right = true;
-    for hints in [0, 1, 8] {
-        is_right &= makes_room_by_turns(rt.alloc(), hints).unwrap_or(false);
-    }
-    assert!(rt; is_right);
+    assert!(rt; makes_room_by_turns_always(rt.alloc()));
+}
+
+/// The ends of all moments, and those about the origin.
+const LEAST: Instant = Instant { micros: i64::MIN };
+
+const BEFORE: Instant = Instant { micros: -1 };
+
+const BEHIND: Instant = Instant { micros: 1 };
+
+const MOST: Instant = Instant { micros: i64::MAX };
+
+const OF_ALL_ENDS: [(IpAddress, Instant); 5] = [
+    (FIFTH, LEAST),
+    (THIRD, BEFORE),
+    (SECOND, Instant::ZERO),
+    (FOURTH, BEHIND),
+    (FIRST, MOST),
+];
+
+fn are_told_in_order(cache: &mut Cache) -> bool {
+    cache.fill_with_expiration(FIRST, LINK_A, MOST);
+    cache.fill_with_expiration(SECOND, LINK_A, Instant::ZERO);
+    cache.fill_with_expiration(THIRD, LINK_A, BEFORE);
+    cache.fill_with_expiration(FOURTH, LINK_A, BEHIND);
+    cache.fill_with_expiration(FIFTH, LINK_B, LEAST);
+    has(cache, &OF_ALL_ENDS)
 }
 
 #[test]
 fn neighbors_of_all_ends_are_told_in_order(rt: HostRuntime) {
     let mut cache = with_room(rt.alloc(), 6, 6).expect(&rt, "room");
-    let (least, most) = (
-        Instant::from_micros(i64::MIN),
-        Instant::from_micros(i64::MAX),
-    );
-    cache.fill_with_expiration(FIRST, LINK_A, most);
-    cache.fill_with_expiration(SECOND, LINK_A, Instant::ZERO);
-    cache.fill_with_expiration(THIRD, LINK_A, Instant::from_micros(-1));
-    cache.fill_with_expiration(FOURTH, LINK_A, Instant::from_micros(1));
-    cache.fill_with_expiration(FIFTH, LINK_B, least);
-    let wanted = [
-        (FIFTH, least),
-        (THIRD, Instant::from_micros(-1)),
-        (SECOND, Instant::ZERO),
-        (FOURTH, Instant::from_micros(1)),
-        (FIRST, most),
-    ];
-    assert!(rt; has(&cache, &wanted));
+    assert!(rt; are_told_in_order(&mut cache));
 }

@@ -1,3 +1,4 @@
+//! Fragments that are put together.
 use fragmentation::reassembly::{AssemblerError, AssemblerFullError};
 use fragmentation::{FragKey, PacketAssembler, PacketAssemblerSet, reassemble};
 use ip_wire::Ipv4Address;
@@ -6,7 +7,7 @@ use std::test::Fail;
 
 const MINUTE: Instant = Instant { micros: 60_000_000 };
 
-// The key of fragments from 10.0.0.1 to 10.0.0.2.
+/// The key of fragments from 10.0.0.1 to 10.0.0.2.
 const fn key(identification: u16) -> FragKey {
     FragKey {
         identification,
@@ -16,46 +17,65 @@ const fn key(identification: u16) -> FragKey {
     }
 }
 
-// Assembles the datagram, and says whether it is these octets. The place is free then.
+/// Assembles the datagram, and says whether it is these octets. The place is free then.
 fn assembles<K: Drop>(assembler: &mut PacketAssembler<K>, octets: &[u8]) -> bool {
     let was_complete = assembler.is_complete();
     let is_right = assembler.assemble() == Some(octets);
     was_complete && is_right && !assembler.is_complete()
 }
 
+fn lays_over(assembler: &mut PacketAssembler<u8>) -> bool {
+    assembler.set_total_size(5) == Ok(())
+        && assembler.add(b"Rust", 0) == Ok(())
+        && assembler.add(b"Rust", 1) == Ok(())
+        && assembles(assembler, b"RRust")
+}
+
 #[test]
 fn the_last_octets_count(rt: HostRuntime) {
-    let mut assembler: PacketAssembler<u8> = PacketAssembler::new();
-    let is_taken = assembler.set_total_size(5) == Ok(())
-        && assembler.add(b"Rust", 0) == Ok(())
-        && assembler.add(b"Rust", 1) == Ok(());
-    assert!(rt; is_taken && assembles(&mut assembler, b"RRust"));
+    assert!(rt; lays_over(&mut PacketAssembler::new()));
+}
+
+const HELLO: &[u8] = b"Hello ";
+
+const WORLD: &[u8] = b"World!";
+
+/// Whether two parts, each at its place, make the whole.
+fn joins(
+    assembler: &mut PacketAssembler<u8>,
+    first: (&[u8], usize),
+    second: (&[u8], usize),
+) -> bool {
+    assembler.set_total_size(12) == Ok(())
+        && assembler.add(first.0, first.1) == Ok(())
+        && assembler.assemble().is_none()
+        && assembler.add(second.0, second.1) == Ok(())
+        && assembles(assembler, b"Hello World!")
+}
+
+fn joins_in_any_order(assembler: &mut PacketAssembler<u8>) -> bool {
+    joins(assembler, (HELLO, 0), (WORLD, 6)) && joins(assembler, (WORLD, 6), (HELLO, 0))
 }
 
 #[test]
 fn parts_come_in_any_order(rt: HostRuntime) {
-    let mut assembler: PacketAssembler<u8> = PacketAssembler::new();
-    let hello = b"Hello ".as_slice();
-    let world = b"World!".as_slice();
-    for (first, offset, second, other) in [(hello, 0, world, 6), (world, 6, hello, 0)] {
-        let is_part = assembler.set_total_size(12) == Ok(())
-            && assembler.add(first, offset) == Ok(())
-            && assembler.assemble().is_none();
-        let is_whole = assembler.add(second, other) == Ok(());
-        assert!(rt; is_part && is_whole && assembles(&mut assembler, b"Hello World!"));
-    }
+    assert!(rt; joins_in_any_order(&mut PacketAssembler::new()));
+}
+
+fn is_never_complete(assembler: &mut PacketAssembler<u8>) -> bool {
+    assembler.set_total_size(8) == Ok(())
+        && assembler.add(&[0; 12], 0) == Ok(())
+        && assembler.assemble().is_none()
+        && assembler.add(&[0; 8], 0) == Ok(())
+        && assembler.assemble().is_none()
 }
 
 #[test]
 fn octets_beyond_the_total_are_never_complete(rt: HostRuntime) {
-    let mut assembler: PacketAssembler<u8> = PacketAssembler::new();
-    let is_taken = assembler.set_total_size(8) == Ok(()) && assembler.add(&[0; 12], 0) == Ok(());
-    let is_part = assembler.assemble().is_none();
-    let is_taken_again = assembler.add(&[0; 8], 0) == Ok(());
-    assert!(rt; is_taken && is_part && is_taken_again && assembler.assemble().is_none());
+    assert!(rt; is_never_complete(&mut PacketAssembler::new()));
 }
 
-// Takes eight octets at each of these places.
+/// Takes eight octets at each of these places.
 fn takes_at(assembler: &mut PacketAssembler<u8>, offsets: &[usize]) -> bool {
     for offset in offsets {
         if assembler.add(&[1; 8], *offset) != Ok(()) {
@@ -65,32 +85,43 @@ fn takes_at(assembler: &mut PacketAssembler<u8>, offsets: &[usize]) -> bool {
     true
 }
 
-#[test]
-fn a_fifth_range_is_left_out(rt: HostRuntime) {
-    let mut assembler: PacketAssembler<u8> = PacketAssembler::new();
-    let is_taken = takes_at(&mut assembler, &[8, 24, 40, 56])
+fn leaves_a_fifth_range_out(assembler: &mut PacketAssembler<u8>) -> bool {
+    takes_at(assembler, &[8, 24, 40, 56])
         && assembler.set_total_size(80) == Ok(())
         && assembler.add(&[2; 8], 72) == Ok(())
         && assembler.set_total_size(88) == Err(AssemblerError)
-        && assembler.add(&[3; 72], 0) == Ok(());
-    let is_part = assembler.assemble().is_none();
-    let is_whole = assembler.add(&[3; 80], 0) == Ok(());
-    assert!(rt; is_taken && is_part && is_whole && assembles(&mut assembler, &[3; 80]));
+        && assembler.add(&[3; 72], 0) == Ok(())
+        && assembler.assemble().is_none()
+        && assembler.add(&[3; 80], 0) == Ok(())
+        && assembles(assembler, &[3; 80])
+}
+
+#[test]
+fn a_fifth_range_is_left_out(rt: HostRuntime) {
+    assert!(rt; leaves_a_fifth_range_out(&mut PacketAssembler::new()));
+}
+
+/// Of 80 octets, 5 in each of the first 64 and 4 in the others.
+fn joined() -> [u8; 80] {
+    let mut octets = [4; 80];
+    octets[..64].copy_from_slice(&[5; 64]);
+    octets
+}
+
+fn takes_what_touches(assembler: &mut PacketAssembler<u8>) -> bool {
+    takes_at(assembler, &[8, 24, 40, 56, 72])
+        && assembler.add(&[4; 16], 64) == Ok(())
+        && assembler.set_total_size(80) == Ok(())
+        && assembler.add(&[5; 64], 0) == Ok(())
+        && assembles(assembler, &joined())
 }
 
 #[test]
 fn a_range_that_touches_is_taken(rt: HostRuntime) {
-    let mut assembler: PacketAssembler<u8> = PacketAssembler::new();
-    let is_taken = takes_at(&mut assembler, &[8, 24, 40, 56, 72])
-        && assembler.add(&[4; 16], 64) == Ok(())
-        && assembler.set_total_size(80) == Ok(())
-        && assembler.add(&[5; 64], 0) == Ok(());
-    let mut want = [4; 80];
-    want[..64].copy_from_slice(&[5; 64]);
-    assert!(rt; is_taken && assembles(&mut assembler, &want));
+    assert!(rt; takes_what_touches(&mut PacketAssembler::new()));
 }
 
-// Whether the place of a key, got for a minute, ends then.
+/// Whether the place of a key, got for a minute, ends then.
 fn ends_at(set: &mut PacketAssemblerSet<u8>, key: u8, end: Instant) -> bool {
     match set.get(&key, MINUTE) {
         Ok(assembler) => assembler.expires_at() == end,
@@ -110,7 +141,7 @@ fn a_place_stays_of_its_key(rt: HostRuntime) {
     assert!(rt; ends_at(&mut set, 2, MINUTE) && ends_at(&mut set, 1, Instant::ZERO));
 }
 
-// Takes these octets at a place of a key's datagram of two octets, and says whether that is whole then.
+/// Takes these octets at a place of a key's datagram of two octets, and says whether that is whole then.
 fn gathers(
     set: &mut PacketAssemblerSet<u8>,
     key: u8,
@@ -148,17 +179,28 @@ fn pairs_and_keys_of_fragments_have_places(rt: HostRuntime) {
     assert!(rt; pairs.get(&(0, 2), Instant::ZERO).is_err());
 }
 
+/// Whether keys have places in a set, or have none, one after the other.
+fn have_places(set: &mut PacketAssemblerSet<u8>, keys: &[(u8, bool)]) -> bool {
+    for (key, fits) in keys {
+        if set.get(key, MINUTE).is_ok() != *fits {
+            return false;
+        }
+    }
+    true
+}
+
 #[test]
 fn storage_has_a_place_for_each_of_its_slots(rt: HostRuntime) -> Result<(), Fail> {
     let keys = Vec::with_capacity(rt.alloc(), 5)?;
     let slots = Vec::with_capacity(rt.alloc(), 3)?;
     let mut set: PacketAssemblerSet<u8> = PacketAssemblerSet::new();
     set.set_storage(keys, slots);
-    for (k, fits) in [(0, true), (1, true), (2, true), (3, false), (1, true)] {
-        assert!(rt; set.get(&k, MINUTE).is_ok() == fits);
-    }
+    let are_there = have_places(
+        &mut set,
+        &[(0, true), (1, true), (2, true), (3, false), (1, true)],
+    );
     set.remove_expired(Instant { micros: 60_000_001 });
-    assert!(rt; set.get(&3, MINUTE).is_ok());
+    assert!(rt; are_there && set.get(&3, MINUTE).is_ok());
     Ok(())
 }
 
@@ -168,10 +210,17 @@ fn storage_without_capacity_leaves_two_slots(rt: HostRuntime) -> Result<(), Fail
     let slots = Vec::with_capacity(rt.alloc(), 3)?;
     let mut set: PacketAssemblerSet<u8> = PacketAssemblerSet::new();
     set.set_storage(keys, slots);
-    for (k, fits) in [(0, true), (1, true), (2, false)] {
-        assert!(rt; set.get(&k, MINUTE).is_ok() == fits);
-    }
+    assert!(rt; have_places(&mut set, &[(0, true), (1, true), (2, false)]));
     Ok(())
+}
+
+/// Whether the only slot serves a key alone, once the one before has expired.
+fn serves(set: &mut PacketAssemblerSet<u8>, key: u8) -> bool {
+    set.remove_expired(Instant { micros: 60_000_001 });
+    set.remove_expired(Instant { micros: 60_000_001 });
+    let is_served = set.get(&key, MINUTE).is_ok();
+    set.remove_expired(MINUTE);
+    is_served && set.get(&0, MINUTE).is_err()
 }
 
 #[test]
@@ -180,37 +229,37 @@ fn a_slot_of_storage_serves_one_key_after_another(rt: HostRuntime) -> Result<(),
     let slots = Vec::with_capacity(rt.alloc(), 1)?;
     let mut set: PacketAssemblerSet<u8> = PacketAssemblerSet::new();
     set.set_storage(keys, slots);
-    for k in [1, 2, 3] {
-        set.remove_expired(Instant { micros: 60_000_001 });
-        set.remove_expired(Instant { micros: 60_000_001 });
-        assert!(rt; set.get(&k, MINUTE).is_ok());
-        set.remove_expired(MINUTE);
-        assert!(rt; set.get(&0, MINUTE).is_err());
-    }
+    assert!(rt; serves(&mut set, 1) && serves(&mut set, 2) && serves(&mut set, 3));
     Ok(())
+}
+
+/// Whether a datagram of a key is complete as soon as it has a total of none.
+fn is_complete_without_octets(set: &mut PacketAssemblerSet<u8>, key: u8) -> bool {
+    match set.get(&key, Instant::ZERO) {
+        Ok(assembler) => {
+            assembler.assemble().is_none()
+                && assembler.set_total_size(0) == Ok(())
+                && assembles(assembler, b"")
+        }
+        Err(_error) => false,
+    }
 }
 
 #[test]
 fn a_total_of_none_is_complete(rt: HostRuntime) {
     let mut set: PacketAssemblerSet<u8> = PacketAssemblerSet::new();
-    for k in [0, 0, 1, 2] {
-        let is_right = match set.get(&k, Instant::ZERO) {
-            Ok(assembler) => {
-                assembler.assemble().is_none()
-                    && assembler.set_total_size(0) == Ok(())
-                    && assembles(assembler, b"")
-            }
-            Err(_error) => false,
-        };
-        assert!(rt; is_right);
-    }
+    let are_complete = is_complete_without_octets(&mut set, 0)
+        && is_complete_without_octets(&mut set, 0)
+        && is_complete_without_octets(&mut set, 1)
+        && is_complete_without_octets(&mut set, 2);
+    assert!(rt; are_complete);
 }
 
-// A fragment of the datagram of a key: its octets, where they stand, whether it is the last one, and
-// what is lent when it has come.
+/// A fragment of the datagram of a key: its octets, where they stand, whether it is the last one, and
+/// what is lent when it has come.
 type Taken = (u16, &'static [u8], usize, bool, Option<&'static [u8]>);
 
-// Whether the fragments are taken so, one after the other.
+/// Whether the fragments are taken so, one after the other.
 fn are_taken(fragments: &[Taken]) -> bool {
     let mut set: PacketAssemblerSet<FragKey> = PacketAssemblerSet::new();
     for (number, octets, offset, is_last, want) in fragments {

@@ -1,3 +1,4 @@
+//! The table of routes.
 ghost use Rattle.std.specs.Prelude.{◌≡◌, ◌≤◌, true};
 ghost use Rattle.ip_address.specs.Ip.{is_unicast};
 
@@ -8,24 +9,24 @@ use net_base::time::Instant;
 use std::alloc::{AllocError, Global};
 use std::test::Fail;
 
-// 10.0.0.1.
+/// 10.0.0.1.
 const NEAR: IpAddress = IpAddress::Ipv4(Ipv4Address { bits: 0x0a00_0001 });
 
-// 10.1.2.3.
+/// 10.1.2.3.
 const DISTANT: IpAddress = IpAddress::Ipv4(Ipv4Address { bits: 0x0a01_0203 });
 
 const NETWORK: Ipv4Address = Ipv4Address { bits: 0x0a00_0000 };
 
 const PART: Ipv4Address = Ipv4Address { bits: 0x0a01_0000 };
 
-// An address of 192.168.69.0/24.
+/// An address of 192.168.69.0/24.
 fn router(host: u8) -> Ipv4Address {
     Ipv4Address {
         bits: 0xc0a8_4500 + u32::from(host),
     }
 }
 
-// fe80:0:0:SUBNET::HOST.
+/// fe80:0:0:SUBNET::HOST.
 fn address6(subnet: u16, host: u16) -> Ipv6Address {
     Ipv6Address {
         bits: 0xfe80_0000_0000_0000_0000_0000_0000_0000
@@ -59,7 +60,7 @@ fn route6(address: Ipv6Address, via: Ipv6Address, expires_at: Option<Instant>) -
     }
 }
 
-// Puts a route behind all others, if there is room.
+/// Puts a route behind all others, if there is room.
 fn append(routes: &mut Routes, route: Route) {
     routes.update(|mut list| {
         let _ = put(&mut list, route);
@@ -67,7 +68,7 @@ fn append(routes: &mut Routes, route: Route) {
     });
 }
 
-// Gives the route back where there is no room.
+/// Gives the route back where there is no room.
 fn put(list: &mut ArrayVec<Route, 4>, route: Route) -> Option<Route> {
     if list.is_full() {
         return Some(route);
@@ -76,26 +77,37 @@ fn put(list: &mut ArrayVec<Route, 4>, route: Route) -> Option<Route> {
     None
 }
 
-#[test]
-fn the_longest_live_prefix_is_taken(rt: HostRuntime) {
-    let mut routes = Routes::new();
-    append(&mut routes, route(NETWORK, 8, router(2), None));
+/// Routes to 10.0.0.0/8, and two to 10.1.0.0/16, of which one lasts ten seconds and the other nine.
+fn append_nested(routes: &mut Routes) {
+    append(routes, route(NETWORK, 8, router(2), None));
     append(
-        &mut routes,
+        routes,
         route(PART, 16, router(3), Some(Instant::from_secs(10))),
     );
     append(
-        &mut routes,
+        routes,
         route(PART, 16, router(4), Some(Instant::from_secs(9))),
     );
-    let at = |micros| routes.lookup(&DISTANT, Instant::from_micros(micros));
-    let is_right = at(9_000_000) == Some(IpAddress::Ipv4(router(4)))
-        && at(10_000_000) == Some(IpAddress::Ipv4(router(3)))
-        && at(10_000_001) == Some(IpAddress::Ipv4(router(2)));
-    assert!(rt; is_right);
 }
 
-// Whether a lookup finds this router, and reads so many nodes.
+/// The router by which 10.1.2.3 is reached at so many microseconds.
+fn via_at(routes: &Routes, micros: u32) -> Option<IpAddress> {
+    routes.lookup(&DISTANT, Instant::from_micros(i64::from(micros)))
+}
+
+fn finds_the_longest(routes: &mut Routes) -> bool {
+    append_nested(routes);
+    via_at(routes, 9_000_000) == Some(IpAddress::Ipv4(router(4)))
+        && via_at(routes, 10_000_000) == Some(IpAddress::Ipv4(router(3)))
+        && via_at(routes, 10_000_001) == Some(IpAddress::Ipv4(router(2)))
+}
+
+#[test]
+fn the_longest_live_prefix_is_taken(rt: HostRuntime) {
+    assert!(rt; finds_the_longest(&mut Routes::new()));
+}
+
+/// Whether a lookup finds this router, and reads so many nodes.
 fn finds(
     routes: &Routes,
     address: &IpAddress,
@@ -109,36 +121,40 @@ fn finds(
     found == router && steps.get() == nodes
 }
 
-#[test]
-fn a_lookup_reads_a_node_for_each_bit_in_common(rt: HostRuntime) {
-    let mut routes = Routes::new();
-    append(&mut routes, route(NETWORK, 8, router(2), None));
-    append(
-        &mut routes,
-        route(PART, 16, router(3), Some(Instant::from_secs(10))),
-    );
-    append(
-        &mut routes,
-        route(PART, 16, router(4), Some(Instant::from_secs(9))),
-    );
-    let at = |micros, host| {
-        let via = Some(IpAddress::Ipv4(router(host)));
-        finds(&routes, &DISTANT, Instant::from_micros(micros), via, 17)
-    };
-    // 11.0.0.1, and fe80::1.
-    let beside = IpAddress::Ipv4(Ipv4Address { bits: 0x0b00_0001 });
-    let other = IpAddress::Ipv6(Ipv6Address {
-        bits: 0xfe80_0000_0000_0000_0000_0000_0000_0001,
-    });
-    let is_right = at(9_000_000, 4)
-        && at(10_000_000, 3)
-        && at(10_000_001, 2)
-        && finds(&routes, &beside, Instant::ZERO, None, 8)
-        && finds(&routes, &other, Instant::ZERO, None, 1);
-    assert!(rt; is_right);
+/// Whether 10.1.2.3 is found behind this router at so many microseconds, by reading 17 nodes.
+fn finds_at(routes: &Routes, micros: u32, host: u8) -> bool {
+    let now = Instant::from_micros(i64::from(micros));
+    finds(
+        routes,
+        &DISTANT,
+        now,
+        Some(IpAddress::Ipv4(router(host))),
+        17,
+    )
 }
 
-// 2001::1, 4001::1, 8001::1 and c001::1, which differ in their first two bits.
+/// 11.0.0.1, and fe80::1.
+const OUTSIDE: IpAddress = IpAddress::Ipv4(Ipv4Address { bits: 0x0b00_0001 });
+
+const LINK_LOCAL: IpAddress = IpAddress::Ipv6(Ipv6Address {
+    bits: 0xfe80_0000_0000_0000_0000_0000_0000_0001,
+});
+
+fn reads_nodes_in_common(routes: &mut Routes) -> bool {
+    append_nested(routes);
+    finds_at(routes, 9_000_000, 4)
+        && finds_at(routes, 10_000_000, 3)
+        && finds_at(routes, 10_000_001, 2)
+        && finds(routes, &OUTSIDE, Instant::ZERO, None, 8)
+        && finds(routes, &LINK_LOCAL, Instant::ZERO, None, 1)
+}
+
+#[test]
+fn a_lookup_reads_a_node_for_each_bit_in_common(rt: HostRuntime) {
+    assert!(rt; reads_nodes_in_common(&mut Routes::new()));
+}
+
+/// 2001::1, 4001::1, 8001::1 and c001::1, which differ in their first two bits.
 const HOST_A: Ipv6Address = Ipv6Address {
     bits: 0x2001_0000_0000_0000_0000_0000_0000_0001,
 };
@@ -155,7 +171,7 @@ const HOST_D: Ipv6Address = Ipv6Address {
     bits: 0xc001_0000_0000_0000_0000_0000_0000_0001,
 };
 
-// The route to a host of its own.
+/// The route to a host of its own.
 fn host_route(address: Ipv6Address, via: Ipv6Address) -> Route {
     Route {
         cidr: IpCidr::Ipv6(Ipv6Cidr::new(address, 128)),
@@ -165,106 +181,138 @@ fn host_route(address: Ipv6Address, via: Ipv6Address) -> Route {
     }
 }
 
+/// Whether a host is found behind this router.
+fn finds_host(routes: &Routes, address: &IpAddress, host: u16) -> bool
+    requires { is_unicast address.now ≡ true }
+{
+    let via = Some(IpAddress::Ipv6(address6(0, host)));
+    finds(routes, address, Instant::ZERO, via, 129)
+}
+
+fn has_place_for_four(routes: &mut Routes) -> bool {
+    append(routes, host_route(HOST_A, address6(0, 1)));
+    append(routes, host_route(HOST_B, address6(0, 2)));
+    append(routes, host_route(HOST_C, address6(0, 3)));
+    append(routes, host_route(HOST_D, address6(0, 4)));
+    routes.as_slice().len() == 4
+        && finds_host(routes, &IpAddress::Ipv6(HOST_A), 1)
+        && finds_host(routes, &IpAddress::Ipv6(HOST_B), 2)
+        && finds_host(routes, &IpAddress::Ipv6(HOST_C), 3)
+        && finds_host(routes, &IpAddress::Ipv6(HOST_D), 4)
+}
+
 #[test]
 fn four_hosts_have_place(rt: HostRuntime) {
-    let mut routes = Routes::new();
-    append(&mut routes, host_route(HOST_A, address6(0, 1)));
-    append(&mut routes, host_route(HOST_B, address6(0, 2)));
-    append(&mut routes, host_route(HOST_C, address6(0, 3)));
-    append(&mut routes, host_route(HOST_D, address6(0, 4)));
-    let via = |host| Some(IpAddress::Ipv6(address6(0, host)));
-    let now = Instant::ZERO;
-    let is_right = routes.as_slice().len() == 4
-        && finds(&routes, &IpAddress::Ipv6(HOST_A), now, via(1), 129)
-        && finds(&routes, &IpAddress::Ipv6(HOST_B), now, via(2), 129)
-        && finds(&routes, &IpAddress::Ipv6(HOST_C), now, via(3), 129)
-        && finds(&routes, &IpAddress::Ipv6(HOST_D), now, via(4), 129);
-    assert!(rt; is_right);
+    assert!(rt; has_place_for_four(&mut Routes::new()));
+}
+
+const BROADCAST: Ipv4Address = Ipv4Address { bits: 0xffff_ffff };
+
+fn finds_broadcast(routes: &mut Routes) -> bool {
+    append(routes, route(NETWORK, 8, router(2), None));
+    append(routes, route(PART, 16, BROADCAST, None));
+    via_at(routes, 0) == Some(IpAddress::Ipv4(BROADCAST))
 }
 
 #[test]
 fn a_router_need_not_be_unicast(rt: HostRuntime) {
-    let mut routes = Routes::new();
-    append(&mut routes, route(NETWORK, 8, router(2), None));
+    assert!(rt; finds_broadcast(&mut Routes::new()));
+}
+
+/// fe80:0:0:3364::1 and fe80:0:0:3364::15.
+const OTHER_IPV6: IpAddress = IpAddress::Ipv6(Ipv6Address {
+    bits: 0xfe80_0000_0000_3364_0000_0000_0000_0001,
+});
+
+const FAR_IPV6: IpAddress = IpAddress::Ipv6(Ipv6Address {
+    bits: 0xfe80_0000_0000_3364_0000_0000_0000_0015,
+});
+
+fn finds_near_ones(routes: &mut Routes) -> bool {
+    append(routes, route6(address6(2, 0), address6(2, 1), None));
+    routes.lookup(&BESIDE_IPV6, Instant::ZERO) == Some(IpAddress::Ipv6(address6(2, 1)))
+        && routes.lookup(&OTHER_IPV6, Instant::ZERO) == None
+}
+
+fn finds_far_ones(routes: &mut Routes) -> bool {
+    let end = Instant::from_millis(10);
     append(
-        &mut routes,
-        route(PART, 16, Ipv4Address { bits: 0xffff_ffff }, None),
+        routes,
+        route6(address6(0x3364, 0), address6(0x3364, 1), Some(end)),
     );
-    assert_eq!(rt;
-        routes.lookup(&DISTANT, Instant::ZERO),
-        Some(IpAddress::Ipv4(Ipv4Address { bits: 0xffff_ffff }))
-    );
+    routes.lookup(&FAR_IPV6, end) == Some(IpAddress::Ipv6(address6(0x3364, 1)))
+        && routes.lookup(&FAR_IPV6, Instant::from_millis(11)) == None
 }
 
 #[test]
 fn routes_of_ipv6_are_taken(rt: HostRuntime) {
     let mut routes = Routes::new();
-    append(&mut routes, route6(address6(2, 0), address6(2, 1), None));
-    let near = IpAddress::Ipv6(Ipv6Address {
-        bits: 0xfe80_0000_0000_0002_0000_0000_0000_000d,
+    assert!(rt; finds_near_ones(&mut routes) && finds_far_ones(&mut routes));
+}
+
+fn is_full_of_four(routes: &mut Routes) -> bool {
+    for host in 1..5 {
+        append(routes, route(PART, 16, router(host), None));
+    }
+    routes.add_default_ipv4_route(router(9)) == Err(RouteTableFull)
+        && routes.add_default_ipv6_route(address6(0, 9)) == Err(RouteTableFull)
+        && routes.as_slice().len() == 4
+}
+
+/// Leaves the first three routes.
+fn truncate(routes: &mut Routes) {
+    routes.update(|mut list| {
+        list.truncate(3);
+        list
     });
-    let other = IpAddress::Ipv6(Ipv6Address {
-        bits: 0xfe80_0000_0000_3364_0000_0000_0000_0001,
-    });
-    let is_first = routes.lookup(&near, Instant::ZERO) == Some(IpAddress::Ipv6(address6(2, 1)))
-        && routes.lookup(&other, Instant::ZERO) == None;
-    let end = Instant::from_millis(10);
-    append(
-        &mut routes,
-        route6(address6(0x3364, 0), address6(0x3364, 1), Some(end)),
-    );
-    let far = IpAddress::Ipv6(Ipv6Address {
-        bits: 0xfe80_0000_0000_3364_0000_0000_0000_0015,
-    });
-    let is_second = routes.lookup(&far, end) == Some(IpAddress::Ipv6(address6(0x3364, 1)))
-        && routes.lookup(&far, Instant::from_millis(11)) == None;
-    assert!(rt; is_first && is_second);
+}
+
+fn replaces_the_default(routes: &mut Routes) -> bool {
+    let old = Some(Route::new_ipv4_gateway(router(9)));
+    routes.add_default_ipv4_route(router(9)) == Ok(None)
+        && routes.get_default_ipv4_route() == old
+        && routes.add_default_ipv4_route(router(8)) == Ok(old)
+        && routes.lookup(&NEAR, Instant::ZERO) == Some(IpAddress::Ipv4(router(8)))
+        && routes.as_slice().len() == 4
 }
 
 #[test]
 fn a_default_route_takes_the_place_of_the_old_one(rt: HostRuntime) {
     let mut routes = Routes::new();
-    for host in 1..5 {
-        append(&mut routes, route(PART, 16, router(host), None));
-    }
-    let is_full = routes.add_default_ipv4_route(router(9)) == Err(RouteTableFull)
-        && routes.add_default_ipv6_route(address6(0, 9)) == Err(RouteTableFull)
-        && routes.as_slice().len() == 4;
-    routes.update(|mut list| {
-        list.truncate(3);
-        list
-    });
-    let old = Some(Route::new_ipv4_gateway(router(9)));
-    let is_replaced = routes.add_default_ipv4_route(router(9)) == Ok(None)
-        && routes.get_default_ipv4_route() == old
-        && routes.add_default_ipv4_route(router(8)) == Ok(old)
-        && routes.lookup(&NEAR, Instant::ZERO) == Some(IpAddress::Ipv4(router(8)))
-        && routes.as_slice().len() == 4;
-    assert!(rt; is_full && is_replaced);
+    let is_full = is_full_of_four(&mut routes);
+    truncate(&mut routes);
+    assert!(rt; is_full && replaces_the_default(&mut routes));
+}
+
+/// Adds a default route of IPv6, another route, and a default route of IPv4.
+fn adds_three(routes: &mut Routes) -> bool {
+    let is_added = routes.add_default_ipv6_route(address6(0, 1)) == Ok(None);
+    append(routes, route(PART, 16, router(3), None));
+    is_added && routes.add_default_ipv4_route(router(1)) == Ok(None)
+}
+
+/// Whether the routes are these three, and the others stay in order when the default routes are removed.
+fn stay_in_order(routes: &mut Routes, first: Route, middle: Route, last: Route) -> bool {
+    routes.as_slice() == [first, middle, last].as_slice()
+        && routes.get_default_ipv6_route() == Some(first)
+        && routes.remove_default_ipv6_route() == Some(first)
+        && routes.remove_default_ipv6_route() == None
+        && routes.as_slice() == [middle, last].as_slice()
+        && routes.remove_default_ipv4_route() == Some(last)
+        && routes.get_default_ipv4_route() == None
+        && routes.as_slice() == [middle].as_slice()
 }
 
 #[test]
 fn a_default_route_leaves_the_others_in_order(rt: HostRuntime) {
     let mut routes = Routes::new();
-    let is_added = routes.add_default_ipv6_route(address6(0, 1)) == Ok(None);
-    append(&mut routes, route(PART, 16, router(3), None));
-    let is_second_added = routes.add_default_ipv4_route(router(1)) == Ok(None);
     let first = Route::new_ipv6_gateway(address6(0, 1));
-    let last = Route::new_ipv4_gateway(router(1));
     let middle = route(PART, 16, router(3), None);
-    let are_in_order = routes.as_slice() == [first, middle, last].as_slice()
-        && routes.get_default_ipv6_route() == Some(first);
-    let is_first_removed = routes.remove_default_ipv6_route() == Some(first)
-        && routes.remove_default_ipv6_route() == None
-        && routes.as_slice() == [middle, last].as_slice();
-    let is_last_removed = routes.remove_default_ipv4_route() == Some(last)
-        && routes.get_default_ipv4_route() == None
-        && routes.as_slice() == [middle].as_slice();
-    let are_added = is_added && is_second_added;
-    assert!(rt; are_added && are_in_order && is_first_removed && is_last_removed);
+    let last = Route::new_ipv4_gateway(router(1));
+    assert!(rt; adds_three(&mut routes) && stay_in_order(&mut routes, first, middle, last));
 }
 
-// A table over storage for so many routes and so many nodes.
+/// A table over storage for so many routes and so many nodes.
 fn over(alloc: Global, routes: usize, nodes: usize) -> Result<Routes, AllocError> {
     let mut table = Routes::new();
     let storage = Vec::with_capacity(alloc, routes)?;
@@ -272,7 +320,7 @@ fn over(alloc: Global, routes: usize, nodes: usize) -> Result<Routes, AllocError
     Ok(table)
 }
 
-// 10.1.2.0, 10.1.9.9, and fe80:0:0:2::d.
+/// 10.1.2.0, 10.1.9.9, and fe80:0:0:2::d.
 const SMALL_PART: Ipv4Address = Ipv4Address { bits: 0x0a01_0200 };
 
 const BESIDE: IpAddress = IpAddress::Ipv4(Ipv4Address { bits: 0x0a01_0909 });
@@ -283,7 +331,7 @@ const BESIDE_IPV6: IpAddress = IpAddress::Ipv6(Ipv6Address {
 
 const HOST: Ipv4Address = Ipv4Address { bits: 0x0a01_0203 };
 
-// Eight routes, of which two each are to one network, and one lasts ten seconds.
+/// Eight routes, of which two each are to one network, and one lasts ten seconds.
 fn eight_routes() -> [Route; 8] {
     [
         route(NETWORK, 8, router(1), None),
@@ -297,56 +345,99 @@ fn eight_routes() -> [Route; 8] {
     ]
 }
 
-// Whether lookups among the eight find the longest prefix, and of equal ones the last.
+/// Whether lookups among the eight find the longest prefix, and of equal ones the last.
 fn finds_the_best_of_eight(routes: &Routes) -> bool {
     let via = |host| Some(IpAddress::Ipv4(router(host)));
     let (end, later) = (Instant::from_secs(10), Instant::from_secs(11));
-    let outside = IpAddress::Ipv4(Ipv4Address { bits: 0x0b00_0001 });
     finds(routes, &DISTANT, end, via(4), 33)
         && finds(routes, &DISTANT, later, via(3), 33)
         && finds(routes, &BESIDE, end, via(5), 21)
         && finds(routes, &NEAR, end, via(6), 16)
-        && finds(routes, &outside, end, via(8), 8)
+        && finds(routes, &OUTSIDE, end, via(8), 8)
         && routes.lookup(&BESIDE_IPV6, end) == Some(IpAddress::Ipv6(address6(2, 1)))
+}
+
+fn takes_eight(routes: &mut Routes) -> bool {
+    let mut are_pushed = routes.room() == 8;
+    for route in &eight_routes() {
+        are_pushed &= routes.push(*route) == Ok(());
+    }
+    are_pushed && finds_the_best_of_eight(routes)
+}
+
+fn refuses_a_ninth(routes: &mut Routes) -> bool {
+    routes.push(route(PART, 32, router(9), None)) == Err(RouteTableFull)
+        && routes.add_default_ipv6_route(address6(0, 9)) == Err(RouteTableFull)
+        && routes.as_slice() == eight_routes().as_slice()
+        && finds_the_best_of_eight(routes)
+}
+
+fn replaces_the_eighth(routes: &mut Routes) -> bool {
+    let old = Some(Route::new_ipv4_gateway(router(8)));
+    routes.add_default_ipv4_route(router(9)) == Ok(old) && routes.as_slice().len() == 8
 }
 
 #[test]
 fn storage_has_room_for_eight(rt: HostRuntime) {
     let mut routes = over(rt.alloc(), 8, 1026).expect(&rt, "room");
-    let mut are_pushed = routes.room() == 8;
-    for route in eight_routes() {
-        are_pushed &= routes.push(route) == Ok(());
+    let is_right = takes_eight(&mut routes)
+        && refuses_a_ninth(&mut routes)
+        && replaces_the_eighth(&mut routes);
+    assert!(rt; is_right);
+}
+
+/// Capacity for routes and for nodes, and the room.
+const ROOMS: [(usize, usize, usize); 7] = [
+    (8, 1025, 7),
+    (5, 4098, 5),
+    (40, 10_000, 32),
+    (1, 130, 1),
+    (8, 129, 4),
+    (0, 4098, 4),
+    (8, 0, 4),
+];
+
+/// Whether a table over storage has this room, and no routes.
+fn has_room(alloc: Global, routes: usize, nodes: usize, room: usize) -> bool {
+    match over(alloc, routes, nodes) {
+        Ok(table) => table.room() == room && table.as_slice().len() == 0,
+        Err(_) => false,
     }
-    let are_found = finds_the_best_of_eight(&routes);
-    let is_ninth_refused = routes.push(route(PART, 32, router(9), None)) == Err(RouteTableFull)
-        && routes.add_default_ipv6_route(address6(0, 9)) == Err(RouteTableFull);
-    let eight = eight_routes();
-    let are_unchanged = routes.as_slice() == eight.as_slice() && finds_the_best_of_eight(&routes);
-    let is_default_replaced = routes.add_default_ipv4_route(router(9)) == Ok(Some(eight[7]))
-        && routes.as_slice().len() == 8;
-    assert!(rt;
-        are_pushed && are_found && is_ninth_refused && are_unchanged && is_default_replaced
-    );
+}
+
+fn have_room(alloc: Global) -> bool {
+    for (routes, nodes, room) in &ROOMS {
+        if !has_room(alloc, *routes, *nodes, *room) {
+            return false;
+        }
+    }
+    true
 }
 
 #[test]
 fn the_lesser_capacity_counts(rt: HostRuntime) {
-    let mut is_right = true;
-    // Capacity for routes and for nodes, and the room.
-    let wanted = [
-        (8, 1025, 7),
-        (5, 4098, 5),
-        (40, 10_000, 32),
-        (1, 130, 1),
-        (8, 129, 4),
-        (0, 4098, 4),
-        (8, 0, 4),
-    ];
-    for (routes, nodes, room) in wanted {
-        let table = over(rt.alloc(), routes, nodes).expect(&rt, "room");
-        is_right &= table.room() == room && table.as_slice().len() == 0;
-    }
-    assert!(rt; is_right);
+    assert!(rt; have_room(rt.alloc()));
+}
+
+/// Whether 10.1.9.9 is found behind the second router, by reading 21 nodes.
+fn finds_beside(routes: &Routes) -> bool {
+    let via = Some(IpAddress::Ipv4(router(2)));
+    finds(routes, &BESIDE, Instant::ZERO, via, 21)
+}
+
+fn is_empty_of_four(routes: &Routes) -> bool {
+    routes.as_slice().len() == 0
+        && routes.room() == 4
+        && finds(routes, &DISTANT, Instant::ZERO, None, 1)
+}
+
+fn takes_four_of(routes: &mut Routes, eight: &[Route; 8]) -> bool {
+    routes.set(eight.as_slice()) == Err(RouteTableFull)
+        && routes.as_slice().len() == 0
+        && routes.set(&eight[..4]) == Ok(())
+        && routes.push(eight[4]) == Err(RouteTableFull)
+        && routes.as_slice() == &eight[..4]
+        && finds_beside(routes)
 }
 
 #[test]
@@ -355,50 +446,48 @@ fn storage_for_none_is_that_of_the_table(rt: HostRuntime) {
     let eight = eight_routes();
     let is_set = routes.set(eight.as_slice()) == Ok(());
     routes.set_storage(Vec::new(rt.alloc()), Vec::new(rt.alloc()));
-    let is_empty = routes.as_slice().len() == 0
-        && routes.room() == 4
-        && finds(&routes, &DISTANT, Instant::ZERO, None, 1);
-    let is_refused = routes.set(eight.as_slice()) == Err(RouteTableFull)
-        && routes.as_slice().len() == 0
-        && routes.set(&eight[..4]) == Ok(())
-        && routes.push(eight[4]) == Err(RouteTableFull)
-        && routes.as_slice() == &eight[..4];
-    let via = Some(IpAddress::Ipv4(router(2)));
-    let is_found = finds(&routes, &BESIDE, Instant::ZERO, via, 21);
-    assert!(rt; is_set && is_empty && is_refused && is_found);
+    assert!(rt; is_set && is_empty_of_four(&routes) && takes_four_of(&mut routes, &eight));
+}
+
+/// Whether a table of the eight has the others in order once the fifth is removed, and when none is.
+fn removes_the_fifth(routes: &mut Routes, eight: &[Route; 8]) -> bool {
+    let left = [
+        eight[0], eight[1], eight[2], eight[3], eight[5], eight[6], eight[7],
+    ];
+    routes.set(eight.as_slice()) == Ok(())
+        && routes.remove(4) == Some(eight[4])
+        && routes.as_slice() == left.as_slice()
+        && routes.remove(7) == None
+        && routes.as_slice() == left.as_slice()
+        && finds_beside(routes)
 }
 
 #[test]
 fn a_removed_route_leaves_the_others_in_order(rt: HostRuntime) {
     let mut routes = over(rt.alloc(), 8, 1026).expect(&rt, "room");
-    let eight = eight_routes();
+    assert!(rt; removes_the_fifth(&mut routes, &eight_routes()));
+}
+
+fn sees_four_of_eight(routes: &mut Routes, eight: &[Route; 8]) -> bool {
     let is_set = routes.set(eight.as_slice()) == Ok(());
-    let left = [
-        eight[0], eight[1], eight[2], eight[3], eight[5], eight[6], eight[7],
-    ];
-    let is_removed = routes.remove(4) == Some(eight[4]) && routes.as_slice() == left.as_slice();
-    let is_none_removed = routes.remove(7) == None && routes.as_slice() == left.as_slice();
-    let via = Some(IpAddress::Ipv4(router(2)));
-    let is_found = finds(&routes, &BESIDE, Instant::ZERO, via, 21);
-    assert!(rt; is_set && is_removed && is_none_removed && is_found);
+    truncate(routes);
+    is_set && routes.as_slice() == &eight[..3] && routes.room() == 8
+}
+
+/// Also where there is room for one alone.
+fn sees_four_of_one(routes: &mut Routes, eight: &[Route; 8]) -> bool {
+    let is_one = routes.push(eight[0]) == Ok(()) && routes.push(eight[1]) == Err(RouteTableFull);
+    append(routes, eight[1]);
+    is_one && routes.as_slice() == &eight[..2] && routes.push(eight[2]) == Err(RouteTableFull)
 }
 
 #[test]
 fn an_update_sees_the_first_four(rt: HostRuntime) {
-    let mut routes = over(rt.alloc(), 8, 1026).expect(&rt, "room");
     let eight = eight_routes();
-    let is_set = routes.set(eight.as_slice()) == Ok(());
-    routes.update(|mut list| {
-        list.truncate(3);
-        list
-    });
-    let are_three = routes.as_slice() == &eight[..3] && routes.room() == 8;
-    // Also where there is room for one alone.
+    let mut routes = over(rt.alloc(), 8, 1026).expect(&rt, "room");
+    let are_three = sees_four_of_eight(&mut routes, &eight);
     let mut routes = over(rt.alloc(), 1, 130).expect(&rt, "room");
-    let is_one = routes.push(eight[0]) == Ok(()) && routes.push(eight[1]) == Err(RouteTableFull);
-    append(&mut routes, eight[1]);
-    let are_two = routes.as_slice() == &eight[..2] && routes.push(eight[2]) == Err(RouteTableFull);
-    assert!(rt; is_set && are_three && is_one && are_two);
+    assert!(rt; are_three && sees_four_of_one(&mut routes, &eight));
 }
 
 #[test]

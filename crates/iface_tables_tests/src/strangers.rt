@@ -1,7 +1,5 @@
-use crate::frames::{
-    HARDWARE, OWN, arp_of, hardware, icmpv6_behind_options, icmpv6_of, ipv4_of, known, ports, put,
-    request_for,
-};
+//! What a guard lets through of strangers, of claims of own addresses, and of what only looks ordinary.
+use crate::frames::{Change, Frame, HARDWARE, Kind, OWN, at, hardware, known, octets_of};
 use guard::guard::{Guard, Reason};
 use guard::queries::Waits;
 use guard::watch::{Conflict, Watch};
@@ -10,458 +8,596 @@ use ip_wire::{EthernetAddress, IpAddress, Ipv4Address};
 use net_base::bucket::Bucket;
 use net_base::time::Instant;
 
-// A frame at this many milliseconds, and why it is dropped.
-type Row<'a> = (u32, &'a [u8], Option<Reason>);
+/// A frame at this many milliseconds, and why it is dropped.
+type Row = (u32, Frame, Option<Reason>);
 
-// What becomes of a frame at this many milliseconds.
-fn judged(guard: &mut Guard, millis: u32, frame: &[u8], neighbors: &Cache) -> Option<Reason> {
-    let now = Instant::from_micros(i64::from(millis) * 1_000);
-    guard.judge(now, frame, hardware(), &OWN, neighbors, Waits::NONE)
+/// What becomes of a frame at this many milliseconds.
+fn judged(guard: &mut Guard, millis: u32, frame: &Frame, neighbors: &Cache) -> Option<Reason> {
+    let octets = octets_of(frame);
+    guard.judge(
+        at(millis),
+        octets.as_slice(),
+        hardware(),
+        &OWN,
+        neighbors,
+        Waits::NONE,
+    )
 }
 
-// Judges frames one after the other, and gives the first row that says otherwise.
-fn first_wrong(guard: &mut Guard, neighbors: &Cache, rows: &[Row<'_>]) -> Option<usize> {
-    for (index, (millis, frame, reason)) in rows.iter().enumerate() {
-        if judged(guard, *millis, frame, neighbors) != *reason {
-            return Some(index);
+/// Judges frames one after the other, and gives the place of the first row that says otherwise.
+fn first_wrong(guard: &mut Guard, rows: &[Row]) -> Option<usize> {
+    let neighbors = known();
+    for (place, (millis, frame, reason)) in rows.iter().enumerate() {
+        if judged(guard, *millis, frame, &neighbors) != *reason {
+            return Some(place);
         }
     }
     None
 }
 
-// Where the rate is two in a second and two at once, two strangers pass at once, and one more each half second.
+/// The same for a guard by the usual rules.
+fn first_wrong_usually(rows: &[Row]) -> Option<usize> {
+    first_wrong(&mut Guard::new(), rows)
+}
+
+/// Whether the rows are right nine times, one after the other.
+fn are_always_right(guard: &mut Guard, rows: &[Row]) -> bool {
+    for _ in 0..9 {
+        if first_wrong(guard, rows).is_some() {
+            return false;
+        }
+    }
+    true
+}
+
+/// Where the rate is two in a second and two at once, two strangers pass at once, and one more each half second.
+const TWO_IN_A_SECOND: [Row; 6] = [
+    (1000, (Kind::Arp(10), &[]), None),
+    (1000, (Kind::Arp(11), &[]), None),
+    (1000, (Kind::Arp(12), &[]), Some(Reason::NewNeighbor)),
+    (
+        1499,
+        (Kind::Icmpv6(135, 13, 1), &[]),
+        Some(Reason::NewNeighbor),
+    ),
+    (1500, (Kind::Icmpv6(135, 14, 1), &[]), None),
+    (
+        1501,
+        (Kind::BehindOptions(135, 15, 1), &[]),
+        Some(Reason::NewNeighbor),
+    ),
+];
+
 #[test]
 fn two_strangers_pass_in_a_second(rt: HostRuntime) {
-    let (mut guard, neighbors) = (Guard::new(), known());
+    let mut guard = Guard::new();
     guard.neighbors = Bucket::new(500_000, 2);
-    let dropped = Some(Reason::NewNeighbor);
-    let rows: [Row<'_>; 6] = [
-        (1000, &arp_of(10), None),
-        (1000, &arp_of(11), None),
-        (1000, &arp_of(12), dropped),
-        (1499, &icmpv6_of(135, 13, 1), dropped),
-        (1500, &icmpv6_of(135, 14, 1), None),
-        (1501, &icmpv6_behind_options(135, 15, 1), dropped),
-    ];
-    assert_eq!(rt; first_wrong(&mut guard, &neighbors, &rows), None);
+    assert!(rt; first_wrong(&mut guard, &TWO_IN_A_SECOND).is_none());
 }
 
-// Usually eight pass at once, and one more each half second.
+/// Usually eight pass at once, and one more each half second.
+const EIGHT_AT_ONCE: [Row; 10] = [
+    (1000, (Kind::Arp(10), &[]), None),
+    (1000, (Kind::Arp(11), &[]), None),
+    (1000, (Kind::Arp(12), &[]), None),
+    (1000, (Kind::Arp(13), &[]), None),
+    (1000, (Kind::Arp(14), &[]), None),
+    (1000, (Kind::Arp(15), &[]), None),
+    (1000, (Kind::Arp(16), &[]), None),
+    (1000, (Kind::Arp(17), &[]), None),
+    (1499, (Kind::Arp(18), &[]), Some(Reason::NewNeighbor)),
+    (1500, (Kind::Arp(18), &[]), None),
+];
+
 #[test]
 fn eight_strangers_pass_at_once(rt: HostRuntime) {
-    let (mut guard, neighbors) = (Guard::new(), known());
-    for last in 10..18 {
-        assert!(&rt; judged(&mut guard, 1000, &arp_of(last), &neighbors).is_none());
-    }
-    let ninth = arp_of(18);
-    let rows: [Row<'_>; 2] = [
-        (1499, &ninth, Some(Reason::NewNeighbor)),
-        (1500, &ninth, None),
-    ];
-    assert_eq!(rt; first_wrong(&mut guard, &neighbors, &rows), None);
+    assert!(rt; first_wrong_usually(&EIGHT_AT_ONCE).is_none());
 }
 
-// ARP packets for other hosts take nothing of the rate (RFC 826: they aren't for the host).
+/// ARP packets for other hosts take nothing of the rate (RFC 826: they aren't for the host).
+const FOR_OTHERS: [Row; 1] = [(1000, (Kind::Arp(10), &[Change::Octets(41, &[9])]), None)];
+
+const FOR_THE_HOST: [Row; 2] = [
+    (1000, (Kind::Arp(10), &[]), None),
+    (1000, (Kind::Arp(11), &[]), Some(Reason::NewNeighbor)),
+];
+
 #[test]
 fn arp_for_others_passes(rt: HostRuntime) {
-    let (mut guard, neighbors) = (Guard::new(), known());
+    let mut guard = Guard::new();
     guard.neighbors = Bucket::new(500_000, 1);
-    let mut other = arp_of(10);
-    other[41] = 9;
-    for _ in 0..9 {
-        assert!(&rt; judged(&mut guard, 1000, &other, &neighbors).is_none());
-    }
-    let rows: [Row<'_>; 2] = [
-        (1000, &arp_of(10), None),
-        (1000, &arp_of(11), Some(Reason::NewNeighbor)),
+    let pass = are_always_right(&mut guard, &FOR_OTHERS);
+    assert!(rt; pass && first_wrong(&mut guard, &FOR_THE_HOST).is_none());
+}
+
+/// Whether a stranger, a query and a router pass, as long as nothing bounds them.
+fn pass_unbounded(guard: &mut Guard, last: u8) -> bool {
+    let millis = 5000_u32.saturating_sub(u32::from(last) * 100);
+    let rows: [Row; 3] = [
+        (millis, (Kind::Arp(last), &[]), None),
+        (millis, (Kind::Ipv4(2, 1, 2, 0x11), &[]), None),
+        (millis, (Kind::Icmpv6(134, last, 0), &[]), None),
     ];
-    assert_eq!(rt; first_wrong(&mut guard, &neighbors, &rows), None);
+    first_wrong(guard, &rows).is_none()
+}
+
+/// Whether those pass at ever earlier moments.
+fn all_pass_unbounded(guard: &mut Guard) -> bool {
+    for last in 10..30 {
+        if !pass_unbounded(guard, last) {
+            return false;
+        }
+    }
+    true
 }
 
 // A rate whose interval is 0 bounds nothing, also where time goes back.
 #[test]
 fn no_interval_is_no_bound(rt: HostRuntime) {
-    let (mut guard, neighbors) = (Guard::new(), known());
+    let mut guard = Guard::new();
     guard.neighbors = Bucket::new(0, 0);
     guard.queries = Bucket::new(0, 0);
     guard.router_time = 0;
-    for last in 10..30 {
-        let millis = 5000 - u32::from(last) * 100;
-        let rows: [Row<'_>; 3] = [
-            (millis, &arp_of(last), None),
-            (millis, &ipv4_of(2, 1, 2, 0x11), None),
-            (millis, &icmpv6_of(134, last, 0), None),
-        ];
-        assert_eq!(&rt; first_wrong(&mut guard, &neighbors, &rows), None);
-    }
+    assert!(rt; all_pass_unbounded(&mut guard));
 }
 
-// Ten strangers ask for the host.
-fn ten_ask(guard: &mut Guard, millis: u32, neighbors: &Cache) {
+/// Ten strangers ask for the host.
+fn ten_ask(guard: &mut Guard, millis: u32) {
+    let neighbors = known();
     for last in 10..20 {
-        let _ = judged(guard, millis, &arp_of(last), neighbors);
+        let _ = judged(guard, millis, &(Kind::Arp(last), &[]), &neighbors);
     }
 }
 
-// A neighbour that is known passes always, and so does who was asked for, for three seconds.
+/// The host sends a frame at this many milliseconds.
+fn send(guard: &mut Guard, millis: u32, frame: &Frame) {
+    guard.note_sent(at(millis), octets_of(frame).as_slice());
+}
+
+/// A neighbour that is known passes always.
+const KNOWN: [Row; 2] = [
+    (1000, (Kind::Arp(2), &[]), None),
+    (1000, (Kind::Arp(30), &[]), Some(Reason::NewNeighbor)),
+];
+
+const EXPECTED: [Row; 1] = [(1001, (Kind::Arp(30), &[]), None)];
+
+const NO_LONGER_EXPECTED: [Row; 2] = [
+    (4000, (Kind::Arp(30), &[]), None),
+    (4001, (Kind::Arp(30), &[]), Some(Reason::NewNeighbor)),
+];
+
+/// Who was asked for passes, for three seconds.
+fn is_expected_for_three_seconds(guard: &mut Guard) -> bool {
+    ten_ask(guard, 1000);
+    let before = first_wrong(guard, &KNOWN);
+    send(guard, 1000, &(Kind::RequestFor(30), &[]));
+    let expected = first_wrong(guard, &EXPECTED);
+    ten_ask(guard, 4000);
+    let behind = first_wrong(guard, &NO_LONGER_EXPECTED);
+    before.is_none() && expected.is_none() && behind.is_none()
+}
+
 #[test]
 fn who_is_expected_passes(rt: HostRuntime) {
-    let (mut guard, neighbors) = (Guard::new(), known());
-    let dropped = Some(Reason::NewNeighbor);
-    let frame = arp_of(30);
-    ten_ask(&mut guard, 1000, &neighbors);
-    let rows: [Row<'_>; 2] = [(1000, &arp_of(2), None), (1000, &frame, dropped)];
-    let before = first_wrong(&mut guard, &neighbors, &rows);
-    guard.note_sent(Instant::from_millis(1000), &request_for(30));
-    let expected = judged(&mut guard, 1001, &frame, &neighbors);
-    ten_ask(&mut guard, 4000, &neighbors);
-    let rows: [Row<'_>; 2] = [(4000, &frame, None), (4001, &frame, dropped)];
-    let behind = first_wrong(&mut guard, &neighbors, &rows);
-    assert!(rt; before.is_none() && expected.is_none() && behind.is_none());
+    assert!(rt; is_expected_for_three_seconds(&mut Guard::new()));
 }
 
-// A solicitation is a request, an advertisement isn't; nor is an ARP reply.
+/// An answer about fe80::33.
+const ANSWER: Frame = (Kind::Icmpv6(136, 33, 33), &[]);
+
+const UNASKED: [Row; 1] = [(1000, ANSWER, Some(Reason::NewNeighbor))];
+
+const ASKED: [Row; 1] = [(1000, ANSWER, None)];
+
+const REPLIED: [Row; 2] = [
+    (1000, (Kind::Arp(40), &[]), Some(Reason::NewNeighbor)),
+    (1000, ANSWER, None),
+];
+
+/// A solicitation is a request, an advertisement isn't; nor is an ARP reply.
+fn are_requests_noted(guard: &mut Guard) -> bool {
+    ten_ask(guard, 1000);
+    send(guard, 1000, &(Kind::Icmpv6(136, 1, 33), &[]));
+    let told = first_wrong(guard, &UNASKED);
+    send(guard, 1000, &(Kind::Icmpv6(135, 1, 33), &[]));
+    let asked = first_wrong(guard, &ASKED);
+    send(
+        guard,
+        1000,
+        &(Kind::RequestFor(40), &[Change::Octets(21, &[2])]),
+    );
+    let replied = first_wrong(guard, &REPLIED);
+    told.is_none() && asked.is_none() && replied.is_none()
+}
+
 #[test]
 fn requests_are_noted(rt: HostRuntime) {
-    let (mut guard, neighbors) = (Guard::new(), known());
-    ten_ask(&mut guard, 1000, &neighbors);
-    let now = Instant::from_millis(1000);
-    let answer = icmpv6_of(136, 33, 33);
-    guard.note_sent(now, &icmpv6_of(136, 1, 33));
-    let told = judged(&mut guard, 1000, &answer, &neighbors);
-    guard.note_sent(now, &icmpv6_of(135, 1, 33));
-    let asked = judged(&mut guard, 1000, &answer, &neighbors);
-    let mut reply = request_for(40);
-    reply[21] = 2;
-    guard.note_sent(now, &reply);
-    let replied = judged(&mut guard, 1000, &arp_of(40), &neighbors);
-    let again = judged(&mut guard, 1000, &answer, &neighbors);
-    assert!(rt; told.is_some() && asked.is_none() && replied.is_some() && again.is_none());
+    assert!(rt; are_requests_noted(&mut Guard::new()));
 }
 
-// Nobody claims an address of the host, and who has none yet isn't told from others (RFC 5227 2.1).
+/// Nobody claims an address of the host.
+const CLAIMS: [Row; 4] = [
+    (0, (Kind::Arp(1), &[]), Some(Reason::OwnAddress)),
+    (0, (Kind::Icmpv6(136, 9, 1), &[]), Some(Reason::OwnAddress)),
+    (0, (Kind::Icmpv6(135, 1, 7), &[]), Some(Reason::OwnAddress)),
+    (0, (Kind::Ipv4(17, 1, 1, 0), &[]), Some(Reason::OwnSource)),
+];
+
+/// Who has no address yet isn't told from others (RFC 5227 2.1).
+const PROBE: [Row; 1] = [(0, (Kind::Arp(0), &[Change::Octets(28, &[0, 0, 0])]), None)];
+
 #[test]
 fn own_addresses_are_claimed_by_nobody(rt: HostRuntime) {
-    let (mut guard, neighbors) = (Guard::new(), known());
-    let claimed = Some(Reason::OwnAddress);
-    let rows: [Row<'_>; 4] = [
-        (0, &arp_of(1), claimed),
-        (0, &icmpv6_of(136, 9, 1), claimed),
-        (0, &icmpv6_of(135, 1, 7), claimed),
-        (0, &ipv4_of(17, 1, 1, 0), Some(Reason::OwnSource)),
-    ];
-    assert_eq!(&rt; first_wrong(&mut guard, &neighbors, &rows), None);
-    let mut probe = arp_of(0);
-    (probe[28], probe[29], probe[30]) = (0, 0, 0);
-    for _ in 0..9 {
-        assert!(&rt; judged(&mut guard, 0, &probe, &neighbors).is_none());
-    }
+    let mut guard = Guard::new();
+    let are_claimed = first_wrong(&mut guard, &CLAIMS).is_none();
+    assert!(rt; are_claimed && are_always_right(&mut guard, &PROBE));
 }
 
-// What comes from the own hardware address and tells that one is no conflict: an ARP packet by the source of the frame and by that in
-// the packet (RFC 826), so what the host sends may come back to it.
+/// From the own hardware address, and telling it.
+const FROM_OWN: Change = Change::Octets(6, &HARDWARE);
+
+const TELLING_OWN: Change = Change::Octets(22, &HARDWARE);
+
+const FROM_NINTH: Change = Change::Octets(6, &[2, 0, 0, 0, 0, 9]);
+
+/// What comes from the own hardware address and tells that one is no conflict: an ARP packet by the source of the frame and
+/// by that in the packet (RFC 826), so what the host sends may come back to it.
+const OWN_ARP: [Row; 3] = [
+    (0, (Kind::Arp(1), &[FROM_OWN]), Some(Reason::OwnAddress)),
+    (0, (Kind::Arp(1), &[FROM_OWN, TELLING_OWN]), None),
+    (
+        0,
+        (Kind::Arp(1), &[FROM_OWN, TELLING_OWN, FROM_NINTH]),
+        Some(Reason::OwnAddress),
+    ),
+];
+
 #[test]
 fn own_arp_comes_back(rt: HostRuntime) {
-    let (mut guard, neighbors) = (Guard::new(), known());
-    let claimed = Some(Reason::OwnAddress);
-    let mut header = arp_of(1);
-    put(&mut header, 6, HARDWARE);
-    let mut both = header;
-    put(&mut both, 22, HARDWARE);
-    let mut packet = both;
-    put(&mut packet, 6, [2, 0, 0, 0, 0, 9]);
-    let rows: [Row<'_>; 3] = [
-        (0, &header, claimed),
-        (0, &both, None),
-        (0, &packet, claimed),
-    ];
-    assert_eq!(rt; first_wrong(&mut guard, &neighbors, &rows), None);
+    assert!(rt; first_wrong_usually(&OWN_ARP).is_none());
 }
 
-// A neighbour message as far as its option.
-fn without_option(message: &[u8; 86]) -> &[u8] {
-    &message[..78]
-}
+const OWN_OPTION: Change = Change::Octets(80, &HARDWARE);
 
-// A neighbour message has no option, or just one, with that address (RFC 4861 4.6.1).
+/// A neighbour message has no option, or just one, with that address (RFC 4861 4.6.1).
+const OWN_MESSAGES: [Row; 4] = [
+    (
+        0,
+        (Kind::Icmpv6(136, 1, 1), &[FROM_OWN]),
+        Some(Reason::OwnAddress),
+    ),
+    (
+        0,
+        (Kind::Icmpv6(136, 1, 1), &[FROM_OWN, Change::Len(78)]),
+        None,
+    ),
+    (0, (Kind::Icmpv6(136, 1, 1), &[FROM_OWN, OWN_OPTION]), None),
+    (
+        0,
+        (
+            Kind::Icmpv6(136, 1, 1),
+            &[FROM_OWN, OWN_OPTION, Change::Len(94)],
+        ),
+        Some(Reason::OwnAddress),
+    ),
+];
+
 #[test]
 fn own_messages_come_back(rt: HostRuntime) {
-    let (mut guard, neighbors) = (Guard::new(), known());
-    let claimed = Some(Reason::OwnAddress);
-    let mut other = icmpv6_of(136, 1, 1);
-    put(&mut other, 6, HARDWARE);
-    let mut own = other;
-    put(&mut own, 80, HARDWARE);
-    let mut longer = [0; 94];
-    for i in 0..86 {
-        longer[i] = own[i];
-    }
-    let rows: [Row<'_>; 4] = [
-        (0, &other, claimed),
-        (0, without_option(&other), None),
-        (0, &own, None),
-        (0, &longer, claimed),
-    ];
-    assert_eq!(rt; first_wrong(&mut guard, &neighbors, &rows), None);
+    assert!(rt; first_wrong_usually(&OWN_MESSAGES).is_none());
 }
 
-// A packet from an own address comes back from the own hardware address, also to a small service; but not from another one, and not
-// where there are no hardware addresses.
-#[test]
-fn own_packets_come_back(rt: HostRuntime) {
-    let (mut guard, neighbors) = (Guard::new(), known());
-    let stolen = Some(Reason::OwnSource);
-    let mut other = ipv4_of(17, 1, 1, 0);
-    (other[35], other[37]) = (7, 7);
-    let mut own = other;
-    put(&mut own, 6, HARDWARE);
-    let none = guard.judge(
-        Instant::from_millis(0),
-        &own,
+/// A datagram from an own address to itself, from port 7 to port 7.
+const TO_ITSELF: Change = Change::Octets(34, &[0, 7, 0, 7]);
+
+/// A packet from an own address comes back from the own hardware address, also to a small service; but not from another one.
+const OWN_PACKETS: [Row; 3] = [
+    (
+        0,
+        (Kind::Ipv4(17, 1, 1, 0), &[TO_ITSELF]),
+        Some(Reason::OwnSource),
+    ),
+    (0, (Kind::Ipv4(17, 1, 1, 0), &[TO_ITSELF, FROM_OWN]), None),
+    (
+        0,
+        (
+            Kind::Ipv4(17, 1, 1, 0),
+            &[TO_ITSELF, FROM_OWN, Change::Octets(29, &[9])],
+        ),
+        Some(Reason::Loop),
+    ),
+];
+
+/// What becomes of an own packet where there are no hardware addresses.
+fn judged_without_hardware(guard: &mut Guard) -> Option<Reason> {
+    let octets = octets_of(&(Kind::Ipv4(17, 1, 1, 0), &[TO_ITSELF, FROM_OWN]));
+    let neighbors = known();
+    guard.judge(
+        at(0),
+        octets.as_slice(),
         None,
         &OWN,
         &neighbors,
         Waits::NONE,
-    );
-    let mut looping = own;
-    looping[29] = 9;
-    let rows: [Row<'_>; 3] = [
-        (0, &other, stolen),
-        (0, &own, None),
-        (0, &looping, Some(Reason::Loop)),
-    ];
-    let wrong = first_wrong(&mut guard, &neighbors, &rows);
-    assert!(rt; none == stolen && wrong.is_none());
+    )
 }
 
-// Of a pinned neighbour messages pass that tell its hardware address, and no others; of others they pass.
+#[test]
+fn own_packets_come_back(rt: HostRuntime) {
+    let mut guard = Guard::new();
+    let is_stolen = judged_without_hardware(&mut guard) == Some(Reason::OwnSource);
+    assert!(rt; is_stolen && first_wrong(&mut guard, &OWN_PACKETS).is_none());
+}
+
+/// The second neighbour tells its own hardware address, and not that of the ninth.
+const SECOND_ITSELF: Frame = (Kind::Arp(2), &[Change::Octets(22, &[2, 0, 0, 0, 0, 2])]);
+
+/// Of a pinned neighbour messages pass that tell its hardware address, and no others; of others they pass.
+const PINNED: [Row; 3] = [
+    (0, (Kind::Arp(2), &[]), Some(Reason::Pinned)),
+    (0, (Kind::Arp(3), &[]), None),
+    (0, SECOND_ITSELF, None),
+];
+
+const MOVED: [Row; 2] = [
+    (0, SECOND_ITSELF, Some(Reason::Pinned)),
+    (0, (Kind::Arp(2), &[]), None),
+];
+
+const UNPINNED: [Row; 1] = [(0, SECOND_ITSELF, None)];
+
+fn are_pinned_and_moved(guard: &mut Guard) -> bool {
+    let address = IpAddress::Ipv4(Ipv4Address { bits: 0xc0a8_0102 });
+    guard.pins.pin(address, EthernetAddress([2, 0, 0, 0, 0, 2]))
+        && first_wrong(guard, &PINNED).is_none()
+        && guard.pins.pin(address, EthernetAddress([2, 0, 0, 0, 0, 9]))
+        && first_wrong(guard, &MOVED).is_none()
+        && guard.pins.unpin(address)
+        && !guard.pins.unpin(address)
+        && first_wrong(guard, &UNPINNED).is_none()
+}
+
 #[test]
 fn pinned_neighbors_stay(rt: HostRuntime) {
-    let (mut guard, neighbors) = (Guard::new(), known());
-    let elsewhere = Some(Reason::Pinned);
-    let address = IpAddress::Ipv4(Ipv4Address { bits: 0xc0a8_0102 });
-    let mut own = arp_of(2);
-    put(&mut own, 22, [2, 0, 0, 0, 0, 2]);
-    let is_pinned = guard.pins.pin(address, EthernetAddress([2, 0, 0, 0, 0, 2]));
-    let rows: [Row<'_>; 3] = [
-        (0, &arp_of(2), elsewhere),
-        (0, &arp_of(3), None),
-        (0, &own, None),
-    ];
-    let first = first_wrong(&mut guard, &neighbors, &rows);
-    let is_moved = guard.pins.pin(address, EthernetAddress([2, 0, 0, 0, 0, 9]));
-    let rows: [Row<'_>; 2] = [(0, &own, elsewhere), (0, &arp_of(2), None)];
-    let second = first_wrong(&mut guard, &neighbors, &rows);
-    let is_unpinned = guard.pins.unpin(address) && !guard.pins.unpin(address);
-    let last = judged(&mut guard, 0, &own, &neighbors);
-    let are_told = first.is_none() && second.is_none() && last.is_none();
-    assert!(rt; is_pinned && is_moved && is_unpinned && are_told);
+    assert!(rt; are_pinned_and_moved(&mut Guard::new()));
+}
+
+/// Whether the neighbour of a number can be pinned.
+fn is_pinned(guard: &mut Guard, bits: u32) -> bool {
+    let address = IpAddress::Ipv4(Ipv4Address { bits });
+    guard.pins.pin(address, EthernetAddress([2, 0, 0, 0, 0, 2]))
+}
+
+fn are_eight_pinned(guard: &mut Guard) -> bool {
+    for bits in 1..9 {
+        if !is_pinned(guard, bits) {
+            return false;
+        }
+    }
+    true
 }
 
 // Eight neighbours are pinned at most.
 #[test]
 fn eight_are_pinned(rt: HostRuntime) {
     let mut guard = Guard::new();
-    let hardware = EthernetAddress([2, 0, 0, 0, 0, 2]);
-    for last in 1..9 {
-        let address = IpAddress::Ipv4(Ipv4Address { bits: last });
-        assert!(&rt; guard.pins.pin(address, hardware));
-    }
     let third = IpAddress::Ipv4(Ipv4Address { bits: 3 });
-    let eighth = IpAddress::Ipv4(Ipv4Address { bits: 8 });
-    let ninth = IpAddress::Ipv4(Ipv4Address { bits: 9 });
-    let is_full = !guard.pins.pin(ninth, hardware) && guard.pins.pin(eighth, hardware);
-    let has_room = guard.pins.unpin(third) && guard.pins.pin(ninth, hardware);
-    assert!(rt; is_full && has_room);
+    let is_full = are_eight_pinned(&mut guard)
+        && !is_pinned(&mut guard, 9)
+        && is_pinned(&mut guard, 8);
+    assert!(rt; is_full && guard.pins.unpin(third) && is_pinned(&mut guard, 9));
 }
 
-// Of packets for whose answer the host would have to ask one passes in two seconds; those of known neighbours and of other
-// networks pass all.
+/// Of packets for whose answer the host would have to ask one passes in two seconds; those of known neighbours and of other
+/// networks pass all.
+const DISCOVERIES: [Row; 5] = [
+    (1000, (Kind::Ipv4(1, 1, 77, 8), &[]), None),
+    (
+        2999,
+        (Kind::Ipv4(1, 1, 78, 8), &[]),
+        Some(Reason::Discovery),
+    ),
+    (2999, (Kind::Ipv4(1, 1, 2, 8), &[]), None),
+    (2999, (Kind::Ipv4(1, 9, 77, 8), &[]), None),
+    (3000, (Kind::Ipv4(1, 1, 78, 8), &[]), None),
+];
+
 #[test]
 fn one_discovery_passes_in_two_seconds(rt: HostRuntime) {
-    let (mut guard, neighbors) = (Guard::new(), known());
-    let rows: [Row<'_>; 5] = [
-        (1000, &ipv4_of(1, 1, 77, 8), None),
-        (2999, &ipv4_of(1, 1, 78, 8), Some(Reason::Discovery)),
-        (2999, &ipv4_of(1, 1, 2, 8), None),
-        (2999, &ipv4_of(1, 9, 77, 8), None),
-        (3000, &ipv4_of(1, 1, 78, 8), None),
-    ];
-    assert_eq!(rt; first_wrong(&mut guard, &neighbors, &rows), None);
+    assert!(rt; first_wrong_usually(&DISCOVERIES).is_none());
 }
 
-// Datagrams, segments, and what goes to a group take nothing of that rate.
+/// Datagrams, segments, and what goes to a group take nothing of that rate.
+const OF_STRANGERS: [Row; 3] = [
+    (1000, (Kind::Ipv4(17, 1, 77, 0x27), &[]), None),
+    (1000, (Kind::Ipv4(6, 1, 77, 0x27), &[]), None),
+    (
+        1000,
+        (Kind::Ipv4(1, 1, 77, 8), &[Change::Octets(30, &[224, 0, 0])]),
+        None,
+    ),
+];
+
+const FIRST_DISCOVERY: [Row; 1] = [(1000, (Kind::Ipv4(1, 1, 77, 8), &[]), None)];
+
 #[test]
 fn datagrams_of_strangers_pass(rt: HostRuntime) {
-    let (mut guard, neighbors) = (Guard::new(), known());
-    let mut to_group = ipv4_of(1, 1, 77, 8);
-    (to_group[30], to_group[31], to_group[32]) = (224, 0, 0);
-    let rows: [Row<'_>; 3] = [
-        (1000, &ipv4_of(17, 1, 77, 0x27), None),
-        (1000, &ipv4_of(6, 1, 77, 0x27), None),
-        (1000, &to_group, None),
-    ];
-    for _ in 0..9 {
-        assert_eq!(&rt; first_wrong(&mut guard, &neighbors, &rows), None);
-    }
-    assert!(rt; judged(&mut guard, 1000, &ipv4_of(1, 1, 77, 8), &neighbors).is_none());
+    let mut guard = Guard::new();
+    let pass = are_always_right(&mut guard, &OF_STRANGERS);
+    assert!(rt; pass && first_wrong(&mut guard, &FIRST_DISCOVERY).is_none());
 }
 
-// Datagrams from the ports of echo, daytime, quote and chargen (RFC 862, 867, 865, 864) to one below 1,024 are dropped, but not
-// those of other ports, and no fragment by what it has in the place of ports.
+/// Datagrams from the ports of echo, daytime, quote and chargen (RFC 862, 867, 865, 864) to one below 1,024 are dropped, but
+/// not those of other ports, and no fragment by what it has in the place of ports.
+const LOOPS: [Row; 15] = [
+    (0, (Kind::Ports(7, 0x0007), &[]), Some(Reason::Loop)),
+    (0, (Kind::Ports(7, 0x03ff), &[]), Some(Reason::Loop)),
+    (0, (Kind::Ports(7, 0x0400), &[]), None),
+    (0, (Kind::Ports(13, 0x0007), &[]), Some(Reason::Loop)),
+    (0, (Kind::Ports(13, 0x03ff), &[]), Some(Reason::Loop)),
+    (0, (Kind::Ports(13, 0x0400), &[]), None),
+    (0, (Kind::Ports(17, 0x0007), &[]), Some(Reason::Loop)),
+    (0, (Kind::Ports(17, 0x03ff), &[]), Some(Reason::Loop)),
+    (0, (Kind::Ports(17, 0x0400), &[]), None),
+    (0, (Kind::Ports(19, 0x0007), &[]), Some(Reason::Loop)),
+    (0, (Kind::Ports(19, 0x03ff), &[]), Some(Reason::Loop)),
+    (0, (Kind::Ports(19, 0x0400), &[]), None),
+    (0, (Kind::Ports(9, 7), &[]), None),
+    (0, (Kind::Ports(0x0107, 7), &[]), None),
+    (0, (Kind::Ports(7, 7), &[Change::Octets(21, &[1])]), None),
+];
+
+const LOOPS_IF_TOLD: [Row; 1] = [(0, (Kind::Ports(7, 7), &[]), None)];
+
 #[test]
 fn loops_are_dropped(rt: HostRuntime) {
-    let (mut guard, neighbors) = (Guard::new(), known());
-    let looping = Some(Reason::Loop);
-    for from in [7, 13, 17, 19] {
-        let rows: [Row<'_>; 3] = [
-            (0, &ports(from, 0x0007), looping),
-            (0, &ports(from, 0x03ff), looping),
-            (0, &ports(from, 0x0400), None),
-        ];
-        assert_eq!(&rt; first_wrong(&mut guard, &neighbors, &rows), None, "{from}");
-    }
-    let mut fragment = ports(7, 7);
-    fragment[21] = 1;
-    let rows: [Row<'_>; 3] = [
-        (0, &ports(9, 7), None),
-        (0, &ports(0x0107, 7), None),
-        (0, &fragment, None),
-    ];
-    let wrong = first_wrong(&mut guard, &neighbors, &rows);
+    let mut guard = Guard::new();
+    let are_dropped = first_wrong(&mut guard, &LOOPS).is_none();
     guard.drops_loops = false;
-    let passes = judged(&mut guard, 0, &ports(7, 7), &neighbors);
-    assert!(rt; wrong.is_none() && passes.is_none());
+    assert!(rt; are_dropped && first_wrong(&mut guard, &LOOPS_IF_TOLD).is_none());
 }
 
-// Fragments pass, unless they are to be dropped: by the flag MF or an offset (RFC 791 3.1), not by DF, and by next header 44
-// (RFC 8200 4.5).
+/// The first fragment of a packet, by the flag MF (RFC 791 3.1), and one of IPv6, by next header 44 (RFC 8200 4.5).
+const FIRST_FRAGMENT: Frame = (Kind::Ports(9, 9), &[Change::Octets(20, &[0x20])]);
+
+const FRAGMENT_OF_IPV6: Frame = (Kind::Icmpv6(1, 9, 9), &[Change::Octets(20, &[44])]);
+
+/// Fragments pass, unless they are to be dropped.
+const FRAGMENTS: [Row; 2] = [(0, FIRST_FRAGMENT, None), (0, FRAGMENT_OF_IPV6, None)];
+
+/// An offset makes a fragment, and DF doesn't.
+const FRAGMENTS_IF_TOLD: [Row; 4] = [
+    (0, FIRST_FRAGMENT, Some(Reason::Fragment)),
+    (
+        0,
+        (Kind::Ports(9, 9), &[Change::Octets(20, &[0x1f, 0xff])]),
+        Some(Reason::Fragment),
+    ),
+    (0, FRAGMENT_OF_IPV6, Some(Reason::Fragment)),
+    (0, (Kind::Ports(9, 9), &[Change::Octets(20, &[0x40])]), None),
+];
+
 #[test]
 fn fragments_are_dropped_if_told(rt: HostRuntime) {
-    let (mut guard, neighbors) = (Guard::new(), known());
-    let mut first = ports(9, 9);
-    first[20] = 0x20;
-    let mut last = ports(9, 9);
-    (last[20], last[21]) = (0x1f, 0xff);
-    let mut whole = ports(9, 9);
-    whole[20] = 0x40;
-    let mut of_ipv6 = icmpv6_of(1, 9, 9);
-    of_ipv6[20] = 44;
-    let dropped = Some(Reason::Fragment);
-    let rows: [Row<'_>; 2] = [(0, &first, None), (0, &of_ipv6, None)];
-    let passes = first_wrong(&mut guard, &neighbors, &rows);
+    let mut guard = Guard::new();
+    let pass = first_wrong(&mut guard, &FRAGMENTS).is_none();
     guard.drops_fragments = true;
-    let rows: [Row<'_>; 4] = [
-        (0, &first, dropped),
-        (0, &last, dropped),
-        (0, &of_ipv6, dropped),
-        (0, &whole, None),
-    ];
-    let are_dropped = first_wrong(&mut guard, &neighbors, &rows);
-    assert!(rt; passes.is_none() && are_dropped.is_none());
+    assert!(rt; pass && first_wrong(&mut guard, &FRAGMENTS_IF_TOLD).is_none());
 }
 
-// Whether a frame passes a guard on its post, at this many milliseconds.
-fn admits(watch: &mut Watch, millis: u32, frame: &[u8], neighbors: &Cache) -> bool {
-    let now = Instant::from_micros(i64::from(millis) * 1_000);
-    watch.admits(now, frame, hardware(), &OWN, neighbors, Waits::NONE)
+/// Whether a frame passes a guard on its post, at this many milliseconds.
+fn admits(watch: &mut Watch, millis: u32, frame: &Frame) -> bool {
+    let (octets, neighbors) = (octets_of(frame), known());
+    watch.admits(
+        at(millis),
+        octets.as_slice(),
+        hardware(),
+        &OWN,
+        &neighbors,
+        Waits::NONE,
+    )
 }
 
-// A guard on its post counts what it drops by the reason, and tells who claimed an own address.
+/// A frame at this many milliseconds, and whether it passes.
+const ADMITTED: [(u32, Frame, bool); 4] = [
+    (1000, (Kind::Arp(1), &[]), false),
+    (2000, (Kind::Arp(1), &[Change::Octets(11, &[66])]), false),
+    (1000, (Kind::Ports(7, 7), &[]), false),
+    (1000, (Kind::Arp(2), &[]), true),
+];
+
+const CONFLICT: Conflict = Conflict {
+    hardware: EthernetAddress([2, 0, 0, 0, 0, 66]),
+    at: Instant { micros: 2_000_000 },
+};
+
+/// Whether a guard on its post counts what it drops by the reason, and tells who claimed an own address.
+fn are_drops_counted(watch: &mut Watch) -> bool {
+    for (millis, frame, passes) in &ADMITTED {
+        if admits(watch, *millis, frame) != *passes {
+            return false;
+        }
+    }
+    let counts = watch.counts;
+    watch.conflict == Some(CONFLICT)
+        && [counts.own_address, counts.loops, counts.new_neighbor] == [2, 1, 0]
+}
+
 #[test]
 fn drops_are_counted(rt: HostRuntime) {
-    let (mut watch, neighbors) = (Watch::new(), known());
-    let mut sent_by = arp_of(1);
-    sent_by[11] = 66;
-    let rows: [(u32, &[u8], bool); 4] = [
-        (1000, &arp_of(1), false),
-        (2000, &sent_by, false),
-        (1000, &ports(7, 7), false),
-        (1000, &arp_of(2), true),
-    ];
-    for (index, (millis, frame, passes)) in rows.iter().enumerate() {
-        assert!(&rt;
-            admits(&mut watch, *millis, frame, &neighbors) == *passes,
-            "{index}"
-        );
-    }
-    let conflict = Conflict {
-        hardware: EthernetAddress([2, 0, 0, 0, 0, 66]),
-        at: Instant::from_millis(2000),
-    };
-    let counts = watch.counts;
-    let dropped = [counts.own_address, counts.loops, counts.new_neighbor];
-    assert!(rt; watch.conflict == Some(conflict) && dropped == [2, 1, 0]);
+    assert!(rt; are_drops_counted(&mut Watch::new()));
 }
 
-// What the host answers is counted, too; where the guard is off, all goes and nothing is counted.
+/// Whether what the host answers at a second, as so many octets, goes.
+fn goes(watch: &mut Watch, first: u8) -> bool {
+    let octets = octets_of(&(Kind::Ipv4(1, 1, 1, first), &[]));
+    watch.lets_go(at(1000), octets.as_slice(), 54)
+}
+
+/// What the host answers is counted, too; where the guard is off, all goes and nothing is counted.
+fn are_answers_counted(watch: &mut Watch) -> bool {
+    for _ in 0..12 {
+        let _ = goes(watch, 0);
+    }
+    let is_error_sent = goes(watch, 3);
+    watch.is_on = false;
+    is_error_sent
+        && admits(watch, 1000, &(Kind::Arp(1), &[]))
+        && goes(watch, 0)
+        && [watch.counts.echo_reply, watch.counts.own_address] == [2, 0]
+}
+
 #[test]
 fn answers_are_counted(rt: HostRuntime) {
-    let (mut watch, neighbors) = (Watch::new(), known());
-    let now = Instant::from_millis(1000);
-    for _ in 0..12 {
-        let _ = watch.lets_go(now, &ipv4_of(1, 1, 1, 0), 54);
-    }
-    let goes = watch.lets_go(now, &ipv4_of(1, 1, 1, 3), 54);
-    watch.is_on = false;
-    let passes = admits(&mut watch, 1000, &arp_of(1), &neighbors);
-    let goes_on = watch.lets_go(now, &ipv4_of(1, 1, 1, 0), 54);
-    let counted = [watch.counts.echo_reply, watch.counts.own_address];
-    assert!(rt; goes && passes && goes_on && counted == [2, 0]);
+    assert!(rt; are_answers_counted(&mut Watch::new()));
 }
 
-// One query passes in a second, of either family.
+const QUERY: Frame = (Kind::Ipv4(2, 1, 2, 0x11), &[]);
+
+const LISTENER_QUERY: Frame = (Kind::BehindOptions(130, 9, 0), &[]);
+
+/// One query passes in a second, of either family.
+const QUERIES: [Row; 5] = [
+    (1000, QUERY, None),
+    (1999, LISTENER_QUERY, Some(Reason::Query)),
+    (2000, LISTENER_QUERY, None),
+    (2000, QUERY, Some(Reason::Query)),
+    (2000, (Kind::Ipv4(2, 1, 2, 0x16), &[]), None),
+];
+
 #[test]
 fn one_query_passes_in_a_second(rt: HostRuntime) {
-    let (mut guard, neighbors) = (Guard::new(), known());
-    let dropped = Some(Reason::Query);
-    let query = ipv4_of(2, 1, 2, 0x11);
-    let listener_query = icmpv6_behind_options(130, 9, 0);
-    let rows: [Row<'_>; 5] = [
-        (1000, &query, None),
-        (1999, &listener_query, dropped),
-        (2000, &listener_query, None),
-        (2000, &query, dropped),
-        (2000, &ipv4_of(2, 1, 2, 0x16), None),
-    ];
-    assert_eq!(rt; first_wrong(&mut guard, &neighbors, &rows), None);
+    assert!(rt; first_wrong_usually(&QUERIES).is_none());
 }
 
-// The router that was heard last passes, and another one a minute after that one came.
+const FIRST_ROUTER: Frame = (Kind::Icmpv6(134, 5, 0), &[]);
+
+const SECOND_ROUTER: Frame = (Kind::Icmpv6(134, 6, 0), &[]);
+
+/// The router that was heard last passes, and another one a minute after that one came.
+const ROUTERS: [Row; 6] = [
+    (1000, FIRST_ROUTER, None),
+    (1001, SECOND_ROUTER, Some(Reason::Router)),
+    (30_000, FIRST_ROUTER, None),
+    (60_999, SECOND_ROUTER, Some(Reason::Router)),
+    (61_000, SECOND_ROUTER, None),
+    (61_001, FIRST_ROUTER, Some(Reason::Router)),
+];
+
 #[test]
 fn another_router_passes_in_a_minute(rt: HostRuntime) {
-    let (mut guard, neighbors) = (Guard::new(), known());
-    let dropped = Some(Reason::Router);
-    let (first, second) = (icmpv6_of(134, 5, 0), icmpv6_of(134, 6, 0));
-    let rows: [Row<'_>; 6] = [
-        (1000, &first, None),
-        (1001, &second, dropped),
-        (30_000, &first, None),
-        (60_999, &second, dropped),
-        (61_000, &second, None),
-        (61_001, &first, dropped),
-    ];
-    assert_eq!(rt; first_wrong(&mut guard, &neighbors, &rows), None);
+    assert!(rt; first_wrong_usually(&ROUTERS).is_none());
 }
 
-// What is short, and what is neither ARP nor IP, passes.
+/// What is short, and what is neither ARP nor IP, passes.
+const OTHER_FRAMES: [Row; 3] = [
+    (0, (Kind::Arp(1), &[Change::Octets(12, &[0x88])]), None),
+    (0, (Kind::Arp(1), &[Change::Len(41)]), None),
+    (0, (Kind::Arp(1), &[Change::Len(0)]), None),
+];
+
 #[test]
 fn other_frames_pass(rt: HostRuntime) {
-    let (mut guard, neighbors) = (Guard::new(), known());
-    let mut other = arp_of(1);
-    other[12] = 0x88;
-    let whole = arp_of(1);
-    let rows: [Row<'_>; 3] = [
-        (0, &other, None),
-        (0, without_last(&whole), None),
-        (0, &[], None),
-    ];
-    for _ in 0..9 {
-        assert_eq!(&rt; first_wrong(&mut guard, &neighbors, &rows), None);
-    }
-}
-
-// An ARP packet without its last octet.
-fn without_last(frame: &[u8; 42]) -> &[u8] {
-    &frame[..41]
+    assert!(rt; are_always_right(&mut Guard::new(), &OTHER_FRAMES));
 }

@@ -1,7 +1,7 @@
-//! Tests of sockets and of sets of them.
+//! Tests of `sockets`: those of each kind, and their queues; and of `socket_set`: places, waits, and how sockets are found.
 #![tactic(auto)]
 
 #[cfg(test)]
-mod set;
+mod kinds;
 #[cfg(test)]
-mod tests;
+mod set;

@@ -1,3 +1,4 @@
+//! Sets of sockets: places, waits, and how sockets are found.
 // Each test also holds where any one request for memory is refused.
 use ip_wire::{IpAddress, IpProtocol, IpVersion, Ipv4Address};
 use net_base::time::Instant;
@@ -88,16 +89,28 @@ fn is_removed<'a>(set: &mut SocketSet<'a>, handle: SocketHandle) -> bool {
     }
 }
 
+/// Whether the first of two places is free once its socket is removed, and taken again.
+fn frees(
+    set: &mut SocketSet<'_>,
+    alloc: Global,
+    first: SocketHandle,
+    second: SocketHandle,
+) -> bool {
+    prints(alloc, &first, "#0")
+        && prints(alloc, &second, "#1")
+        && is_removed(set, first)
+        && !is_removed(set, first)
+        && !has::<udp::Socket<'_>>(set, first)
+        && has::<udp::Socket<'_>>(set, second)
+        && add_udp(set, alloc, 3) == Some(first)
+}
+
 #[test]
 fn a_freed_place_is_taken_again(rt: HostRuntime) {
     let mut set = SocketSet::new(Vec::new(rt.alloc()));
     let first = add_udp(&mut set, rt.alloc(), 1).unwrap_or_default();
     let second = add_udp(&mut set, rt.alloc(), 2).unwrap_or_default();
-    let are_numbered = prints(rt.alloc(), &first, "#0") && prints(rt.alloc(), &second, "#1");
-    let is_freed = is_removed(&mut set, first) && !is_removed(&mut set, first);
-    let is_gone = !has::<udp::Socket<'_>>(&set, first) && has::<udp::Socket<'_>>(&set, second);
-    let third = add_udp(&mut set, rt.alloc(), 3);
-    assert!(rt; are_numbered && is_freed && is_gone && third == Some(first));
+    assert!(rt; frees(&mut set, rt.alloc(), first, second));
 }
 
 // Whether the socket at an index may be asked, where this neighbour is known.
@@ -106,41 +119,56 @@ fn may_be_asked(set: &mut SocketSet<'_>, index: usize, micros: u32, known: IpAdd
     by_index::egress_permitted(set, index, timestamp, |a| a == known)
 }
 
+/// The index of a socket, microseconds, and whether it may be asked then.
+const WAITS: [(usize, u32, bool); 6] = [
+    (0, 1_000_000, false),
+    (0, 1_999_999, false),
+    (0, 2_000_000, true),
+    (0, 1_999_999, false),
+    (1, 1_000_000, true),
+    (2, 2_000_000, false),
+];
+
+/// The place of the first row that is otherwise.
+fn first_other_wait(set: &mut SocketSet<'_>) -> Option<usize> {
+    for (place, (index, micros, permitted)) in WAITS.iter().enumerate() {
+        if may_be_asked(set, *index, *micros, SECOND) != *permitted {
+            return Some(place);
+        }
+    }
+    None
+}
+
+/// Whether a new socket at the place of one that waited doesn't wait, nor one whose neighbour has become known.
+fn waits_no_longer(set: &mut SocketSet<'_>, alloc: Global) -> bool {
+    let is_new = is_removed(set, SocketHandle::default())
+        && !may_be_asked(set, 0, 3_000_000, FIRST)
+        && add_udp(set, alloc, 3) == Some(SocketHandle::default())
+        && may_be_asked(set, 0, 0, SECOND);
+    by_index::neighbor_missing(set, 0, Instant::from_secs(1), FIRST);
+    is_new && may_be_asked(set, 0, 0, FIRST) && may_be_asked(set, 0, 0, SECOND)
+}
+
 #[test]
 fn a_socket_waits_at_its_place(rt: HostRuntime) {
     let mut set = udp_set(rt.alloc(), 1..3);
     by_index::neighbor_missing(&mut set, 0, Instant::from_secs(1), FIRST);
     by_index::neighbor_missing(&mut set, 2, Instant::from_secs(1), FIRST);
-    for (index, micros, permitted) in [
-        (0, 1_000_000, false),
-        (0, 1_999_999, false),
-        (0, 2_000_000, true),
-        (0, 1_999_999, false),
-        (1, 1_000_000, true),
-        (2, 2_000_000, false),
-    ] {
-        let is_right = may_be_asked(&mut set, index, micros, SECOND) == permitted;
-        assert!(&rt; is_right, "{index} at {micros}");
-    }
-    let is_free = is_removed(&mut set, SocketHandle::default())
-        && !may_be_asked(&mut set, 0, 3_000_000, FIRST);
-    let third = add_udp(&mut set, rt.alloc(), 3);
-    let is_new = third == Some(SocketHandle::default()) && may_be_asked(&mut set, 0, 0, SECOND);
-    by_index::neighbor_missing(&mut set, 0, Instant::from_secs(1), FIRST);
-    // once the neighbour is known, the socket waits no longer
-    let is_found = may_be_asked(&mut set, 0, 0, FIRST) && may_be_asked(&mut set, 0, 0, SECOND);
-    assert!(rt; is_free && is_new && is_found);
+    let are_right = first_other_wait(&mut set).is_none();
+    assert!(rt; are_right && waits_no_longer(&mut set, rt.alloc()));
 }
 
-// A socket that found no neighbour at 1 s says when it is to be asked again, and then answers for itself.
+/// A socket that found no neighbour at 1 s says when it is to be asked again, and then answers for itself.
+fn tells_its_wait(set: &mut SocketSet<'_>) -> bool {
+    by_index::neighbor_missing(set, 0, Instant::from_secs(1), FIRST);
+    let (soon, end) = (Instant::from_millis(1500), Instant::from_millis(2000));
+    by_index::poll_at(set, 0, soon, |_| false) == PollAt::Time(end)
+        && by_index::poll_at(set, 0, end, |_| false) == PollAt::Ingress
+}
+
 #[test]
 fn a_wait_is_told_until_its_end(rt: HostRuntime) {
-    let mut set = udp_set(rt.alloc(), 1..2);
-    by_index::neighbor_missing(&mut set, 0, Instant::from_secs(1), FIRST);
-    let (soon, end) = (Instant::from_millis(1500), Instant::from_millis(2000));
-    let waits = by_index::poll_at(&set, 0, soon, |_| false) == PollAt::Time(end);
-    let is_over = by_index::poll_at(&set, 0, end, |_| false) == PollAt::Ingress;
-    assert!(rt; waits && is_over);
+    assert!(rt; tells_its_wait(&mut udp_set(rt.alloc(), 1..2)));
 }
 
 // A set with one place. If its room is refused, the next call gets it.
@@ -164,13 +192,15 @@ fn is_full<'a>(set: &mut SocketSet<'a>, alloc: Global, port: u16) -> bool {
     }
 }
 
+fn gives_back(set: &mut SocketSet<'_>, alloc: Global) -> bool {
+    add_udp(set, alloc, 7) == Some(SocketHandle::default())
+        && is_full(set, alloc, 8)
+        && by_index::places(set) == 1
+}
+
 #[test]
 fn a_fixed_set_gives_the_socket_back(rt: HostRuntime) {
-    let mut set = fixed_set(rt.alloc());
-    let first = add_udp(&mut set, rt.alloc(), 7);
-    let is_refused = is_full(&mut set, rt.alloc(), 8);
-    let is_first = first == Some(SocketHandle::default());
-    assert!(rt; is_first && is_refused && by_index::places(&set) == 1);
+    assert!(rt; gives_back(&mut fixed_set(rt.alloc()), rt.alloc()));
 }
 
 const REMOTE: IpEndpoint = IpEndpoint {
@@ -223,23 +253,33 @@ fn grows<'a>(alloc: Global, set: &mut SocketSet<'a>, ports: &[u16], port: u16) -
     }
 }
 
+const PORTS: [u16; 5] = [1, 2, 3, 4, 5];
+
+/// Whether a set takes sockets at all the ports, one after the other.
+fn grows_by_all<'a>(alloc: Global, set: &mut SocketSet<'a>) -> bool {
+    for i in 0..5 {
+        if !grows(alloc, set, &PORTS[..i], PORTS[i]) || by_index::places(set) != i + 1 {
+            return false;
+        }
+    }
+    are_at(set, &PORTS)
+}
+
 #[test]
 fn a_refused_place_leaves_the_set_as_it_was(rt: HostRuntime) {
-    let ports = [1, 2, 3, 4, 5];
     let mut set: SocketSet<'_> = SocketSet::new(Vec::new(rt.alloc()));
-    for i in 0..5 {
-        let is_right = grows(rt.alloc(), &mut set, &ports[..i], ports[i]);
-        assert!(&rt; is_right && by_index::places(&set) == i + 1);
-    }
-    assert!(rt; are_at(&set, &ports));
+    assert!(rt; grows_by_all(rt.alloc(), &mut set));
+}
+
+fn are_errors_printed(alloc: Global) -> bool {
+    let full: AddError<u8> = AddError::Full(0);
+    let no_memory: AddError<u8> = AddError::NoMemory(0);
+    prints(alloc, &full, "Full") && prints(alloc, &no_memory, "NoMemory")
 }
 
 #[test]
 fn errors_print_their_names(rt: HostRuntime) {
-    let full: AddError<u8> = AddError::Full(0);
-    let no_memory: AddError<u8> = AddError::NoMemory(0);
-    let is_right = prints(rt.alloc(), &full, "Full") && prints(rt.alloc(), &no_memory, "NoMemory");
-    assert!(rt; is_right);
+    assert!(rt; are_errors_printed(rt.alloc()));
 }
 
 // Adds a raw socket, and gives its handle.
@@ -272,66 +312,94 @@ fn is_busy_alone(set: &mut SocketSet<'_>, index: usize) -> bool {
     is_found && is_lent && [first, next, idle, lent] == [index, 130, 130, index]
 }
 
+/// The places of sockets that are busy one after the other.
+const BUSY: [usize; 8] = [0, 15, 16, 17, 63, 64, 66, 129];
+
+/// Whether no socket is busy at first, and then each of those alone.
+fn are_busy_alone(set: &mut SocketSet<'_>) -> bool {
+    if first_busy(set) != 130 {
+        return false;
+    }
+    for index in &BUSY {
+        if !is_busy_alone(set, *index) {
+            return false;
+        }
+    }
+    true
+}
+
 #[test]
 fn one_of_many_is_busy(rt: HostRuntime) {
-    let mut set = udp_set(rt.alloc(), 1..131);
-    assert!(&rt; first_busy(&mut set) == 130);
-    for index in [0, 15, 16, 17, 63, 64, 66, 129] {
-        assert!(&rt; is_busy_alone(&mut set, index), "{index}");
+    assert!(rt; are_busy_alone(&mut udp_set(rt.alloc(), 1..131)));
+}
+
+/// A place, a port, and the place from there on of a socket that may be at the port.
+const PLACES: [(usize, u16, usize); 13] = [
+    (0, 0, 0),
+    (1, 0, 41),
+    (0, 1, 1),
+    (2, 1, 41),
+    (0, 15, 15),
+    (16, 15, 41),
+    (0, 16, 16),
+    (17, 16, 41),
+    (0, 17, 17),
+    (18, 17, 41),
+    (0, 40, 40),
+    (41, 40, 41),
+    (0, 41, 41),
+];
+
+/// The place of the first row that is otherwise.
+fn first_other_place(set: &SocketSet<'_>) -> Option<usize> {
+    for (number, (start, port, place)) in PLACES.iter().enumerate() {
+        if by_index::next_at(set, *start, Some(*port)) != *place {
+            return Some(number);
+        }
     }
+    None
+}
+
+fn are_found(set: &mut SocketSet<'_>) -> bool {
+    by_index::next_at(set, 0, Some(7)) == 0
+        && first_busy(set) == 41
+        && first_other_place(set).is_none()
+}
+
+/// Whether what was lent for writing may be anywhere, but is still a UDP socket; lent as one of any kind, it may be of
+/// another.
+fn may_be_anywhere_once_lent(set: &mut SocketSet<'_>) -> bool {
+    by_index::kind_mut::<udp::Socket<'_>, _>(set, 20).is_some()
+        && by_index::next_at(set, 0, Some(30)) == 20
+        && by_index::next_at(set, 21, Some(30)) == 30
+        && !by_index::may_have_portless(set)
+        && by_index::socket_mut(set, 20).is_some()
+        && by_index::may_have_portless(set)
 }
 
 #[test]
 fn sockets_are_found_by_their_ports(rt: HostRuntime) {
     let mut set = udp_set(rt.alloc(), 0..41);
-    let may_be_first = by_index::next_at(&set, 0, Some(7)) == 0 && first_busy(&mut set) == 41;
-    assert!(&rt; may_be_first);
-    // a place, a port, and the place from there on of a socket that may be at the port
-    for (start, port, place) in [
-        (0, 0, 0),
-        (1, 0, 41),
-        (0, 1, 1),
-        (2, 1, 41),
-        (0, 15, 15),
-        (16, 15, 41),
-        (0, 16, 16),
-        (17, 16, 41),
-        (0, 17, 17),
-        (18, 17, 41),
-        (0, 40, 40),
-        (41, 40, 41),
-        (0, 41, 41),
-    ] {
-        assert!(&rt;
-            by_index::next_at(&set, start, Some(port)) == place,
-            "{port} from {start}"
-        );
-    }
-    // What was lent for writing may be anywhere, but is still a UDP socket.
-    let is_lent = by_index::kind_mut::<udp::Socket<'_>, _>(&mut set, 20).is_some();
-    let first = by_index::next_at(&set, 0, Some(30));
-    let second = by_index::next_at(&set, 21, Some(30));
-    let is_udp = !by_index::may_have_portless(&set);
-    // Lent as one of any kind, it may be of another.
-    let is_any_kind = by_index::socket_mut(&mut set, 20).is_some()
-        && by_index::may_have_portless(&set);
-    assert!(rt; is_lent && [first, second] == [20, 30] && is_udp && is_any_kind);
+    assert!(rt; are_found(&mut set) && may_be_anywhere_once_lent(&mut set));
+}
+
+/// Whether the raw socket at place 20 is looked for until it is removed. Nothing is known of a place that has just become
+/// free.
+fn is_looked_for(set: &mut SocketSet<'_>, handle: SocketHandle) -> bool {
+    by_index::may_have_portless(set)
+        && first_busy(set) == 21
+        && by_index::next_at(set, 0, None) == 20
+        && by_index::next_at(set, 0, Some(20)) == 19
+        && is_removed(set, handle)
+        && !by_index::may_have_portless(set)
+        && by_index::next_at(set, 0, None) == 20
+        && first_busy(set) == 21
+        && by_index::next_at(set, 0, None) == 21
 }
 
 #[test]
 fn a_raw_socket_is_looked_for_until_it_is_removed(rt: HostRuntime) {
     let mut set = udp_set(rt.alloc(), 1..21);
     let handle = add_raw(&mut set, rt.alloc()).unwrap_or_default();
-    let may_be_portless = by_index::may_have_portless(&set);
-    let busy = first_busy(&mut set);
-    let portless = by_index::next_at(&set, 0, None);
-    let at_port = by_index::next_at(&set, 0, Some(20));
-    let is_done = is_removed(&mut set, handle) && !by_index::may_have_portless(&set);
-    // Nothing is known of a place that has just become free.
-    let unknown = by_index::next_at(&set, 0, None);
-    let none_busy = first_busy(&mut set);
-    let none = by_index::next_at(&set, 0, None);
-    let places = [busy, portless, at_port, unknown, none_busy, none];
-    let are_right = places == [21, 20, 19, 20, 21, 21];
-    assert!(rt; may_be_portless && is_done && are_right, "{places:?}");
+    assert!(rt; is_looked_for(&mut set, handle));
 }

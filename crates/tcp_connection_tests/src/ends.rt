@@ -1,4 +1,4 @@
-// Two ends of a connection, and the segments on their way.
+//! Two ends of a connection, and the segments on their way.
 
 use std::alloc::{AllocError, Global};
 use std::collections::VecDeque;

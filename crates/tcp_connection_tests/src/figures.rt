@@ -1,173 +1,128 @@
-// The figures of RFC 9293, segment by segment.
+//! The figures of RFC 9293, segment by segment: lists of steps that one function plays.
 use crate::ends::{MSS, SETTINGS, arrive_empty, segment_of, send_one, unopened};
-use std::test::Fail;
+use std::alloc::{AllocError, Global};
 use tcp_connection::connection::Connection;
 use tcp_connection::outgoing::Header;
 use tcp_connection::segment::Segment;
 use tcp_machine::state::State;
 use tcp_machine::timers::Ending;
 
-// <SEQ=..><ACK=..><CTL=..>, as the figures write a segment.
-#[derive(Clone, Copy, Debug, PartialEq, Eq)]
-struct Line {
-    seq: u32,
-    ack: Option<u32>,
-    syn: bool,
-    fin: bool,
+/// A segment as the figures write it: <SEQ=..><CTL=SYN>, <SEQ=..><ACK=..><CTL=SYN,ACK>, <SEQ=..><ACK=..><CTL=ACK>, and
+/// <SEQ=..><ACK=..><CTL=FIN,ACK>.
+#[derive(Clone, Copy)]
+enum Line {
+    Syn(u32),
+    SynAck(u32, u32),
+    Ack(u32, u32),
+    FinAck(u32, u32),
 }
 
-const fn syn(seq: u32, ack: Option<u32>) -> Line {
-    Line {
-        seq,
-        ack,
-        syn: true,
-        fin: false,
+/// What happens at two sides, A and B, or what is so then.
+#[derive(Clone, Copy)]
+enum Step {
+    /// A opens with this initial number, or B does.
+    OpenA(u32),
+    OpenB(u32),
+    /// What A sends is lost.
+    Lose(u64),
+    /// The program of A closes, or that of B does.
+    CloseA,
+    CloseB,
+    /// A reset with this number and acknowledgement arrives at A.
+    Reset(u64, u32, Option<u32>),
+    /// The clock of A comes to this moment.
+    Expire(u64),
+    /// B, which listens with this initial number, gets exactly this of A.
+    Accept(u32, Line),
+    /// A sends exactly this, which arrives at B, or B sends it to A.
+    FromA(u64, Line),
+    FromB(u64, Line),
+    /// Both send at once, A the first and B the second, and each arrives at the other.
+    Cross(u64, Line, Line),
+    /// A has nothing to send.
+    IsQuiet(u64),
+    /// A sends exactly this, which is lost.
+    Tells(u64, Line),
+    /// The program of A aborts, and B gets a reset with this number.
+    Abort(u64, u32),
+    /// A is in this state.
+    Is(State),
+    /// A and B are in these states.
+    Are(State, State),
+    /// The connection of A has ended so, or that of B.
+    EndA(Option<Ending>),
+    EndB(Option<Ending>),
+}
+
+/// Two sides of a connection.
+#[derive(Drop)]
+struct Sides {
+    a: Connection,
+    b: Connection,
+}
+
+fn unopened_sides(alloc: Global) -> Result<Sides, AllocError> {
+    let a = unopened(alloc)?;
+    let b = unopened(alloc)?;
+    Ok(Sides { a, b })
+}
+
+/// The number of a line, what it acknowledges, and whether it has SYN, and FIN.
+fn values_of(line: &Line) -> (u32, Option<u32>, bool, bool) {
+    match line {
+        Line::Syn(seq) => (*seq, None, true, false),
+        Line::SynAck(seq, ack) => (*seq, Some(*ack), true, false),
+        Line::Ack(seq, ack) => (*seq, Some(*ack), false, false),
+        Line::FinAck(seq, ack) => (*seq, Some(*ack), false, true),
     }
 }
 
-const fn ack(seq: u32, ack: u32) -> Line {
-    Line {
-        seq,
-        ack: Some(ack),
-        syn: false,
-        fin: false,
-    }
-}
-
-const fn fin(seq: u32, ack: u32) -> Line {
-    Line {
-        seq,
-        ack: Some(ack),
-        syn: false,
-        fin: true,
-    }
-}
-
-fn is_line(header: &Option<Header>, line: Line) -> bool {
+/// Whether a header is that of a line. No line has RST.
+fn is_line(header: &Option<Header>, line: &Line) -> bool {
     match header {
         None => false,
-        Some(h) => {
-            h.number == line.seq
-                && h.ack == line.ack
-                && h.syn == line.syn
-                && h.fin == line.fin
-                && !h.rst
-        }
+        Some(h) => (h.number, h.ack, h.syn, h.fin) == values_of(line) && !h.rst,
     }
 }
 
-// A segment arrives, if one was sent.
+/// A segment arrives, if one was sent.
 fn arrive_sent(to: &mut Connection, now: u64, header: &Option<Header>) {
     if let Some(h) = header {
         arrive_empty(to, now, &segment_of(h));
     }
 }
 
-// One side sends exactly this, and it arrives at the other.
-fn passes(from: &mut Connection, to: &mut Connection, now: u64, line: Line) -> bool {
+/// One side sends exactly this, and it arrives at the other.
+fn passes(from: &mut Connection, to: &mut Connection, now: u64, line: &Line) -> bool {
     let header = send_one(from, now);
     arrive_sent(to, now, &header);
     is_line(&header, line)
 }
 
-// Both sides send at once, exactly these, and each arrives at the other.
-fn cross(a: &mut Connection, b: &mut Connection, now: u64, from_a: Line, from_b: Line) -> bool {
-    let first = send_one(a, now);
-    let second = send_one(b, now);
-    arrive_sent(b, now, &first);
-    arrive_sent(a, now, &second);
+/// Both sides send at once, exactly these, and each arrives at the other.
+fn cross(sides: &mut Sides, now: u64, from_a: &Line, from_b: &Line) -> bool {
+    let first = send_one(&mut sides.a, now);
+    let second = send_one(&mut sides.b, now);
+    arrive_sent(&mut sides.b, now, &first);
+    arrive_sent(&mut sides.a, now, &second);
     is_line(&first, from_a) && is_line(&second, from_b)
 }
 
-fn are(a: &Connection, b: &Connection, first: State, second: State) -> bool {
-    a.state() == first && b.state() == second
-}
-
-// A listener with this initial number gets what another side sends.
-fn accept_sent(b: &mut Connection, now: u64, iss: u32, header: &Option<Header>) {
-    if let Some(h) = header {
-        b.accept(now, iss, 536, MSS, &SETTINGS, &segment_of(h));
+/// B, which listens with this initial number, gets exactly this of A.
+fn accepts(sides: &mut Sides, iss: u32, line: &Line) -> bool {
+    let header = send_one(&mut sides.a, 0);
+    if let Some(h) = &header {
+        sides.b.accept(0, iss, 536, MSS, &SETTINGS, &segment_of(h));
     }
+    is_line(&header, line)
 }
 
-// Opens a connection between two sides with these initial numbers, as figure 6 has it.
-fn open(a: &mut Connection, b: &mut Connection, iss: u32, other: u32) -> bool {
-    a.open(0, iss, MSS, &SETTINGS);
-    let first = send_one(a, 0);
-    accept_sent(b, 0, other, &first);
-    is_line(&first, syn(iss, None))
-        && are(a, b, State::SynSent, State::SynReceived)
-        && passes(b, a, 0, syn(other, Some(iss.wrapping_add(1))))
-        && a.state() == State::Established
-        && passes(a, b, 0, ack(iss.wrapping_add(1), other.wrapping_add(1)))
-        && are(a, b, State::Established, State::Established)
-}
-
-#[test]
-fn basic_handshake(rt: HostRuntime) -> Result<(), Fail> {
-    let mut a = unopened(rt.alloc())?;
-    let mut b = unopened(rt.alloc())?;
-    assert!(rt; open(&mut a, &mut b, 100, 300));
-    Ok(())
-}
-
-// Figure 7. What each side gets is the other's SYN, and then its SYN with the acknowledgement.
-#[test]
-fn simultaneous_open(rt: HostRuntime) -> Result<(), Fail> {
-    let mut a = unopened(rt.alloc())?;
-    let mut b = unopened(rt.alloc())?;
-    a.open(0, 100, MSS, &SETTINGS);
-    b.open(0, 300, MSS, &SETTINGS);
-    let is_crossed = cross(&mut a, &mut b, 0, syn(100, None), syn(300, None))
-        && are(&a, &b, State::SynReceived, State::SynReceived)
-        && cross(&mut a, &mut b, 0, syn(100, Some(301)), syn(300, Some(101)));
-    assert!(rt; is_crossed && are(&a, &b, State::Established, State::Established));
-    Ok(())
-}
-
-// Figure 12.
-#[test]
-fn normal_close(rt: HostRuntime) -> Result<(), Fail> {
-    let mut a = unopened(rt.alloc())?;
-    let mut b = unopened(rt.alloc())?;
-    let is_open = open(&mut a, &mut b, 99, 299);
-    a.close();
-    let is_half = passes(&mut a, &mut b, 1, fin(100, 300))
-        && are(&a, &b, State::FinWait1, State::CloseWait)
-        && passes(&mut b, &mut a, 1, ack(300, 101))
-        && are(&a, &b, State::FinWait2, State::CloseWait);
-    b.close();
-    let is_whole = passes(&mut b, &mut a, 2, fin(300, 101))
-        && are(&a, &b, State::TimeWait, State::LastAck)
-        && passes(&mut a, &mut b, 2, ack(101, 301))
-        && are(&a, &b, State::TimeWait, State::Closed);
-    a.expire(60_000_001);
-    let waits = a.state() == State::TimeWait;
-    a.expire(60_000_002);
-    assert!(rt;
-        is_open
-            && is_half
-            && is_whole
-            && waits
-            && a.state() == State::Closed
-            && a.ending().is_none()
-    );
-    Ok(())
-}
-
-// Figure 13.
-#[test]
-fn simultaneous_close(rt: HostRuntime) -> Result<(), Fail> {
-    let mut a = unopened(rt.alloc())?;
-    let mut b = unopened(rt.alloc())?;
-    let is_open = open(&mut a, &mut b, 99, 299);
-    a.close();
-    b.close();
-    let is_crossed = cross(&mut a, &mut b, 1, fin(100, 300), fin(300, 100))
-        && are(&a, &b, State::Closing, State::Closing)
-        && cross(&mut a, &mut b, 1, ack(101, 301), ack(301, 101));
-    assert!(rt; is_open && is_crossed && are(&a, &b, State::TimeWait, State::TimeWait));
-    Ok(())
+/// The program of A aborts, and B gets a reset with this number.
+fn aborts(sides: &mut Sides, now: u64, number: u32) -> bool {
+    sides.a.abort();
+    let header = send_one(&mut sides.a, now);
+    arrive_sent(&mut sides.b, now, &header);
+    header.is_some_and(|h| h.rst && h.number == number)
 }
 
 const fn reset(number: u32, ack: Option<u32>) -> Segment {
@@ -184,58 +139,193 @@ const fn reset(number: u32, ack: Option<u32>) -> Segment {
     }
 }
 
-// A SYN is answered by a reset (RFC 9293 3.10.7.3), which counts only if it acknowledges the SYN.
-#[test]
-fn refused(rt: HostRuntime) -> Result<(), Fail> {
-    let mut a = unopened(rt.alloc())?;
-    a.open(0, 100, MSS, &SETTINGS);
-    let _ = send_one(&mut a, 0);
-    arrive_empty(&mut a, 1, &reset(0, None));
-    arrive_empty(&mut a, 1, &reset(0, Some(102)));
-    let stays = a.state() == State::SynSent;
-    arrive_empty(&mut a, 1, &reset(0, Some(101)));
-    assert!(rt; stays && a.state() == State::Closed && a.ending() == Some(Ending::Refused));
-    Ok(())
+/// Does what a step says of a program, of the wire or of the clock.
+fn happen(sides: &mut Sides, step: &Step) {
+    match step {
+        Step::OpenA(iss) => sides.a.open(0, *iss, MSS, &SETTINGS),
+        Step::OpenB(iss) => sides.b.open(0, *iss, MSS, &SETTINGS),
+        Step::CloseA => sides.a.close(),
+        Step::CloseB => sides.b.close(),
+        Step::Reset(now, number, ack) => arrive_empty(&mut sides.a, *now, &reset(*number, *ack)),
+        Step::Expire(now) => sides.a.expire(*now),
+        Step::Lose(now) => {
+            let _ = send_one(&mut sides.a, *now);
+        }
+        _ => {}
+    }
 }
 
-// RFC 5961 3.2: a reset of exactly the next number ends the connection, another one in the window brings an acknowledgement,
-// and one beyond it nothing.
-#[test]
-fn resets(rt: HostRuntime) -> Result<(), Fail> {
-    let mut a = unopened(rt.alloc())?;
-    let mut b = unopened(rt.alloc())?;
-    let is_open = open(&mut a, &mut b, 99, 299);
-    arrive_empty(&mut a, 1, &reset(2_300, None));
-    let is_quiet = a.next_action(1).is_none();
-    arrive_empty(&mut a, 1, &reset(301, None));
-    let is_challenged = is_line(&send_one(&mut a, 1), ack(100, 300))
-        && a.state() == State::Established;
-    arrive_empty(&mut a, 1, &reset(300, None));
-    assert!(rt;
-        is_open
-            && is_quiet
-            && is_challenged
-            && a.state() == State::Closed
-            && a.ending() == Some(Ending::ByPeer)
-    );
-    Ok(())
+/// Whether a step comes as it says.
+fn comes(sides: &mut Sides, step: &Step) -> bool {
+    match step {
+        Step::Accept(iss, line) => accepts(sides, *iss, line),
+        Step::FromA(now, line) => passes(&mut sides.a, &mut sides.b, *now, line),
+        Step::FromB(now, line) => passes(&mut sides.b, &mut sides.a, *now, line),
+        Step::Cross(now, from_a, from_b) => cross(sides, *now, from_a, from_b),
+        Step::IsQuiet(now) => sides.a.next_action(*now).is_none(),
+        Step::Tells(now, line) => is_line(&send_one(&mut sides.a, *now), line),
+        Step::Abort(now, number) => aborts(sides, *now, *number),
+        Step::Is(state) => sides.a.state() == *state,
+        Step::Are(first, second) => sides.a.state() == *first && sides.b.state() == *second,
+        Step::EndA(ending) => sides.a.ending() == *ending,
+        Step::EndB(ending) => sides.b.ending() == *ending,
+        _ => {
+            happen(sides, step);
+            true
+        }
+    }
 }
 
-// The program aborts: the peer gets a reset, which ends its side (RFC 9293 3.10.5).
+/// Whether steps come as they say, one after the other.
+fn all_come(sides: &mut Sides, steps: &[Step]) -> bool {
+    for step in steps {
+        if !comes(sides, step) {
+            return false;
+        }
+    }
+    true
+}
+
+/// Figure 6.
+const HANDSHAKE: [Step; 7] = [
+    Step::OpenA(100),
+    Step::Accept(300, Line::Syn(100)),
+    Step::Are(State::SynSent, State::SynReceived),
+    Step::FromB(0, Line::SynAck(300, 101)),
+    Step::Is(State::Established),
+    Step::FromA(0, Line::Ack(101, 301)),
+    Step::Are(State::Established, State::Established),
+];
+
+/// The same with the numbers that the other figures go on with.
+const OPENING: [Step; 7] = [
+    Step::OpenA(99),
+    Step::Accept(299, Line::Syn(99)),
+    Step::Are(State::SynSent, State::SynReceived),
+    Step::FromB(0, Line::SynAck(299, 100)),
+    Step::Is(State::Established),
+    Step::FromA(0, Line::Ack(100, 300)),
+    Step::Are(State::Established, State::Established),
+];
+
+/// Whether steps come as they say at two sides that were never opened.
+fn come_unopened(alloc: Global, steps: &[Step]) -> bool {
+    match unopened_sides(alloc) {
+        Ok(mut sides) => all_come(&mut sides, steps),
+        Err(_) => false,
+    }
+}
+
+/// Whether steps come as they say at two sides behind their opening.
+fn come_opened(alloc: Global, steps: &[Step]) -> bool {
+    match unopened_sides(alloc) {
+        Ok(mut sides) => all_come(&mut sides, &OPENING) && all_come(&mut sides, steps),
+        Err(_) => false,
+    }
+}
+
 #[test]
-fn abort(rt: HostRuntime) -> Result<(), Fail> {
-    let mut a = unopened(rt.alloc())?;
-    let mut b = unopened(rt.alloc())?;
-    let is_open = open(&mut a, &mut b, 99, 299);
-    a.abort();
-    let header = send_one(&mut a, 1);
-    arrive_sent(&mut b, 1, &header);
-    let is_reset = header.is_some_and(|h| h.rst && h.number == 100);
-    assert!(rt;
-        is_open
-            && is_reset
-            && are(&a, &b, State::Closed, State::Closed)
-            && b.ending() == Some(Ending::ByPeer)
-    );
-    Ok(())
+fn basic_handshake(rt: HostRuntime) {
+    assert!(rt; come_unopened(rt.alloc(), &HANDSHAKE));
+}
+
+/// Figure 7. What each side gets is the other's SYN, and then its SYN with the acknowledgement.
+const SIMULTANEOUS_OPEN: [Step; 6] = [
+    Step::OpenA(100),
+    Step::OpenB(300),
+    Step::Cross(0, Line::Syn(100), Line::Syn(300)),
+    Step::Are(State::SynReceived, State::SynReceived),
+    Step::Cross(0, Line::SynAck(100, 301), Line::SynAck(300, 101)),
+    Step::Are(State::Established, State::Established),
+];
+
+#[test]
+fn simultaneous_open(rt: HostRuntime) {
+    assert!(rt; come_unopened(rt.alloc(), &SIMULTANEOUS_OPEN));
+}
+
+/// Figure 12.
+const NORMAL_CLOSE: [Step; 15] = [
+    Step::CloseA,
+    Step::FromA(1, Line::FinAck(100, 300)),
+    Step::Are(State::FinWait1, State::CloseWait),
+    Step::FromB(1, Line::Ack(300, 101)),
+    Step::Are(State::FinWait2, State::CloseWait),
+    Step::CloseB,
+    Step::FromB(2, Line::FinAck(300, 101)),
+    Step::Are(State::TimeWait, State::LastAck),
+    Step::FromA(2, Line::Ack(101, 301)),
+    Step::Are(State::TimeWait, State::Closed),
+    Step::Expire(60_000_001),
+    Step::Is(State::TimeWait),
+    Step::Expire(60_000_002),
+    Step::Is(State::Closed),
+    Step::EndA(None),
+];
+
+#[test]
+fn normal_close(rt: HostRuntime) {
+    assert!(rt; come_opened(rt.alloc(), &NORMAL_CLOSE));
+}
+
+/// Figure 13.
+const SIMULTANEOUS_CLOSE: [Step; 6] = [
+    Step::CloseA,
+    Step::CloseB,
+    Step::Cross(1, Line::FinAck(100, 300), Line::FinAck(300, 100)),
+    Step::Are(State::Closing, State::Closing),
+    Step::Cross(1, Line::Ack(101, 301), Line::Ack(301, 101)),
+    Step::Are(State::TimeWait, State::TimeWait),
+];
+
+#[test]
+fn simultaneous_close(rt: HostRuntime) {
+    assert!(rt; come_opened(rt.alloc(), &SIMULTANEOUS_CLOSE));
+}
+
+/// A SYN is answered by a reset (RFC 9293 3.10.7.3), which counts only if it acknowledges the SYN.
+const REFUSED: [Step; 8] = [
+    Step::OpenA(100),
+    Step::Lose(0),
+    Step::Reset(1, 0, None),
+    Step::Reset(1, 0, Some(102)),
+    Step::Is(State::SynSent),
+    Step::Reset(1, 0, Some(101)),
+    Step::Is(State::Closed),
+    Step::EndA(Some(Ending::Refused)),
+];
+
+#[test]
+fn refused(rt: HostRuntime) {
+    assert!(rt; come_unopened(rt.alloc(), &REFUSED));
+}
+
+/// RFC 5961 3.2: a reset of exactly the next number ends the connection, another one in the window brings an
+/// acknowledgement, and one beyond it nothing.
+const RESETS: [Step; 8] = [
+    Step::Reset(1, 2_300, None),
+    Step::IsQuiet(1),
+    Step::Reset(1, 301, None),
+    Step::Tells(1, Line::Ack(100, 300)),
+    Step::Is(State::Established),
+    Step::Reset(1, 300, None),
+    Step::Is(State::Closed),
+    Step::EndA(Some(Ending::ByPeer)),
+];
+
+#[test]
+fn resets(rt: HostRuntime) {
+    assert!(rt; come_opened(rt.alloc(), &RESETS));
+}
+
+/// The program aborts: the peer gets a reset, which ends its side (RFC 9293 3.10.5).
+const ABORT: [Step; 3] = [
+    Step::Abort(1, 100),
+    Step::Are(State::Closed, State::Closed),
+    Step::EndB(Some(Ending::ByPeer)),
+];
+
+#[test]
+fn abort(rt: HostRuntime) {
+    assert!(rt; come_opened(rt.alloc(), &ABORT));
 }

@@ -1,3 +1,4 @@
+use crate::cases::{assert_each, changed};
 use ip_wire::emit::FrameBuffer;
 use ip_wire::{
     ArpOperation, ArpRepr, EthernetAddress, EthernetProtocol, EthernetRepr, Ipv4Address,
@@ -21,60 +22,90 @@ const OWN: EthernetAddress = EthernetAddress([0x02, 0, 0, 0, 0, 0x01]);
 
 const OTHER: EthernetAddress = EthernetAddress([0x02, 0, 0, 0, 0, 0x02]);
 
-#[test]
-fn a_request_is_read(rt: HostRuntime) {
-    let header = EthernetRepr {
-        src_addr: OTHER,
-        dst_addr: EthernetAddress::BROADCAST,
-        ethertype: EthernetProtocol::Arp,
-    };
-    let request = ArpRepr {
-        operation: ArpOperation::Request,
-        source_hardware_addr: OTHER,
-        source_protocol_addr: Ipv4Address::new(192, 168, 69, 100),
-        target_hardware_addr: EthernetAddress([0; 6]),
-        target_protocol_addr: Ipv4Address::new(192, 168, 69, 1),
-    };
-    let is_read = match EthernetRepr::parse(&REQUEST) {
-        Some((repr, payload)) => {
-            repr == header && payload.len() == 28 && ArpRepr::parse(payload) == Some(request)
+/// 192.168.69.1 and 192.168.69.100.
+const OWN_IP: Ipv4Address = Ipv4Address { bits: 0xc0a8_4501 };
+
+const OTHER_IP: Ipv4Address = Ipv4Address { bits: 0xc0a8_4564 };
+
+/// The values of the request.
+const REQUEST_HEADER: EthernetRepr = EthernetRepr {
+    src_addr: OTHER,
+    dst_addr: EthernetAddress([0xff; 6]),
+    ethertype: EthernetProtocol::Arp,
+};
+
+const REQUEST_REPR: ArpRepr = ArpRepr {
+    operation: ArpOperation::Request,
+    source_hardware_addr: OTHER,
+    source_protocol_addr: OTHER_IP,
+    target_hardware_addr: EthernetAddress([0; 6]),
+    target_protocol_addr: OWN_IP,
+};
+
+fn is_request(frame: &[u8]) -> bool {
+    match EthernetRepr::parse(frame) {
+        Some((header, payload)) => {
+            header == REQUEST_HEADER
+                && payload.len() == 28
+                && ArpRepr::parse(payload) == Some(REQUEST_REPR)
         }
         None => false,
-    };
-    assert!(rt; is_read);
-    for len in 0..28 {
-        let is_header = EthernetRepr::parse(&REQUEST[..len]).is_some();
-        let is_request = ArpRepr::parse(&REQUEST[14..14 + len]).is_some();
-        assert!(rt; is_header == (len >= 14) && !is_request, "{len} octets");
     }
+}
+
+/// Whether the first octets of the request have a header, and those behind it are no packet, at each length.
+fn are_cut_short() -> bool {
+    for len in 0..28 {
+        if EthernetRepr::parse(&REQUEST[..len]).is_some() != (len >= 14)
+            || ArpRepr::parse(&REQUEST[14..14 + len]).is_some()
+        {
+            return false;
+        }
+    }
+    true
+}
+
+#[test]
+fn a_request_is_read(rt: HostRuntime) {
+    assert!(&rt; is_request(&REQUEST));
+    assert!(rt; are_cut_short());
+}
+
+/// The values of the reply.
+const REPLY_HEADER: EthernetRepr = EthernetRepr {
+    src_addr: OWN,
+    dst_addr: OTHER,
+    ethertype: EthernetProtocol::Arp,
+};
+
+const REPLY_REPR: ArpRepr = ArpRepr {
+    operation: ArpOperation::Reply,
+    source_hardware_addr: OWN,
+    source_protocol_addr: OWN_IP,
+    target_hardware_addr: OTHER,
+    target_protocol_addr: OTHER_IP,
+};
+
+fn is_reply_emitted() -> bool {
+    let mut frame = FrameBuffer::new();
+    REPLY_HEADER.emit(&mut frame);
+    REPLY_REPR.emit(&mut frame);
+    frame.as_slice() == REPLY.as_slice()
 }
 
 #[test]
 fn a_reply_is_emitted(rt: HostRuntime) {
-    let header = EthernetRepr {
-        src_addr: OWN,
-        dst_addr: OTHER,
-        ethertype: EthernetProtocol::Arp,
-    };
-    let reply = ArpRepr {
-        operation: ArpOperation::Reply,
-        source_hardware_addr: OWN,
-        source_protocol_addr: Ipv4Address::new(192, 168, 69, 1),
-        target_hardware_addr: OTHER,
-        target_protocol_addr: Ipv4Address::new(192, 168, 69, 100),
-    };
-    let mut frame = FrameBuffer::new();
-    header.emit(&mut frame);
-    reply.emit(&mut frame);
-    assert_eq!(rt; frame.as_slice(), REPLY.as_slice());
+    assert!(rt; is_reply_emitted());
+}
+
+/// A place in the request, and another octet there: hardware type 6, protocol IPv6, longer addresses, operation 3 (RARP).
+const OTHER_PACKETS: [(usize, u8); 6] = [(15, 6), (16, 0x86), (18, 8), (19, 16), (21, 3), (21, 0)];
+
+fn is_refused(case: &(usize, u8)) -> bool {
+    ArpRepr::parse(&changed(&REQUEST, case.0, case.1)[14..]).is_none()
 }
 
 #[test]
 fn packets_for_others_are_refused(rt: HostRuntime) {
-    // hardware type 6, protocol IPv6, longer addresses, operation 3 (RARP)
-    for (place, octet) in [(15, 6), (16, 0x86), (18, 8), (19, 16), (21, 3), (21, 0)] {
-        let mut frame = REQUEST;
-        frame[place] = octet;
-        assert_eq!(rt; ArpRepr::parse(&frame[14..]), None, "{octet} at {place}");
-    }
+    assert_each(&rt, &OTHER_PACKETS, is_refused);
 }

@@ -1,10 +1,10 @@
+use crate::cases::assert_each;
 use bitflags::Flags;
 use control_wire::icmpv6::{Icmpv6DstUnreachable, Icmpv6ParamProblem, Icmpv6Repr};
 use control_wire::ndisc::{NdiscNeighborFlags, NdiscRepr};
 use ip_address::{EthernetAddress, IpAddress, IpProtocol, Ipv6Address};
 use ip_wire::emit::FrameBuffer;
 use ip_wire::ipv6_packet::Ipv6Repr;
-use std::test::Fail;
 
 /// fe80::1, of 02:00:00:00:00:01.
 const FIRST: Ipv6Address = Ipv6Address {
@@ -112,109 +112,129 @@ fn emitted(message: &Icmpv6Repr, src: &IpAddress, dst: &IpAddress, payload: &[u8
     out
 }
 
+/// A message's octets, its addresses, its values, and its payload.
+type Case = (
+    &'static [u8],
+    Ipv6Address,
+    Ipv6Address,
+    Icmpv6Repr,
+    &'static [u8],
+);
+
+const MESSAGES: [Case; 9] = [
+    (
+        &REQUEST,
+        FIRST,
+        SECOND,
+        Icmpv6Repr::EchoRequest {
+            ident: 0x1234,
+            seq_no: 0xabcd,
+        },
+        &[0xaa, 0x00, 0x00, 0xff],
+    ),
+    (
+        &REPLY,
+        SECOND,
+        FIRST,
+        Icmpv6Repr::EchoReply {
+            ident: 0x1234,
+            seq_no: 0xabcd,
+        },
+        &[0xaa, 0x00, 0x00, 0xff],
+    ),
+    (
+        &PKT_TOO_BIG,
+        FIRST,
+        SECOND,
+        Icmpv6Repr::PktTooBig {
+            mtu: 1500,
+            header: QUOTED,
+        },
+        &DATAGRAM,
+    ),
+    (
+        &PORT_UNREACHABLE,
+        SECOND,
+        FIRST,
+        Icmpv6Repr::DstUnreachable {
+            reason: Icmpv6DstUnreachable::PortUnreachable,
+            header: QUOTED,
+        },
+        &DATAGRAM,
+    ),
+    (
+        &TIME_EXCEEDED,
+        SECOND,
+        FIRST,
+        Icmpv6Repr::TimeExceeded {
+            code: 1,
+            header: QUOTED,
+        },
+        &DATAGRAM,
+    ),
+    (
+        &PARAM_PROBLEM,
+        SECOND,
+        FIRST,
+        Icmpv6Repr::ParamProblem {
+            reason: Icmpv6ParamProblem::UnrecognizedOption,
+            pointer: 40,
+            header: QUOTED,
+        },
+        &DATAGRAM,
+    ),
+    (
+        &SOLICITATION,
+        FIRST,
+        SOLICITED_NODE,
+        Icmpv6Repr::Ndisc(NdiscRepr::NeighborSolicit {
+            target_addr: SECOND,
+            lladdr: Some(HARDWARE),
+        }),
+        &[],
+    ),
+    (
+        &BARE_SOLICITATION,
+        FIRST,
+        SOLICITED_NODE,
+        Icmpv6Repr::Ndisc(NdiscRepr::NeighborSolicit {
+            target_addr: SECOND,
+            lladdr: None,
+        }),
+        &[],
+    ),
+    (
+        &ADVERTISEMENT,
+        FIRST,
+        SECOND,
+        Icmpv6Repr::Ndisc(NdiscRepr::NeighborAdvert {
+            flags: NdiscNeighborFlags::SOLICITED,
+            target_addr: FIRST,
+            lladdr: Some(HARDWARE),
+        }),
+        &[],
+    ),
+];
+
+fn is_read_and_written(case: &Case) -> bool {
+    let (octets, src, dst, message, payload) = case;
+    let (src, dst) = (IpAddress::Ipv6(*src), IpAddress::Ipv6(*dst));
+    Icmpv6Repr::parse(octets, &src, &dst, true) == Some((*message, *payload))
+        && emitted(message, &src, &dst, payload).as_slice() == *octets
+}
+
+/// The advertisement with all flags.
+fn bare_advertisement() -> Case {
+    let message = Icmpv6Repr::Ndisc(NdiscRepr::NeighborAdvert {
+        flags: NdiscNeighborFlags::all(),
+        target_addr: FIRST,
+        lladdr: None,
+    });
+    (&BARE_ADVERTISEMENT, FIRST, SECOND, message, &[])
+}
+
 #[test]
-fn messages_are_read_and_written(rt: HostRuntime) -> Result<(), Fail> {
-    let ident = 0x1234;
-    let seq_no = 0xabcd;
-    let header = QUOTED;
-    let cases: [(&[u8], Ipv6Address, Ipv6Address, Icmpv6Repr, &[u8]); 10] = [
-        (
-            &REQUEST,
-            FIRST,
-            SECOND,
-            Icmpv6Repr::EchoRequest { ident, seq_no },
-            &[0xaa, 0x00, 0x00, 0xff],
-        ),
-        (
-            &REPLY,
-            SECOND,
-            FIRST,
-            Icmpv6Repr::EchoReply { ident, seq_no },
-            &[0xaa, 0x00, 0x00, 0xff],
-        ),
-        (
-            &PKT_TOO_BIG,
-            FIRST,
-            SECOND,
-            Icmpv6Repr::PktTooBig { mtu: 1500, header },
-            &DATAGRAM,
-        ),
-        (
-            &PORT_UNREACHABLE,
-            SECOND,
-            FIRST,
-            Icmpv6Repr::DstUnreachable {
-                reason: Icmpv6DstUnreachable::PortUnreachable,
-                header,
-            },
-            &DATAGRAM,
-        ),
-        (
-            &TIME_EXCEEDED,
-            SECOND,
-            FIRST,
-            Icmpv6Repr::TimeExceeded { code: 1, header },
-            &DATAGRAM,
-        ),
-        (
-            &PARAM_PROBLEM,
-            SECOND,
-            FIRST,
-            Icmpv6Repr::ParamProblem {
-                reason: Icmpv6ParamProblem::UnrecognizedOption,
-                pointer: 40,
-                header,
-            },
-            &DATAGRAM,
-        ),
-        (
-            &SOLICITATION,
-            FIRST,
-            SOLICITED_NODE,
-            Icmpv6Repr::Ndisc(NdiscRepr::NeighborSolicit {
-                target_addr: SECOND,
-                lladdr: Some(HARDWARE),
-            }),
-            &[],
-        ),
-        (
-            &BARE_SOLICITATION,
-            FIRST,
-            SOLICITED_NODE,
-            Icmpv6Repr::Ndisc(NdiscRepr::NeighborSolicit {
-                target_addr: SECOND,
-                lladdr: None,
-            }),
-            &[],
-        ),
-        (
-            &ADVERTISEMENT,
-            FIRST,
-            SECOND,
-            Icmpv6Repr::Ndisc(NdiscRepr::NeighborAdvert {
-                flags: NdiscNeighborFlags::SOLICITED,
-                target_addr: FIRST,
-                lladdr: Some(HARDWARE),
-            }),
-            &[],
-        ),
-        (
-            &BARE_ADVERTISEMENT,
-            FIRST,
-            SECOND,
-            Icmpv6Repr::Ndisc(NdiscRepr::NeighborAdvert {
-                flags: NdiscNeighborFlags::all(),
-                target_addr: FIRST,
-                lladdr: None,
-            }),
-            &[],
-        ),
-    ];
-    for (octets, src, dst, message, payload) in cases {
-        let (src, dst) = (IpAddress::Ipv6(src), IpAddress::Ipv6(dst));
-        let is_read = Icmpv6Repr::parse(octets, &src, &dst, true) == Some((message, payload));
-        let is_written = emitted(&message, &src, &dst, payload).as_slice() == octets;
-        assert!(rt; is_read && is_written, "{message:?}");
-    }
-    Ok(())
+fn messages_are_read_and_written(rt: HostRuntime) {
+    assert_each(&rt, &MESSAGES, is_read_and_written);
+    assert!(rt; is_read_and_written(&bare_advertisement()));
 }

@@ -1,3 +1,4 @@
+use crate::cases::{assert_each, changed, none_below};
 use ip_address::{IpAddress, Ipv4Address, Ipv6Address};
 use ip_wire::emit::FrameBuffer;
 use tcp_wire::{SackRange, TcpControl, TcpOptions, TcpRepr, TcpSeqNumber, TcpTimestamp};
@@ -73,188 +74,198 @@ const DATA_V6: [u8; 62] = [
     0x10, 0x00, 0x03, 0x85, 0x10, 0x00, 0x02, 0x59, 0x10, 0x00, 0x02, 0xbd, 0x68, 0x69,
 ];
 
-/// A block with these edges.
-const fn range(left: u32, right: u32) -> Option<SackRange> {
-    Some(SackRange {
-        left: TcpSeqNumber { bits: left },
-        right: TcpSeqNumber { bits: right },
-    })
-}
+/// Blocks, named by the ends of their left edges.
+const FROM_C9: Option<SackRange> = Some(SackRange {
+    left: TcpSeqNumber { bits: 0x1000_00c9 },
+    right: TcpSeqNumber { bits: 0x1000_012d },
+});
+
+const FROM_191: Option<SackRange> = Some(SackRange {
+    left: TcpSeqNumber { bits: 0x1000_0191 },
+    right: TcpSeqNumber { bits: 0x1000_01f5 },
+});
+
+const FROM_259: Option<SackRange> = Some(SackRange {
+    left: TcpSeqNumber { bits: 0x1000_0259 },
+    right: TcpSeqNumber { bits: 0x1000_02bd },
+});
+
+const FROM_321: Option<SackRange> = Some(SackRange {
+    left: TcpSeqNumber { bits: 0x1000_0321 },
+    right: TcpSeqNumber { bits: 0x1000_0385 },
+});
+
+const FROM_3E9: Option<SackRange> = Some(SackRange {
+    left: TcpSeqNumber { bits: 0x1000_03e9 },
+    right: TcpSeqNumber { bits: 0x1000_044d },
+});
 
 const NO_RANGES: [Option<SackRange>; 4] = [None, None, None, None];
 
-/// A SYN with these options.
-const fn syn(
-    src_port: u16,
-    seq: u32,
-    window_len: u16,
-    size: u16,
-    timestamp: Option<TcpTimestamp>,
-) -> TcpRepr {
-    TcpRepr {
-        src_port,
-        dst_port: 80,
-        control: TcpControl::Syn,
-        seq_number: TcpSeqNumber { bits: seq },
-        ack_number: None,
-        window_len,
-        options: TcpOptions {
-            max_seg_size: Some(size),
-            window_scale: Some(10),
-            sack_permitted: true,
-            sack_ranges: NO_RANGES,
-            timestamp,
-        },
-    }
-}
+/// The timestamps of SYN, of the segments behind it, of SYN_V6, and of DATA_V6.
+const AT_SYN: Option<TcpTimestamp> = Some(TcpTimestamp {
+    value: 0xbf22_0ccc,
+    echo: 0,
+});
 
-/// A segment that acknowledges, with these blocks.
-const fn ack(
-    src_port: u16,
-    seq: u32,
-    window_len: u16,
-    timestamp: Option<TcpTimestamp>,
-    sack_ranges: [Option<SackRange>; 4],
-) -> TcpRepr {
-    TcpRepr {
-        src_port,
-        dst_port: 80,
-        control: TcpControl::None,
-        seq_number: TcpSeqNumber { bits: seq },
-        ack_number: Some(TcpSeqNumber { bits: 0x1000_0001 }),
-        window_len,
-        options: TcpOptions {
-            max_seg_size: None,
-            window_scale: None,
-            sack_permitted: false,
-            sack_ranges,
-            timestamp,
-        },
-    }
-}
+const BEHIND_SYN: Option<TcpTimestamp> = Some(TcpTimestamp {
+    value: 0xbf22_0ccd,
+    echo: 1000,
+});
 
-const fn timestamp(value: u32, echo: u32) -> Option<TcpTimestamp> {
-    Some(TcpTimestamp { value, echo })
-}
+const AT_SYN_V6: Option<TcpTimestamp> = Some(TcpTimestamp {
+    value: 0xa702_6ac5,
+    echo: 0,
+});
 
-/// Data with three blocks, over IPv6.
-const fn data() -> TcpRepr {
-    TcpRepr {
-        control: TcpControl::Psh,
-        ..ack(
-            0xa029,
-            0x69b7_93c7,
-            64,
-            timestamp(0xa702_6ac7, 1000),
-            [
-                range(0x1000_03e9, 0x1000_044d),
-                range(0x1000_0321, 0x1000_0385),
-                range(0x1000_0259, 0x1000_02bd),
-                None,
-            ],
-        )
-    }
-}
+const AT_DATA_V6: Option<TcpTimestamp> = Some(TcpTimestamp {
+    value: 0xa702_6ac7,
+    echo: 1000,
+});
+
+/// The values that the SYNs have in common.
+const SYN_REPR: TcpRepr = TcpRepr {
+    src_port: 0x9c40,
+    dst_port: 80,
+    control: TcpControl::Syn,
+    seq_number: TcpSeqNumber { bits: 0xf5a5_7bb2 },
+    ack_number: None,
+    window_len: 64240,
+    options: SYN_OPTIONS,
+};
+
+const SYN_OPTIONS: TcpOptions = TcpOptions {
+    max_seg_size: Some(1460),
+    window_scale: Some(10),
+    sack_permitted: true,
+    sack_ranges: NO_RANGES,
+    timestamp: None,
+};
+
+/// The values that the segments without SYN have in common.
+const ACK_REPR: TcpRepr = TcpRepr {
+    src_port: 0x9c40,
+    dst_port: 80,
+    control: TcpControl::None,
+    seq_number: TcpSeqNumber { bits: 0xf5a5_7bb3 },
+    ack_number: Some(TcpSeqNumber { bits: 0x1000_0001 }),
+    window_len: 63,
+    options: NO_OPTIONS,
+};
+
+const NO_OPTIONS: TcpOptions = TcpOptions {
+    max_seg_size: None,
+    window_scale: None,
+    sack_permitted: false,
+    sack_ranges: NO_RANGES,
+    timestamp: None,
+};
+
+/// ONE, but for its blocks.
+const ONE_REPR: TcpRepr = TcpRepr {
+    src_port: 0x9c41,
+    seq_number: TcpSeqNumber { bits: 0x8d6d_fef5 },
+    ..ACK_REPR
+};
 
 /// A segment's octets, its addresses, its values, and its payload.
-type Case = (
-    &'static [u8],
-    &'static IpAddress,
-    &'static IpAddress,
-    TcpRepr,
-    &'static [u8],
-);
+type Case = (&'static [u8], IpAddress, IpAddress, TcpRepr, &'static [u8]);
 
-#[test]
-fn segments_of_linux(rt: HostRuntime) {
-    let cases: [Case; 8] = [
-        (
-            &SYN,
-            &LINUX,
-            &PEER,
-            syn(0x9c41, 0x8d6d_fef4, 64240, 1460, timestamp(0xbf22_0ccc, 0)),
-            &[],
-        ),
-        (
-            &SYN_PLAIN,
-            &LINUX,
-            &PEER,
-            syn(0x9c40, 0xf5a5_7bb2, 64240, 1460, None),
-            &[],
-        ),
-        (
-            &ACK_PLAIN,
-            &LINUX,
-            &PEER,
-            ack(0x9c40, 0xf5a5_7bb3, 63, None, NO_RANGES),
-            &[],
-        ),
-        (
-            &ONE,
-            &LINUX,
-            &PEER,
-            ack(
-                0x9c41,
-                0x8d6d_fef5,
-                63,
-                timestamp(0xbf22_0ccd, 1000),
-                [range(0x1000_00c9, 0x1000_012d), None, None, None],
-            ),
-            &[],
-        ),
-        (
-            &TWO_PLAIN,
-            &LINUX,
-            &PEER,
-            ack(
-                0x9c40,
-                0xf5a5_7bb3,
-                63,
-                None,
-                [
-                    range(0x1000_0191, 0x1000_01f5),
-                    range(0x1000_00c9, 0x1000_012d),
-                    None,
-                    None,
-                ],
-            ),
-            &[],
-        ),
-        (
-            &FOUR_PLAIN,
-            &LINUX,
-            &PEER,
-            ack(
-                0x9c40,
-                0xf5a5_7bb3,
-                63,
-                None,
-                [
-                    range(0x1000_0321, 0x1000_0385),
-                    range(0x1000_0259, 0x1000_02bd),
-                    range(0x1000_0191, 0x1000_01f5),
-                    range(0x1000_00c9, 0x1000_012d),
-                ],
-            ),
-            &[],
-        ),
-        (
-            &SYN_V6,
-            &LINUX_V6,
-            &PEER_V6,
-            syn(0xa029, 0x69b7_93c6, 64800, 1440, timestamp(0xa702_6ac5, 0)),
-            &[],
-        ),
-        (&DATA_V6, &LINUX_V6, &PEER_V6, data(), b"hi"),
-    ];
-    for (octets, src, dst, repr, payload) in cases {
-        let is_parsed = TcpRepr::parse(octets, src, dst, true) == Some((repr, payload));
-        assert!(rt;
-            is_parsed && is_emitted(&repr, src, dst, payload, octets),
-            "{repr:?}"
-        );
-    }
-}
+const SEGMENTS: [Case; 8] = [
+    (
+        &SYN,
+        LINUX,
+        PEER,
+        TcpRepr {
+            src_port: 0x9c41,
+            seq_number: TcpSeqNumber { bits: 0x8d6d_fef4 },
+            options: TcpOptions {
+                timestamp: AT_SYN,
+                ..SYN_OPTIONS
+            },
+            ..SYN_REPR
+        },
+        &[],
+    ),
+    (&SYN_PLAIN, LINUX, PEER, SYN_REPR, &[]),
+    (&ACK_PLAIN, LINUX, PEER, ACK_REPR, &[]),
+    (
+        &ONE,
+        LINUX,
+        PEER,
+        TcpRepr {
+            options: TcpOptions {
+                timestamp: BEHIND_SYN,
+                sack_ranges: [FROM_C9, None, None, None],
+                ..NO_OPTIONS
+            },
+            ..ONE_REPR
+        },
+        &[],
+    ),
+    (
+        &TWO_PLAIN,
+        LINUX,
+        PEER,
+        TcpRepr {
+            options: TcpOptions {
+                sack_ranges: [FROM_191, FROM_C9, None, None],
+                ..NO_OPTIONS
+            },
+            ..ACK_REPR
+        },
+        &[],
+    ),
+    (
+        &FOUR_PLAIN,
+        LINUX,
+        PEER,
+        TcpRepr {
+            options: TcpOptions {
+                sack_ranges: [FROM_321, FROM_259, FROM_191, FROM_C9],
+                ..NO_OPTIONS
+            },
+            ..ACK_REPR
+        },
+        &[],
+    ),
+    (
+        &SYN_V6,
+        LINUX_V6,
+        PEER_V6,
+        TcpRepr {
+            src_port: 0xa029,
+            seq_number: TcpSeqNumber { bits: 0x69b7_93c6 },
+            window_len: 64800,
+            options: TcpOptions {
+                max_seg_size: Some(1440),
+                timestamp: AT_SYN_V6,
+                ..SYN_OPTIONS
+            },
+            ..SYN_REPR
+        },
+        &[],
+    ),
+    // data with three blocks
+    (
+        &DATA_V6,
+        LINUX_V6,
+        PEER_V6,
+        TcpRepr {
+            src_port: 0xa029,
+            control: TcpControl::Psh,
+            seq_number: TcpSeqNumber { bits: 0x69b7_93c7 },
+            window_len: 64,
+            options: TcpOptions {
+                timestamp: AT_DATA_V6,
+                sack_ranges: [FROM_3E9, FROM_321, FROM_259, None],
+                ..NO_OPTIONS
+            },
+            ..ACK_REPR
+        },
+        b"hi",
+    ),
+];
 
 /// Whether a segment is emitted so, with its checksum.
 fn is_emitted(
@@ -272,57 +283,68 @@ fn is_emitted(
     out.as_slice() == octets
 }
 
+fn is_parsed_and_emitted(case: &Case) -> bool {
+    let (octets, src, dst, repr, payload) = case;
+    TcpRepr::parse(octets, src, dst, true) == Some((*repr, *payload))
+        && is_emitted(repr, src, dst, payload, octets)
+}
+
+#[test]
+fn segments_of_linux(rt: HostRuntime) {
+    assert_each(&rt, &SEGMENTS, is_parsed_and_emitted);
+}
+
+/// THREE with a fourth block.
+const FOUR_REPR: TcpRepr = TcpRepr {
+    options: TcpOptions {
+        timestamp: BEHIND_SYN,
+        sack_ranges: [FROM_321, FROM_259, FROM_191, FROM_C9],
+        ..NO_OPTIONS
+    },
+    ..ONE_REPR
+};
+
 #[test]
 fn of_four_blocks_three_fit_beside_timestamps(rt: HostRuntime) {
-    let repr = ack(
-        0x9c41,
-        0x8d6d_fef5,
-        63,
-        timestamp(0xbf22_0ccd, 1000),
-        [
-            range(0x1000_0321, 0x1000_0385),
-            range(0x1000_0259, 0x1000_02bd),
-            range(0x1000_0191, 0x1000_01f5),
-            range(0x1000_00c9, 0x1000_012d),
-        ],
-    );
-    assert!(rt; is_emitted(&repr, &LINUX, &PEER, &[], &THREE));
+    assert!(rt; is_emitted(&FOUR_REPR, &LINUX, &PEER, &[], &THREE));
+}
+
+fn is_segment(octets: &[u8]) -> bool {
+    TcpRepr::parse(octets, &LINUX, &PEER, true).is_some()
+}
+
+/// Whether octets are a segment with its checksum untested.
+fn is_unchecked_segment(octets: &[u8]) -> bool {
+    TcpRepr::parse(octets, &LINUX, &PEER, false).is_some()
+}
+
+/// A place in the segment with one block, another octet there, and whether that is a segment with its checksum untested.
+const CHANGES: [(usize, u8, bool); 7] = [
+    (16, 0x08, true),
+    (31, 0xe9, true),
+    (43, 0x2e, true),
+    // the header's length: four words, twelve words
+    (12, 0x40, false),
+    (12, 0xc0, false),
+    // FIN with SYN, SYN with RST
+    (13, 0x13, false),
+    (13, 0x16, false),
+];
+
+fn is_refused(case: &(usize, u8, bool)) -> bool {
+    let octets = changed(&ONE, case.0, case.1);
+    !is_segment(&octets) && is_unchecked_segment(&octets) == case.2
+}
+
+/// Whether a port of 0 at a place of the segment is refused.
+fn is_no_port(place: &usize) -> bool {
+    let octets = changed(&ONE, *place, 0);
+    !is_unchecked_segment(&changed(&octets, place.wrapping_add(1), 0))
 }
 
 #[test]
 fn what_is_no_segment(rt: HostRuntime) {
-    for len in 0..44 {
-        assert!(rt;
-            TcpRepr::parse(&ONE[..len], &LINUX, &PEER, true).is_none(),
-            "{len}"
-        );
-    }
-    // an octet of the segment, its new value, and whether that is one with its checksum untested
-    for (place, octet, unchecked) in [
-        (16, 0x08, true),
-        (31, 0xe9, true),
-        (43, 0x2e, true),
-        // the header's length: four words, twelve words
-        (12, 0x40, false),
-        (12, 0xc0, false),
-        // FIN with SYN, SYN with RST
-        (13, 0x13, false),
-        (13, 0x16, false),
-    ] {
-        let mut other = ONE;
-        other[place] = octet;
-        let is_right = TcpRepr::parse(&other, &LINUX, &PEER, true).is_none()
-            && TcpRepr::parse(&other, &LINUX, &PEER, false).is_some() == unchecked;
-        assert!(rt; is_right, "{octet} at {place}");
-    }
-    // ports of 0
-    for place in [0, 2] {
-        let mut other = ONE;
-        other[place] = 0;
-        other[place + 1] = 0;
-        assert!(rt;
-            TcpRepr::parse(&other, &LINUX, &PEER, false).is_none(),
-            "{place}"
-        );
-    }
+    assert!(&rt; none_below(44, &ONE, is_segment));
+    assert_each(&rt, &CHANGES, is_refused);
+    assert_each(&rt, &[0, 2], is_no_port);
 }

@@ -1,3 +1,4 @@
+//! Sockets of each kind, and their queues.
 // Each test also holds where any one request for memory is refused.
 ghost use Rattle.std.specs.Prelude.{◌≡◌, IfOk};
 
@@ -36,7 +37,7 @@ struct Host {
 
 impl SocketContext for Host {
     ghost use Rattle.sockets.specs.Source.{is_same};
-    ghost use Rattle.sockets_tests.specs.declared.tests.TheConstants.{NETWORK};
+    ghost use Rattle.sockets_tests.specs.declared.kinds.TheConstants.{NETWORK};
 
     ghost moment = { λ h. h.moment };
 
@@ -88,27 +89,43 @@ fn udp_at(alloc: Global) -> Result<udp::Socket<'static>, Fail>
     Ok(udp::Socket::new(endpoint, rx, tx))
 }
 
+/// An empty queue of one packet and eight octets. If its room is refused, the next call gets it.
+fn short(alloc: Global) -> Result<Queue<u32>, NoMemory> {
+    match Queue::new(alloc, 1, 8) {
+        Ok(queue) => Ok(queue),
+        Err(NoMemory) => Queue::new(alloc, 1, 8),
+    }
+}
+
+fn keeps_what_it_has(queue: &mut Queue<u32>) -> bool {
+    queue.push(1, b"123456789") == Err(Full)
+        && queue.front().is_none()
+        && queue.push(2, b"12345678") == Ok(())
+        && queue.push(3, b"") == Err(Full)
+        && queue.front() == Some((&2, b"12345678".as_slice()))
+}
+
 #[test]
 fn a_full_queue_keeps_what_it_has(rt: HostRuntime) -> Result<(), Fail> {
-    let mut queue: Queue<u32> = match Queue::new(rt.alloc(), 1, 8) {
-        Ok(queue) => queue,
-        Err(NoMemory) => Queue::new(rt.alloc(), 1, 8)?,
-    };
-    let is_refused = queue.push(1, b"123456789") == Err(Full) && queue.front().is_none();
-    let is_taken = queue.push(2, b"12345678") == Ok(()) && queue.push(3, b"") == Err(Full);
-    assert!(rt; is_refused && is_taken && queue.front() == Some((&2, b"12345678".as_slice())));
+    let mut queue = short(rt.alloc())?;
+    assert!(rt; keeps_what_it_has(&mut queue));
     Ok(())
+}
+
+fn hands_out(socket: &mut udp::Socket<'static>) -> bool {
+    let was_empty = socket.accepts(&HOST, &OWN, 6969)
+        && !socket.accepts(&HOST, &OWN, 6970)
+        && socket.recv().is_none();
+    socket.process(REMOTE, b"hi");
+    let is_read = socket.recv() == Some((&REMOTE, b"hi".as_slice()));
+    socket.done();
+    was_empty && is_read && socket.recv().is_none()
 }
 
 #[test]
 fn a_datagram_is_handed_out(rt: HostRuntime) -> Result<(), Fail> {
     let mut socket = udp_at(rt.alloc())?;
-    let is_accepted_at = socket.accepts(&HOST, &OWN, 6969) && !socket.accepts(&HOST, &OWN, 6970);
-    let was_empty = socket.recv().is_none();
-    socket.process(REMOTE, b"hi");
-    let is_read = socket.recv() == Some((&REMOTE, b"hi".as_slice()));
-    socket.done();
-    assert!(rt; is_accepted_at && was_empty && is_read && socket.recv().is_none());
+    assert!(rt; hands_out(&mut socket));
     Ok(())
 }
 
@@ -129,17 +146,21 @@ fn offers(socket: &mut udp::Socket<'static>) -> bool {
     }
 }
 
+/// Whether a socket offers `hi` again, until it is told that it is gone.
+fn offers_until_it_is_gone(socket: &mut udp::Socket<'static>) -> bool {
+    let is_offered = offers(socket);
+    socket.told(false);
+    let is_offered_again = offers(socket);
+    socket.told(true);
+    is_offered && is_offered_again && socket.offer(&HOST).is_none()
+}
+
 #[test]
 fn a_datagram_is_offered_until_it_is_gone(rt: HostRuntime) -> Result<(), Fail> {
     let mut socket = udp_at(rt.alloc())?;
     let was_idle = socket.poll_at() == PollAt::Ingress;
     let is_queued = socket.send(REMOTE, b"hi") == Ok(()) && socket.poll_at() == PollAt::Now;
-    let is_offered = offers(&mut socket);
-    socket.told(false);
-    let is_offered_again = offers(&mut socket);
-    socket.told(true);
-    let is_done = socket.offer(&HOST).is_none();
-    assert!(rt; was_idle && is_queued && is_offered && is_offered_again && is_done);
+    assert!(rt; was_idle && is_queued && offers_until_it_is_gone(&mut socket));
     Ok(())
 }
 
@@ -163,30 +184,32 @@ const SYN: TcpRepr = TcpRepr {
     window_len: 1024,
 };
 
+const RESET: TcpRepr = TcpRepr {
+    src_port: 80,
+    dst_port: 5000,
+    control: TcpControl::Rst,
+    seq_number: TcpSeqNumber { bits: 0 },
+    ack_number: Some(TcpSeqNumber { bits: 257 }),
+    window_len: 0,
+};
+
+const OWN_END: IpEndpoint = IpEndpoint {
+    addr: OWN,
+    port: 80,
+};
+
 #[test]
 fn a_connection_given_up_is_reset(rt: HostRuntime) -> Result<(), Fail> {
     let mut socket = tcp_at(rt.alloc())?;
-    let own = IpEndpoint {
-        addr: OWN,
-        port: 80,
-    };
-    let is_taken = socket.accepts(&REMOTE, &own) && socket.process(OTHER, &SYN, b"") == None;
+    let is_taken = socket.accepts(&REMOTE, &OWN_END) && socket.process(OTHER, &SYN, b"") == None;
     let is_read = match socket.recv() {
         Some((segment, _)) => segment.remote == REMOTE,
         None => false,
     };
     socket.done();
     socket.abort();
-    let reset = TcpRepr {
-        src_port: 80,
-        dst_port: 5000,
-        control: TcpControl::Rst,
-        seq_number: TcpSeqNumber { bits: 0 },
-        ack_number: Some(TcpSeqNumber { bits: 257 }),
-        window_len: 0,
-    };
-    let is_reset = socket.process(OTHER, &SYN, b"") == Some(reset)
-        && socket.process(OTHER, &reset, b"") == None
+    let is_reset = socket.process(OTHER, &SYN, b"") == Some(RESET)
+        && socket.process(OTHER, &RESET, b"") == None
         && socket.recv().is_none();
     assert!(rt; is_taken && is_read && is_reset);
     Ok(())
@@ -221,51 +244,91 @@ fn offers_packet(socket: &mut raw::Socket<'static>) -> bool {
     }
 }
 
+/// Whether a socket takes packets of its version and protocol alone.
+fn takes_its_own(socket: &raw::Socket<'static>) -> bool {
+    socket.accepts(IpVersion::Ipv4, IpProtocol::Udp)
+        && !socket.accepts(IpVersion::Ipv4, IpProtocol::Tcp)
+        && !socket.accepts(IpVersion::Ipv6, IpProtocol::Udp)
+}
+
+fn is_packet_parsed() -> bool {
+    Ipv4Repr::parse(PACKET, true) == Some((HEADER, Ipv4Fragment::WHOLE, &PACKET[20..]))
+}
+
+/// Whether the packet is read and offered with its header, and what is none is dropped.
+fn keeps_headers(socket: &mut raw::Socket<'static>) -> bool {
+    socket.process(&IpRepr::Ipv4(HEADER), &PACKET[20..], true);
+    let is_read = socket.recv() == Some((&(), PACKET));
+    let is_offered = socket.send((), PACKET) == Ok(()) && offers_packet(socket);
+    socket.told(true);
+    is_read
+        && is_offered
+        && socket.send((), b"no packet") == Ok(())
+        && socket.offer().is_none()
+        && socket.poll_at() == PollAt::Ingress
+}
+
 #[test]
 fn packets_keep_their_headers(rt: HostRuntime) -> Result<(), Fail> {
     let mut socket = raw_for(rt.alloc(), IpVersion::Ipv4, IpProtocol::Udp)?;
-    let is_taken = socket.accepts(IpVersion::Ipv4, IpProtocol::Udp)
-        && !socket.accepts(IpVersion::Ipv4, IpProtocol::Tcp)
-        && !socket.accepts(IpVersion::Ipv6, IpProtocol::Udp);
-    let is_parsed = Ipv4Repr::parse(PACKET, true)
-        == Some((HEADER, Ipv4Fragment::WHOLE, &PACKET[20..]));
-    socket.process(&IpRepr::Ipv4(HEADER), &PACKET[20..], true);
-    let is_read = socket.recv() == Some((&(), PACKET));
-    let is_offered = socket.send((), PACKET) == Ok(()) && offers_packet(&mut socket);
-    socket.told(true);
-    let is_dropped = socket.send((), b"no packet") == Ok(())
-        && socket.offer().is_none()
-        && socket.poll_at() == PollAt::Ingress;
-    assert!(rt; is_taken && is_parsed && is_read && is_offered && is_dropped);
+    let is_right = takes_its_own(&socket) && is_packet_parsed() && keeps_headers(&mut socket);
+    assert!(rt; is_right);
     Ok(())
 }
 
 // A datagram of two octets over IPv6, with one octet behind it.
-const PACKET_V6: &[u8] =
-    b"\x60\x00\x00\x00\x00\x0a\x11\x40\x20\x01\x0d\xb8\x00\x00\x00\x00\x00\x00\x00\x00\x00\x00\x00\x01\x20\x01\x0d\xb8\x00\x00\x00\x00\x00\x00\x00\x00\x00\x00\x00\x02\x13\x88\x1b\x39\x00\x0a\x00\x00hi.";
+const PACKET_V6: &[u8] = &[
+    0x60, 0x00, 0x00, 0x00, 0x00, 0x0a, 0x11, 0x40, 0x20, 0x01, 0x0d, 0xb8, 0x00, 0x00, 0x00, 0x00,
+    0x00, 0x00, 0x00, 0x00, 0x00, 0x00, 0x00, 0x01, 0x20, 0x01, 0x0d, 0xb8, 0x00, 0x00, 0x00, 0x00,
+    0x00, 0x00, 0x00, 0x00, 0x00, 0x00, 0x00, 0x02, 0x13, 0x88, 0x1b, 0x39, 0x00, 0x0a, 0x00, 0x00,
+    0x68, 0x69, 0x2e,
+];
 
-// A raw socket offers packets of its version and protocol, and drops others.
-#[test]
-fn packets_of_ipv6_are_offered(rt: HostRuntime) -> Result<(), Fail> {
-    let cases: [(IpVersion, IpProtocol, &[u8], Option<&[u8]>); 5] = [
-        (
-            IpVersion::Ipv6,
-            IpProtocol::Udp,
-            PACKET_V6,
-            Some(&PACKET_V6[40..50]),
-        ),
-        (IpVersion::Ipv6, IpProtocol::Tcp, PACKET_V6, None),
-        (IpVersion::Ipv4, IpProtocol::Udp, PACKET_V6, None),
-        (IpVersion::Ipv6, IpProtocol::Udp, PACKET, None),
-        (IpVersion::Ipv6, IpProtocol::Udp, &PACKET_V6[..49], None),
-    ];
-    for (version, protocol, octets, offered) in cases {
-        let mut socket = raw_for(rt.alloc(), version, protocol)?;
-        let is_queued = socket.send((), octets) == Ok(());
-        let payload = socket.offer().map(|packet| packet.payload);
-        assert!(rt; is_queued && payload == offered);
+/// The datagram's octets.
+const PAYLOAD_V6: &[u8] = b"\x13\x88\x1b\x39\x00\x0a\x00\x00hi";
+
+/// A socket's version and protocol, a packet, how many of its octets are there, and whether the datagram is offered.
+type Offer = (IpVersion, IpProtocol, &'static [u8], usize, bool);
+
+/// A raw socket offers packets of its version and protocol, and drops others.
+const OFFERS: [Offer; 5] = [
+    (IpVersion::Ipv6, IpProtocol::Udp, PACKET_V6, 51, true),
+    (IpVersion::Ipv6, IpProtocol::Tcp, PACKET_V6, 51, false),
+    (IpVersion::Ipv4, IpProtocol::Udp, PACKET_V6, 51, false),
+    (IpVersion::Ipv6, IpProtocol::Udp, PACKET, 30, false),
+    (IpVersion::Ipv6, IpProtocol::Udp, PACKET_V6, 49, false),
+];
+
+/// Whether a socket takes a packet, and offers the datagram in it, or nothing.
+fn offers_datagram(socket: &mut raw::Socket<'static>, octets: &[u8], is_offered: bool) -> bool {
+    let is_queued = socket.send((), octets) == Ok(());
+    match socket.offer() {
+        Some(packet) => is_queued && is_offered && packet.payload == PAYLOAD_V6,
+        None => is_queued && !is_offered,
     }
-    Ok(())
+}
+
+fn is_offered_so(alloc: Global, case: &Offer) -> bool {
+    let (version, protocol, octets, len, is_offered) = case;
+    match (raw_for(alloc, *version, *protocol), octets.get(..*len)) {
+        (Ok(mut socket), Some(octets)) => offers_datagram(&mut socket, octets, *is_offered),
+        _ => false,
+    }
+}
+
+/// The place of the first packet that is offered otherwise.
+fn first_other(alloc: Global) -> Option<usize> {
+    for (place, case) in OFFERS.iter().enumerate() {
+        if !is_offered_so(alloc, case) {
+            return Some(place);
+        }
+    }
+    None
+}
+
+#[test]
+fn packets_of_ipv6_are_offered(rt: HostRuntime) {
+    assert!(rt; first_other(rt.alloc()).is_none());
 }
 
 // An echo request with the identifier 0x22b and the sequence number 1 (RFC 792), without its
@@ -292,31 +355,42 @@ fn offers_echo(socket: &mut icmp::Socket<'static>) -> bool {
     }
 }
 
+fn icmp_at(alloc: Global) -> Result<icmp::Socket<'static>, NoMemory> {
+    let (rx, tx) = queues(alloc)?;
+    Ok(icmp::Socket::new(icmp::Endpoint::Ident(0x22b), rx, tx))
+}
+
+fn offers_echo_alone(socket: &mut icmp::Socket<'static>) -> bool {
+    socket.process(OTHER, UNREACHABLE);
+    socket.recv() == Some((&OTHER, UNREACHABLE))
+        && socket.send(OTHER, UNREACHABLE) == Ok(())
+        && socket.send(OTHER, ECHO) == Ok(())
+        && socket.offer(&HOST).is_none()
+        && offers_echo(socket)
+}
+
 #[test]
 fn only_echo_messages_are_offered(rt: HostRuntime) -> Result<(), Fail> {
-    let endpoint = icmp::Endpoint::Ident(0x22b);
-    let (rx, tx) = queues(rt.alloc())?;
-    let mut socket = icmp::Socket::new(endpoint, rx, tx);
-    socket.process(OTHER, UNREACHABLE);
-    let is_read = socket.recv() == Some((&OTHER, UNREACHABLE));
-    let is_queued = socket.send(OTHER, UNREACHABLE) == Ok(()) && socket.send(OTHER, ECHO) == Ok(());
-    let is_dropped = socket.offer(&HOST).is_none();
-    assert!(rt; is_read && is_queued && is_dropped && offers_echo(&mut socket));
+    let mut socket = icmp_at(rt.alloc())?;
+    assert!(rt; offers_echo_alone(&mut socket));
     Ok(())
 }
 
+const NOWHERE: IpAddress = IpAddress::Ipv4(Ipv4Address { bits: 0 });
+
 // The longest message that is taken has 65,495 octets.
+fn refuses_in_order(socket: &mut icmp::Socket<'static>, long: &[u8; 65_496]) -> bool {
+    socket.try_send(NOWHERE, long) == Err(icmp::SendError::UnspecifiedAddress)
+        && socket.try_send(OTHER, long) == Err(icmp::SendError::TooLong)
+        && socket.try_send(OTHER, &long[..65_495]) == Err(icmp::SendError::Full)
+        && socket.try_send(OTHER, ECHO) == Ok(())
+        && offers_echo(socket)
+}
+
 #[test]
 fn messages_are_refused_in_order(rt: HostRuntime) -> Result<(), Fail> {
-    let nowhere = IpAddress::Ipv4(Ipv4Address::UNSPECIFIED);
-    let long = [0; 65_496];
-    let (rx, tx) = queues(rt.alloc())?;
-    let mut socket = icmp::Socket::new(icmp::Endpoint::Ident(0x22b), rx, tx);
-    let is_refused = socket.try_send(nowhere, &long) == Err(icmp::SendError::UnspecifiedAddress)
-        && socket.try_send(OTHER, &long) == Err(icmp::SendError::TooLong)
-        && socket.try_send(OTHER, &long[..65_495]) == Err(icmp::SendError::Full);
-    let is_queued = socket.try_send(OTHER, ECHO) == Ok(());
-    assert!(rt; is_refused && is_queued && offers_echo(&mut socket));
+    let mut socket = icmp_at(rt.alloc())?;
+    assert!(rt; refuses_in_order(&mut socket, &[0; 65_496]));
     Ok(())
 }
 
@@ -330,25 +404,36 @@ fn prints<T: Display>(alloc: Global, value: &T, text: &str) -> bool {
     false
 }
 
-#[test]
-fn printed_ends_and_errors(rt: HostRuntime) {
-    let alloc = rt.alloc();
-    let is_right = prints(alloc, &REMOTE, "192.168.69.100:5000")
+fn are_ends_printed(alloc: Global) -> bool {
+    prints(alloc, &REMOTE, "192.168.69.100:5000")
         && prints(alloc, &IpListenEndpoint::from(7), "*:7")
         && prints(alloc, &TcpSeqNumber::from(4_294_967_295), "4294967295")
-        && prints(alloc, &Full, "Full")
+}
+
+fn are_errors_printed(alloc: Global) -> bool {
+    prints(alloc, &Full, "Full")
         && prints(alloc, &NoMemory, "NoMemory")
         && prints(alloc, &SendError::UnspecifiedAddress, "UnspecifiedAddress")
         && prints(alloc, &SendError::UnspecifiedPort, "UnspecifiedPort")
         && prints(alloc, &SendError::Unbound, "Unbound")
         && prints(alloc, &SendError::TooLong, "TooLong")
         && prints(alloc, &SendError::Full, "Full")
-        && prints(
-            alloc,
-            &icmp::SendError::UnspecifiedAddress,
-            "UnspecifiedAddress",
-        )
-        && prints(alloc, &icmp::SendError::TooLong, "TooLong")
-        && prints(alloc, &icmp::SendError::Full, "Full");
-    assert!(rt; is_right);
+}
+
+fn are_icmp_errors_printed(alloc: Global) -> bool {
+    prints(
+        alloc,
+        &icmp::SendError::UnspecifiedAddress,
+        "UnspecifiedAddress",
+    ) && prints(alloc, &icmp::SendError::TooLong, "TooLong")
+        && prints(alloc, &icmp::SendError::Full, "Full")
+}
+
+fn are_all_printed(alloc: Global) -> bool {
+    are_ends_printed(alloc) && are_errors_printed(alloc) && are_icmp_errors_printed(alloc)
+}
+
+#[test]
+fn printed_ends_and_errors(rt: HostRuntime) {
+    assert!(rt; are_all_printed(rt.alloc()));
 }

@@ -89,12 +89,28 @@ pub const NAK: ([u8; 34], [u8; 60]) = (
     ],
 );
 
+/// The headers of IPv4, from 0.0.0.0 to 255.255.255.255, and of UDP, from port 68 to 67, in front of DISCOVER.
+pub const DISCOVER_HEADERS: [u8; 28] = [
+    0x45, 0x00, 0x01, 0x22, 0x00, 0x00, 0x40, 0x00, 0x40, 0x11, 0x39, 0xcc, 0x00, 0x00, 0x00, 0x00,
+    0xff, 0xff, 0xff, 0xff, 0x00, 0x44, 0x00, 0x43, 0x01, 0x0e, 0xd4, 0x31,
+];
+
 /// A message of these fields and options.
 pub fn message(fields: &[u8], options: &[u8]) -> FrameBuffer
     requires fields { length fields.now ≤ 34 }
     requires options { length options.now ≤ 512 }
 {
+    packet(&[], fields, options)
+}
+
+/// A message of these fields and options behind headers.
+pub fn packet(headers: &[u8], fields: &[u8], options: &[u8]) -> FrameBuffer
+    requires headers { length headers.now ≤ 28 }
+    requires fields { length fields.now ≤ 34 }
+    requires options { length options.now ≤ 512 }
+{
     let mut out = FrameBuffer::new();
+    out.append(headers);
     out.append(fields);
     out.append(&[0; 202]);
     out.append(&[99, 130, 83, 99]);

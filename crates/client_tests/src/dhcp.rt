@@ -1,0 +1,10 @@
+//! Tests of `dhcp_client`.
+
+mod datagrams;
+mod exchanges;
+mod losses;
+mod messages;
+mod octets;
+mod refusals;
+mod renewals;
+mod servers;

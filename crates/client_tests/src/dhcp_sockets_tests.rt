@@ -1,4 +1,0 @@
-//! The tests of `dhcp_client`.
-
-mod datagrams;
-mod octets;

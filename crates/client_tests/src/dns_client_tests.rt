@@ -1,5 +1,0 @@
-//! The tests of `dns_client`.
-
-mod answers;
-mod octets;
-mod servers;

@@ -1,4 +1,0 @@
-//! The tests of `dns_client`.
-
-mod octets;
-mod queries;

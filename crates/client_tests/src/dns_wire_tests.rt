@@ -1,5 +1,0 @@
-//! The tests of `dns_client`.
-
-mod messages;
-mod names;
-mod octets;
