@@ -1,3 +1,4 @@
+//! How a run ends, and what it says then.
 // The tests also hold where any one request for memory is refused.
 ghost use Rattle.std.specs.Prelude.{◌≡◌};
 
@@ -151,118 +152,166 @@ tx 02000000000202000000000108060001080006040002020000000001c0a84501020000000002c
 SocketStateChanged
 ";
 
-#[test]
-fn ends_where_a_stream_fails(rt: HostRuntime) {
-    // What is read before the failure is run, apart from a line that hasn't ended.
-    let scripts: [(&[u8], &[u8]); 4] = [
-        (b"", b""),
-        (b"ingress\n", b"None\n"),
-        (b"ingress\ningress", b"None\n"),
-        (REQUEST, REPLY),
-    ];
-    for (script, output) in scripts {
+/// Scripts, and what they answer if reading on at their ends fails: what is read before the failure is run, apart from a line
+/// that hasn't ended.
+const BROKEN: [(&[u8], &[u8]); 4] = [
+    (b"", b""),
+    (b"ingress\n", b"None\n"),
+    (b"ingress\ningress", b"None\n"),
+    (REQUEST, REPLY),
+];
+
+fn end_broken(alloc: Global) -> bool {
+    for (script, output) in &BROKEN {
         let broken = Case {
             read_fails: true,
             ..ends(output, b"", 4)
         };
-        assert!(rt; comes(rt.alloc(), &[script], broken));
+        if !comes(alloc, &[*script], broken) {
+            return false;
+        }
     }
-    let request = [REQUEST];
+    true
+}
+
+/// Whether a request's answer ends where the output has no more room.
+fn ends_without_room(alloc: Global) -> bool {
     for output_room in 0..REPLY.len() {
         let case = Case {
             output_room,
             ..ends(&REPLY[..output_room], b"", 4)
         };
-        assert!(rt; comes(rt.alloc(), &request, case));
+        if !comes(alloc, &[REQUEST], case) {
+            return false;
+        }
     }
     let whole = Case {
         output_room: REPLY.len(),
         ..ends(REPLY, b"", 0)
     };
-    assert!(rt; comes(rt.alloc(), &request, whole));
+    comes(alloc, &[REQUEST], whole)
+}
+
+/// Whether what is said of a wrong line ends where the error stream has no more room.
+fn ends_without_room_for_errors(alloc: Global) -> bool {
     for errors_room in 0..11 {
         let case = Case {
             errors_room,
             ..ends(b"", &b"bad line 1\n"[..errors_room], 4)
         };
-        assert!(rt; comes(rt.alloc(), &[b"pol 0"], case));
+        if !comes(alloc, &[b"pol 0"], case) {
+            return false;
+        }
     }
+    true
 }
 
 #[test]
-fn tells_that_the_output_is_not_flushed(rt: HostRuntime) {
-    let scripts: [(&[u8], &[u8], &[u8]); 3] = [
-        (b"", b"", b""),
-        (REQUEST, REPLY, b""),
-        (b"ingress\npol 0\n", b"None\n", b"bad line 2\n"),
-    ];
-    for (script, output, errors) in scripts {
+fn ends_where_a_stream_fails(rt: HostRuntime) {
+    assert!(&rt; end_broken(rt.alloc()));
+    assert!(&rt; ends_without_room(rt.alloc()));
+    assert!(&rt; ends_without_room_for_errors(rt.alloc()));
+}
+
+/// A script, what it answers, what is said of it, and its status if the error stream isn't flushed: where nothing is said
+/// there, it isn't flushed.
+type Said = (&'static [u8], &'static [u8], &'static [u8], u8);
+
+const STUCK: [Said; 3] = [
+    (b"", b"", b"", 0),
+    (REQUEST, REPLY, b"", 0),
+    (b"ingress\npol 0\n", b"None\n", b"bad line 2\n", 4),
+];
+
+fn tells_that_it_is_stuck(alloc: Global) -> bool {
+    for (script, output, errors, _) in &STUCK {
         let stuck = Case {
             flush_fails: true,
             ..ends(output, errors, 4)
         };
-        assert!(rt; comes(rt.alloc(), &[script], stuck));
+        if !comes(alloc, &[*script], stuck) {
+            return false;
+        }
     }
+    true
 }
 
-// Where nothing is said there, it isn't flushed.
 #[test]
-fn tells_that_the_error_stream_is_not_flushed(rt: HostRuntime) {
-    let scripts: [(&[u8], &[u8], &[u8], u8); 3] = [
-        (b"", b"", b"", 0),
-        (REQUEST, REPLY, b"", 0),
-        (b"ingress\npol 0\n", b"None\n", b"bad line 2\n", 4),
-    ];
-    for (script, output, errors, status) in scripts {
+fn tells_that_the_output_is_not_flushed(rt: HostRuntime) {
+    assert!(rt; tells_that_it_is_stuck(rt.alloc()));
+}
+
+fn tells_that_errors_are_stuck(alloc: Global) -> bool {
+    for (script, output, errors, status) in &STUCK {
         let stuck = Case {
             errors_flush_fails: true,
-            ..ends(output, errors, status)
+            ..ends(output, errors, *status)
         };
-        assert!(rt; comes(rt.alloc(), &[script], stuck));
+        if !comes(alloc, &[*script], stuck) {
+            return false;
+        }
     }
+    true
+}
+
+#[test]
+fn tells_that_the_error_stream_is_not_flushed(rt: HostRuntime) {
+    assert!(rt; tells_that_errors_are_stuck(rt.alloc()));
 }
 
 const LINE_FEEDS: [u8; 4096] = [b'\n'; 4096];
 
+/// How many empty lines there are, a line behind them, and what is said of it. A zero octet is a line that is none, too.
+const LINES: [(usize, &[u8], &[u8]); 7] = [
+    (9, b"pol 0", b"bad line 10\n"),
+    (98, b"pol 0", b"bad line 99\n"),
+    (998, b"pol 0", b"bad line 999\n"),
+    (999, b"pol 0", b"bad line 1000\n"),
+    (1000, b"pol 0", b"bad line 1001\n"),
+    (12_345, b"pol 0", b"bad line 12346\n"),
+    (3, b"\0\ningress\n", b"bad line 4\n"),
+];
+
+/// Whether so many empty lines are counted before one that is wrong. They come 4,096 at a time.
+fn counts(alloc: Global, count: usize, line: &[u8], errors: &[u8]) -> bool {
+    let mut pieces: ArrayVec<&[u8], 5> = ArrayVec::new();
+    for _ in 0..count / 4096 {
+        let _ = pieces.try_push(&LINE_FEEDS);
+    }
+    let _ = pieces.try_push(&LINE_FEEDS[..count % 4096]);
+    let _ = pieces.try_push(line);
+    comes(alloc, pieces.as_slice(), ends(b"", errors, 2))
+}
+
+fn counts_all(alloc: Global) -> bool {
+    for (count, line, errors) in &LINES {
+        if !counts(alloc, *count, line, errors) {
+            return false;
+        }
+    }
+    true
+}
+
 #[test]
 fn counts_lines(rt: HostRuntime) {
-    // A zero octet is a line that is none, too.
-    let scripts: [(&[&[u8]], &[u8], &[u8]); 7] = [
-        (&[&LINE_FEEDS[..9]], b"pol 0", b"bad line 10\n"),
-        (&[&LINE_FEEDS[..98]], b"pol 0", b"bad line 99\n"),
-        (&[&LINE_FEEDS[..998]], b"pol 0", b"bad line 999\n"),
-        (&[&LINE_FEEDS[..999]], b"pol 0", b"bad line 1000\n"),
-        (&[&LINE_FEEDS[..1000]], b"pol 0", b"bad line 1001\n"),
-        (
-            &[&LINE_FEEDS, &LINE_FEEDS, &LINE_FEEDS, &LINE_FEEDS[..57]],
-            b"pol 0",
-            b"bad line 12346\n",
-        ),
-        (&[&LINE_FEEDS[..3]], b"\0\ningress\n", b"bad line 4\n"),
-    ];
-    for (feeds, line, errors) in scripts {
-        let mut pieces: ArrayVec<&[u8], 5> = ArrayVec::new();
-        let _ = pieces.try_extend_from_slice(feeds);
-        let _ = pieces.try_push(line);
-        assert!(rt; comes(rt.alloc(), pieces.as_slice(), ends(b"", errors, 2)));
-    }
+    assert!(rt; counts_all(rt.alloc()));
+}
+
+/// Whether the reason of an end is told so.
+fn is_told(stop: Stop, text: &[u8]) -> bool {
+    let mut errors = Page::new(512, false);
+    let is_told = tell(Err(stop), &mut errors).is_ok();
+    is_told && errors.text.as_slice() == text && errors.flushes == 1
 }
 
 #[test]
 fn tells_why_it_ended(rt: HostRuntime) {
-    for (stop, text) in [
-        (
-            Stop::NoHost(NewError::MediumMismatch),
-            b"no host: MediumMismatch\n".as_slice(),
-        ),
-        (
-            Stop::NoHost(NewError::MtuTooLarge),
-            b"no host: MtuTooLarge\n",
-        ),
-        (Stop::NoMemory, b"out of memory\n"),
-    ] {
-        let mut errors = Page::new(512, false);
-        let is_told = tell(Err(stop), &mut errors).is_ok();
-        assert!(rt; is_told && errors.text.as_slice() == text && errors.flushes == 1);
-    }
+    let is_right = is_told(
+        Stop::NoHost(NewError::MediumMismatch),
+        b"no host: MediumMismatch\n",
+    ) && is_told(
+        Stop::NoHost(NewError::MtuTooLarge),
+        b"no host: MtuTooLarge\n",
+    ) && is_told(Stop::NoMemory, b"out of memory\n");
+    assert!(rt; is_right);
 }
