@@ -1,4 +1,4 @@
-// Lists of commands, with turns of the sockets' owner among them.
+//! Lists of commands, with turns of the sockets' owner among them.
 
 use interface::{Answer, Command, PollIngressSingleResult};
 use net_base::phy::Device;

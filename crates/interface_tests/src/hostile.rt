@@ -1,5 +1,5 @@
-// Frames that are meant to do harm. What the laws say of all frames is tried here: a malformed one does nothing
-// (`malformed_is_dropped`), and fragments take two slots at most, for the time of a slot.
+//! Frames that are meant to do harm. What the laws say of all frames is tried here: a malformed one does nothing
+//! (`malformed_is_dropped`), and fragments take two slots at most, for the time of a slot.
 
 use arrayvec::ArrayVec;
 use net_base::rand::Rand;
@@ -33,41 +33,41 @@ fn changed(frame: &Octets, place: usize, mask: u8) -> Octets {
     bad
 }
 
-// Whatever bit of a frame was changed on its way, the good one is answered as if the bad one hadn't come.
-#[test]
-fn good_frames_follow_spoilt_ones(rt: HostRuntime) {
-    each_spoilt(
-        &rt,
+/// How a host has come to where a frame arrives, the frame's word, and what is to come of the good one.
+type Spoilt = (&'static str, &'static str, &'static str);
+
+const KNOWN: &str = "addr c0a84501/24
+    rx REQUEST
+    ingress 0 = SocketStateChanged tx REPLY";
+
+const SPOILT: [Spoilt; 5] = [
+    (
         "addr c0a84501/24",
         "REQUEST",
         "rx REQUEST
         ingress 0 = SocketStateChanged tx REPLY",
-    );
-    each_spoilt(
-        &rt,
+    ),
+    (
         KNOWN,
         "ECHO",
         "rx ECHO
         ingress 0 = SocketStateChanged tx ECHO_REPLY",
-    );
-    each_spoilt(
-        &rt,
+    ),
+    (
         KNOWN,
         "SYN",
         "rx SYN
         ingress 0 = SocketStateChanged tx RESET",
-    );
-    each_spoilt(
-        &rt,
+    ),
+    (
         "addr c0a84501/24
         udp 6969",
         "HI",
         "rx HI
         ingress 0 = SocketStateChanged
         heard? 0 = c0a84564 5000 6869",
-    );
-    each_spoilt(
-        &rt,
+    ),
+    (
         "addr c0a84501/24
         udp 6969",
         "HI_START",
@@ -76,33 +76,33 @@ fn good_frames_follow_spoilt_ones(rt: HostRuntime) {
         rx HI_END
         ingress 0 = SocketStateChanged
         heard? 0 = c0a84564 5000 6869",
-    );
+    ),
+];
+
+// Whatever bit of a frame was changed on its way, the good one is answered as if the bad one hadn't come.
+#[test]
+fn good_frames_follow_spoilt_ones(rt: HostRuntime) {
+    for (first, word, second) in &SPOILT {
+        each_spoilt(&rt, first, word, second);
+    }
 }
 
-const KNOWN: &str = "addr c0a84501/24
-    rx REQUEST
-    ingress 0 = SocketStateChanged tx REPLY";
-
-#[test]
-fn good_frames_follow_spoilt_ones_over_ipv6(rt: HostRuntime) {
-    each_spoilt(
-        &rt,
+const SPOILT_OVER_IPV6: [Spoilt; 3] = [
+    (
         "addr fe800000000000000000000000000001/64",
         "SOLICIT_1",
         "rx SOLICIT_1
         ingress 0 = SocketStateChanged tx ADVERT_1",
-    );
-    each_spoilt(
-        &rt,
+    ),
+    (
         "addr fe800000000000000000000000000001/64
         rx SOLICIT_1
         ingress 0 = SocketStateChanged tx ADVERT_1",
         "ECHO_V6",
         "rx ECHO_V6
         ingress 0 = SocketStateChanged tx ECHO_REPLY_V6",
-    );
-    each_spoilt(
-        &rt,
+    ),
+    (
         "slaac
         addr fe800000000000000000000000000001/64",
         "ADVERTISED",
@@ -110,7 +110,14 @@ fn good_frames_follow_spoilt_ones_over_ipv6(rt: HostRuntime) {
         ingress 0 = SocketStateChanged
         maintain 0
         addr? = fe800000000000000000000000000001/64 20010db800000000000000fffe000001/64",
-    );
+    ),
+];
+
+#[test]
+fn good_frames_follow_spoilt_ones_over_ipv6(rt: HostRuntime) {
+    for (first, word, second) in &SPOILT_OVER_IPV6 {
+        each_spoilt(&rt, first, word, second);
+    }
 }
 
 // Fragments under ever more keys find the first two in their slots, until the time of these is over.

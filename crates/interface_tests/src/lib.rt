@@ -1,4 +1,5 @@
-//! Tests of the interface and of lists of calls.
+//! Tests of `interface` and of `host`: lists of commands, scripts of scenes and how they fail, frames that are meant to do
+//! harm, requests for neighbours, and two hosts on a link.
 #![tactic(auto)]
 
 #[cfg(test)]
@@ -6,9 +7,9 @@ mod commands;
 #[cfg(test)]
 mod errors;
 #[cfg(test)]
-mod host_tests;
-#[cfg(test)]
 mod hostile;
+#[cfg(test)]
+mod linked_hosts;
 #[cfg(test)]
 mod requests;
 #[cfg(test)]

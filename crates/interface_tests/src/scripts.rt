@@ -1,7 +1,7 @@
-// That scripts of scenes fail where something else comes than they say: otherwise all scenes would pass whatever a host does.
+//! That scripts of scenes fail where something else comes than they say: otherwise all scenes would pass whatever a host does.
 
 use scene::script::{Outcome, play};
-use std::process::Abort;
+use std::alloc::Global;
 
 // A host with an address, and a socket that has a datagram for a neighbour that isn't known.
 const BEGINS: [&str; 3] = ["addr c0a84501/24", "udp 6969", "send 0 c0a84532 5000 6869"];
@@ -39,24 +39,24 @@ const UNREADABLE: [&str; 6] = [
     "addr c0a84501",
 ];
 
+/// The first line that isn't told, of those that each come behind the beginning.
+fn first_untold<'a>(alloc: Global, lines: &[&'a str]) -> Option<&'a str> {
+    for line in lines {
+        if play(alloc, &BEGINS, &[*line]) != Outcome::Otherwise(line) {
+            return Some(line);
+        }
+    }
+    None
+}
+
 #[test]
 fn other_lines_are_told(rt: HostRuntime) {
-    for line in OTHERWISE {
-        assert!(&rt;
-            play(rt.alloc(), &BEGINS, &[line]) == Outcome::Otherwise(line),
-            "{line}"
-        );
-    }
+    assert!(&rt; first_untold(rt.alloc(), &OTHERWISE).is_none());
 }
 
 #[test]
 fn unreadable_lines_are_told(rt: HostRuntime) {
-    for line in UNREADABLE {
-        assert!(&rt;
-            play(rt.alloc(), &BEGINS, &[line]) == Outcome::Otherwise(line),
-            "{line}"
-        );
-    }
+    assert!(&rt; first_untold(rt.alloc(), &UNREADABLE).is_none());
 }
 
 // What a script begins with is followed as it is.

@@ -1,9 +1,9 @@
-// Frames that are lost, come twice and in another order. A step whose copy found no memory is tried again
-// from the beginning, between two new ends.
+//! Frames that are lost, come twice and in another order. A step whose copy found no memory is tried again from the
+//! beginning, between two new ends.
 ghost use Rattle.std.specs.Prelude.{All};
 ghost use Rattle.host.specs.Link.{IsTimelyStep};
 
-use crate::host_tests::ends::{End, is_whole, linked, made, received, send};
+use crate::linked_hosts::ends::{End, is_whole, linked, made, received, send};
 use host::link::LinkStep;
 use interface::Command;
 use net_base::time::Instant;
@@ -61,7 +61,27 @@ fn is_fragment(frame: &[u8], total_len: u16, flags_and_offset: u16) -> bool {
         && frame.get(20..22) == Some(&flags_and_offset.to_be_bytes())
 }
 
-// The pieces have 552 octets, with more to follow, and 456, from octet 552 on.
+/// Whether these frames are the request and the two pieces: they have 552 octets, with more to follow, and 456, from octet
+/// 552 on.
+fn are_both_pieces(frames: &[Vec<u8>]) -> bool {
+    match frames {
+        [request, first, second] => {
+            request.as_slice() == REQUEST.as_slice()
+                && is_fragment(first, 572, 0x2000)
+                && is_fragment(second, 476, 0x0045)
+        }
+        _ => false,
+    }
+}
+
+/// Whether A sends those in these steps.
+fn sends_both_pieces(alloc: Global, steps: &[LinkStep]) -> Option<bool>
+    requires { All IsTimelyStep steps.now }
+{
+    let (a, _b) = both_after(alloc, 1514, steps)?;
+    Some(are_both_pieces(a.device.sent()))
+}
+
 #[test]
 fn a_datagram_goes_behind_the_request_in_two_pieces(rt: HostRuntime) {
     let steps = [
@@ -71,16 +91,7 @@ fn a_datagram_goes_behind_the_request_in_two_pieces(rt: HostRuntime) {
         LinkStep::A(Command::PollEgress(NOW)),
         LinkStep::A(Command::PollEgress(NOW)),
     ];
-    let (a, _b) = both_after(rt.alloc(), 1514, &steps).expect(&rt, "two ends");
-    let is_right = match a.device.sent() {
-        [request, first, second] => {
-            request.as_slice() == REQUEST.as_slice()
-                && is_fragment(first, 572, 0x2000)
-                && is_fragment(second, 476, 0x0045)
-        }
-        _ => false,
-    };
-    assert!(rt; is_right);
+    assert!(rt; sends_both_pieces(rt.alloc(), &steps) == Some(true));
 }
 
 #[test]
@@ -94,7 +105,7 @@ fn pieces_in_another_order_are_one_datagram(rt: HostRuntime) {
         LinkStep::ToB(2, NOW),
         LinkStep::ToB(1, NOW),
     ];
-    assert_eq!(rt; delivered(rt.alloc(), 1514, &steps), Some((0, 1)));
+    assert!(rt; delivered(rt.alloc(), 1514, &steps) == Some((0, 1)));
 }
 
 #[test]
@@ -110,7 +121,7 @@ fn pieces_that_come_again_are_another_datagram(rt: HostRuntime) {
         LinkStep::ToB(1, NOW),
         LinkStep::ToB(2, NOW),
     ];
-    assert_eq!(rt; delivered(rt.alloc(), 1514, &steps), Some((0, 2)));
+    assert!(rt; delivered(rt.alloc(), 1514, &steps) == Some((0, 2)));
 }
 
 // There is no frame 9.
@@ -126,7 +137,7 @@ fn a_piece_that_is_lost_leaves_nothing(rt: HostRuntime) {
         LinkStep::ToB(9, NOW),
         LinkStep::ToA(9, NOW),
     ];
-    assert_eq!(rt; delivered(rt.alloc(), 1514, &steps), Some((0, 0)));
+    assert!(rt; delivered(rt.alloc(), 1514, &steps) == Some((0, 0)));
 }
 
 // B answers the request twice.
@@ -147,7 +158,7 @@ fn frames_that_come_twice_in_reverse_are_one_datagram(rt: HostRuntime) {
         LinkStep::ToB(1, NOW),
         LinkStep::ToB(1, NOW),
     ];
-    assert_eq!(rt; delivered(rt.alloc(), 1514, &steps), Some((0, 1)));
+    assert!(rt; delivered(rt.alloc(), 1514, &steps) == Some((0, 1)));
 }
 
 #[test]
@@ -165,5 +176,5 @@ fn both_ends_cut(rt: HostRuntime) {
         LinkStep::ToA(1, NOW),
         LinkStep::ToB(1, NOW),
     ];
-    assert_eq!(rt; delivered(rt.alloc(), 590, &steps), Some((1, 1)));
+    assert!(rt; delivered(rt.alloc(), 590, &steps) == Some((1, 1)));
 }

@@ -1,5 +1,0 @@
-//! Tests of two hosts on a link.
-
-mod ends;
-mod errors;
-mod link;

@@ -1,0 +1,4 @@
+//! Two hosts on a link.
+
+mod ends;
+mod losses;
