@@ -50,29 +50,29 @@ const MAX_PAYLOAD: usize = 65_495;
 
 /// A host with its link.
 #[derive(Drop)]
-pub struct Host {
+pub struct BenchHost {
     interface: Interface,
     pub link: Link,
     sockets: SocketSet<'static>,
     handle: SocketHandle,
 }
 
-impl Host {
+impl BenchHost {
     /// A host at 192.168.69.1/24, or fe80::1/64 over IPv6, with at least `count` sockets, of which the last is used: it
     /// has room for four datagrams each way.
-    pub fn new(alloc: Global, count: u64, medium: Medium, version: IpVersion) -> Result<Host> {
+    pub fn new(alloc: Global, count: u64, medium: Medium, version: IpVersion) -> Result<BenchHost> {
         let hardware_addr = match medium {
             Medium::Ethernet => HardwareAddress::Ethernet(EthernetAddress([2, 0, 0, 0, 0, 1])),
             Medium::Ip => HardwareAddress::Ip,
         };
-        Host::at(alloc, count, medium, hardware_addr, own(version), PORT)
+        BenchHost::at(alloc, count, medium, hardware_addr, own(version), PORT)
     }
 
     /// The host at 192.168.69.100/24 to which it sends, with one socket.
-    pub fn peer(alloc: Global) -> Result<Host> {
+    pub fn peer(alloc: Global) -> Result<BenchHost> {
         let hardware_addr = HardwareAddress::Ethernet(EthernetAddress([2, 0, 0, 0, 0, 2]));
         let cidr = IpCidr::Ipv4(Ipv4Cidr::new(Ipv4Address::new(192, 168, 69, 100), 24));
-        Host::at(alloc, 1, Medium::Ethernet, hardware_addr, cidr, REMOTE.port)
+        BenchHost::at(alloc, 1, Medium::Ethernet, hardware_addr, cidr, REMOTE.port)
     }
 
     /// A host with an address in its network, whose socket listens at a port.
@@ -83,12 +83,12 @@ impl Host {
         hardware_addr: HardwareAddress,
         cidr: IpCidr,
         port: u16,
-    ) -> Result<Host> {
+    ) -> Result<BenchHost> {
         let mut sockets = SocketSet::new(Vec::new(alloc));
         let handle = add_sockets(alloc, &mut sockets, count, port)?;
         let mut link = Link::new(alloc, medium);
         let interface = interface_at(hardware_addr, cidr, &mut link)?;
-        Ok(Host {
+        Ok(BenchHost {
             interface,
             link,
             sockets,

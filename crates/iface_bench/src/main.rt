@@ -14,7 +14,7 @@
 mod host;
 mod link;
 
-use crate::host::Host;
+use crate::host::BenchHost;
 use crate::link::Link;
 use anyhow::{Context, Result, bail};
 use ip_wire::IpVersion;
@@ -24,7 +24,13 @@ use std::env;
 use std::io::Print;
 
 /// Does it `rounds` times. Returns how many octets were read from the host's socket, or the peer's.
-fn run(host: &mut Host, peer: &mut Host, work: &str, rounds: u64, octets: Vec<u8>) -> Result<u64> {
+fn run(
+    host: &mut BenchHost,
+    peer: &mut BenchHost,
+    work: &str,
+    rounds: u64,
+    octets: Vec<u8>,
+) -> Result<u64> {
     match work {
         "receive" | "packet" | "deliver" | "full" | "poll" => {
             host.link.load(octets);
@@ -36,7 +42,7 @@ fn run(host: &mut Host, peer: &mut Host, work: &str, rounds: u64, octets: Vec<u8
 }
 
 /// What is done with the frame that the link delivers.
-fn take_in(host: &mut Host, work: &str, rounds: u64) -> Result<u64> {
+fn take_in(host: &mut BenchHost, work: &str, rounds: u64) -> Result<u64> {
     match work {
         "deliver" => Ok(deliver(host, rounds)),
         "full" => {
@@ -49,7 +55,7 @@ fn take_in(host: &mut Host, work: &str, rounds: u64) -> Result<u64> {
 }
 
 /// What is done with octets that are handed over, or without any.
-fn hand_over(host: &mut Host, work: &str, rounds: u64, octets: &[u8]) -> Result<u64> {
+fn hand_over(host: &mut BenchHost, work: &str, rounds: u64, octets: &[u8]) -> Result<u64> {
     match work {
         "send" => Ok(send(host, rounds, octets)),
         "route" => {
@@ -67,7 +73,7 @@ fn hand_over(host: &mut Host, work: &str, rounds: u64, octets: &[u8]) -> Result<
 }
 
 /// Receives a frame; nothing is read.
-fn receive(host: &mut Host, rounds: u64) -> u64 {
+fn receive(host: &mut BenchHost, rounds: u64) -> u64 {
     for _ in 0..rounds {
         host.receive();
     }
@@ -75,7 +81,7 @@ fn receive(host: &mut Host, rounds: u64) -> u64 {
 }
 
 /// Delivers a frame to a socket.
-fn deliver(host: &mut Host, rounds: u64) -> u64 {
+fn deliver(host: &mut BenchHost, rounds: u64) -> u64 {
     let mut read = 0u64;
     for _ in 0..rounds {
         read = read.wrapping_add(host.deliver() as u64);
@@ -84,7 +90,7 @@ fn deliver(host: &mut Host, rounds: u64) -> u64 {
 }
 
 /// Polls; nothing is read.
-fn poll(host: &mut Host, rounds: u64) -> u64 {
+fn poll(host: &mut BenchHost, rounds: u64) -> u64 {
     for _ in 0..rounds {
         host.poll();
     }
@@ -92,7 +98,7 @@ fn poll(host: &mut Host, rounds: u64) -> u64 {
 }
 
 /// Sends a datagram; nothing is read.
-fn send(host: &mut Host, rounds: u64, octets: &[u8]) -> u64 {
+fn send(host: &mut BenchHost, rounds: u64, octets: &[u8]) -> u64 {
     for _ in 0..rounds {
         host.send(octets);
     }
@@ -100,7 +106,7 @@ fn send(host: &mut Host, rounds: u64, octets: &[u8]) -> u64 {
 }
 
 /// Sends a datagram by a route; nothing is read.
-fn send_far(host: &mut Host, rounds: u64, octets: &[u8]) -> u64 {
+fn send_far(host: &mut BenchHost, rounds: u64, octets: &[u8]) -> u64 {
     for _ in 0..rounds {
         host.send_far(octets);
     }
@@ -108,7 +114,7 @@ fn send_far(host: &mut Host, rounds: u64, octets: &[u8]) -> u64 {
 }
 
 /// Receives a datagram in three fragments.
-fn receive_fragments(host: &mut Host, rounds: u64, octets: &[u8]) -> u64 {
+fn receive_fragments(host: &mut BenchHost, rounds: u64, octets: &[u8]) -> u64 {
     let mut read = 0u64;
     for _ in 0..rounds {
         host.receive_three(octets);
@@ -118,7 +124,7 @@ fn receive_fragments(host: &mut Host, rounds: u64, octets: &[u8]) -> u64 {
 }
 
 /// Answers a request in three fragments; nothing is read.
-fn answer_in_pieces(host: &mut Host, rounds: u64, octets: &[u8]) -> u64 {
+fn answer_in_pieces(host: &mut BenchHost, rounds: u64, octets: &[u8]) -> u64 {
     for _ in 0..rounds {
         host.receive_three(octets);
         host.send_two_pieces();
@@ -127,7 +133,7 @@ fn answer_in_pieces(host: &mut Host, rounds: u64, octets: &[u8]) -> u64 {
 }
 
 /// Sends a datagram in three fragments; nothing is read.
-fn send_in_pieces(host: &mut Host, rounds: u64, octets: &[u8]) -> u64 {
+fn send_in_pieces(host: &mut BenchHost, rounds: u64, octets: &[u8]) -> u64 {
     for _ in 0..rounds {
         host.send(octets);
         host.send_two_pieces();
@@ -136,7 +142,7 @@ fn send_in_pieces(host: &mut Host, rounds: u64, octets: &[u8]) -> u64 {
 }
 
 /// Sends a datagram in three fragments to another host, which reads it.
-fn send_over_link(host: &mut Host, peer: &mut Host, rounds: u64, octets: &[u8]) -> u64 {
+fn send_over_link(host: &mut BenchHost, peer: &mut BenchHost, rounds: u64, octets: &[u8]) -> u64 {
     let mut read = 0u64;
     for _ in 0..rounds {
         host.send(octets);
@@ -151,7 +157,7 @@ fn send_over_link(host: &mut Host, peer: &mut Host, rounds: u64, octets: &[u8]) 
 }
 
 /// Asks when to poll again. Returns how often there was such an instant.
-fn ask_when(host: &mut Host, rounds: u64) -> u64 {
+fn ask_when(host: &mut BenchHost, rounds: u64) -> u64 {
     let mut read = 0u64;
     for _ in 0..rounds {
         read = read.wrapping_add(u64::from(host.poll_at()));
@@ -217,8 +223,8 @@ struct Measured {
 
 /// Has a host do what is asked for, after a frame that it receives first.
 fn measure(alloc: Global, asked: &Asked, first: Vec<u8>, octets: Vec<u8>) -> Result<Measured> {
-    let mut host = Host::new(alloc, asked.sockets, asked.medium, asked.version)?;
-    let mut peer = Host::peer(alloc)?;
+    let mut host = BenchHost::new(alloc, asked.sockets, asked.medium, asked.version)?;
+    let mut peer = BenchHost::peer(alloc)?;
     begin(&mut host, first);
     let read = run(
         &mut host,
@@ -231,7 +237,7 @@ fn measure(alloc: Global, asked: &Asked, first: Vec<u8>, octets: Vec<u8>) -> Res
 }
 
 /// Has a host be polled, and receive its first frame.
-fn begin(host: &mut Host, first: Vec<u8>) {
+fn begin(host: &mut BenchHost, first: Vec<u8>) {
     host.poll();
     host.link.load(first);
     host.receive();

@@ -17,7 +17,7 @@ ghost use Rattle.std.specs.Prelude.{◌≡◌, ◌≢◌, IfSome, false};
 ghost use Rattle.ip_address.specs.Ip.{is_unspecified};
 
 use crate::frames::frame;
-use crate::scene_host::Host;
+use crate::scene_host::SceneHost;
 use crate::script::tells;
 use crate::words::{Words, any_address, count, end, is_ok, moment, number, octet, short};
 use ip_wire::{IpProtocol, IpVersion, TcpControl, TcpSeqNumber};
@@ -68,7 +68,7 @@ fn segment(call: &mut Words<'_>) -> Option<Segment>
     })
 }
 
-impl Host {
+impl SceneHost {
     /// A call at the sockets, by its word, or a question to the interface.
     pub fn at_sockets(
         &mut self,

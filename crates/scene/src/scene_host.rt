@@ -67,7 +67,7 @@ fn refusal_after(alloc: Global, given: usize) -> Option<Vec<bool>> {
 
 /// A host with its device and its sockets.
 #[derive(Drop)]
-pub struct Host {
+pub struct SceneHost {
     pub alloc: Global,
     pub interface: Interface,
     pub device: MemoryDevice,
@@ -79,7 +79,7 @@ pub struct Host {
     pub kept: bool,
 }
 
-impl Host {
+impl SceneHost {
     ghost use Rattle.std.specs.Prelude.{◌≡◌, length, All};
     ghost use Rattle.host_machine.specs.Interface.Step.{IsTimely};
 
@@ -88,8 +88,8 @@ impl Host {
         alloc: Global,
         hardware_addr: HardwareAddress,
         capabilities: DeviceCapabilities,
-    ) -> Result<Host, NewError> {
-        Host::with_config(alloc, Config::new(hardware_addr), capabilities)
+    ) -> Result<SceneHost, NewError> {
+        SceneHost::with_config(alloc, Config::new(hardware_addr), capabilities)
     }
 
     /// A host that takes addresses from routers.
@@ -97,26 +97,26 @@ impl Host {
         alloc: Global,
         hardware_addr: HardwareAddress,
         capabilities: DeviceCapabilities,
-    ) -> Result<Host, NewError> {
+    ) -> Result<SceneHost, NewError> {
         let config = Config {
             slaac: true,
             ..Config::new(hardware_addr)
         };
-        Host::with_config(alloc, config, capabilities)
+        SceneHost::with_config(alloc, config, capabilities)
     }
 
     fn with_config(
         alloc: Global,
         config: Config,
         capabilities: DeviceCapabilities,
-    ) -> Result<Host, NewError> {
+    ) -> Result<SceneHost, NewError> {
         let mut device = MemoryDevice::new(alloc, capabilities);
         let config = Config {
             random_seed: SEED,
             ..config
         };
         let interface = Interface::new(config, &mut device, Instant::ZERO)?;
-        Ok(Host {
+        Ok(SceneHost {
             alloc,
             interface,
             device,

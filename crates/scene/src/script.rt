@@ -43,7 +43,7 @@ ghost use Rattle.std.specs.Prelude.{IfSome};
 ghost use Rattle.host_machine.specs.Interface.Step.{IsTimely};
 
 use crate::frames::{Octets, frame};
-use crate::scene_host::{ETHERNET, Host, IP, OWN};
+use crate::scene_host::{ETHERNET, IP, OWN, SceneHost};
 use crate::words::{
     Words, address_v6, any_address, count, hardware, is_ok, medium, moment, networks, number,
     octet, routes, wide,
@@ -74,7 +74,7 @@ pub enum Outcome<'a> {
 
 /// Follows lines on a new host, and tells what came of them.
 pub fn play<'a>(alloc: Global, begins: &[&'a str], script: &[&'a str]) -> Outcome<'a> {
-    let Ok(mut host) = Host::new(alloc, OWN, ETHERNET) else {
+    let Ok(mut host) = SceneHost::new(alloc, OWN, ETHERNET) else {
         return Outcome::FrameLeft;
     };
     if let Some(line) = host.first_otherwise(begins) {
@@ -92,13 +92,13 @@ pub fn play<'a>(alloc: Global, begins: &[&'a str], script: &[&'a str]) -> Outcom
 
 /// Whether a script comes as it says on a host that took a frame after another script.
 pub fn outlives(alloc: Global, first: &str, bad: &[u8], second: &str) -> bool {
-    let Ok(mut host) = Host::new(alloc, OWN, ETHERNET) else {
+    let Ok(mut host) = SceneHost::new(alloc, OWN, ETHERNET) else {
         return false;
     };
     host.follows(first) && host.takes(bad).is_some() && host.follows(second)
 }
 
-impl Host {
+impl SceneHost {
     /// Follows a script, and says whether it comes as it says.
     pub fn follows(&mut self, script: &str) -> bool {
         for line in script.lines() {
@@ -267,7 +267,7 @@ impl Host {
         let hardware_addr = hardware(call.next()?)?;
         let capabilities = capabilities_in(call)?;
         let word = outcome.next()?;
-        match Host::new(self.alloc, hardware_addr, capabilities) {
+        match SceneHost::new(self.alloc, hardware_addr, capabilities) {
             Ok(host) => {
                 *self = host;
                 Some(word == "ok")
@@ -279,7 +279,7 @@ impl Host {
     // A host is made that takes addresses from routers.
     fn is_made_anew(&mut self, call: &mut Words<'_>, outcome: &mut Words<'_>) -> Option<bool> {
         let (hardware_addr, capabilities) = slaac_link_in(call)?;
-        *self = Host::with_slaac(self.alloc, hardware_addr, capabilities).ok()?;
+        *self = SceneHost::with_slaac(self.alloc, hardware_addr, capabilities).ok()?;
         is_ok(outcome)
     }
 

@@ -7,11 +7,11 @@ use Rattle.host_machine.specs.declared.command.Answer.{Answer}
 use Rattle.host.specs.Driven.{Driven}
 use Rattle.script.specs.Commands.{command_of, moment_after}
 use Rattle.script.specs.declared.line.Call.{Call}
-use Rattle.script.specs.declared.script_host.Host.{Host}
+use Rattle.script.specs.declared.script_host.ScriptHost.{ScriptHost}
 use Rattle.script.specs.declared.script_host.Idle.{Idle}
 
 -- a host of the machine that it stands for: its interface with its sockets does
-abbrev pub StandsFor : Host → Machine → Type 0
+abbrev pub StandsFor : ScriptHost → Machine → Type 0
 StandsFor host H = interface.StandsFor host.interface host.sockets H
 
 -- what an owner does that does nothing
@@ -19,7 +19,7 @@ abbrev pub DoesNothing : Idle → ℕ → SocketSet → SocketSet → Idle → T
 DoesNothing owner number before after owner' = after ≡ before
 
 -- from each host that it stood for, it was driven by the command of a call, which had this answer
-abbrev pub RunsCall : Call → Answer → Host → Host → Type 0
+abbrev pub RunsCall : Call → Answer → ScriptHost → ScriptHost → Type 0
 RunsCall call answer old new =
     (H : Machine) → StandsFor old H →
     Driven Tells DoesNothing old.device new.device old.owner new.owner

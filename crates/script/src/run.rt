@@ -9,7 +9,7 @@ ghost use Rattle.script.specs.Status as spec;
 
 use crate::input::{Input, LineBuffer, LineRead};
 use crate::line::{FRAME_ROOM, Line, parse};
-use crate::script_host::Host;
+use crate::script_host::ScriptHost;
 use arrayvec::ArrayVec;
 use iface_tables::route::RouteTableFull;
 use interface::{
@@ -114,7 +114,7 @@ pub fn tell<E: Write>(ended: Result<(), Stop>, errors: &mut E) -> io::Result<()>
 
 /// Runs the lines up to the end, or to the first that can't be run.
 fn run_lines<R: Read, W: Write>(alloc: Global, input: &mut R, output: &mut W) -> Result<(), Stop> {
-    let mut host = Host::new(alloc)?;
+    let mut host = ScriptHost::new(alloc)?;
     let mut input = Input::new(input);
     let mut text = LineBuffer::new();
     let mut frame = [0; FRAME_ROOM];
@@ -134,7 +134,7 @@ fn run_lines<R: Read, W: Write>(alloc: Global, input: &mut R, output: &mut W) ->
 
 /// Runs one line, and writes the frames sent and then the answer.
 fn run_line<W: Write>(
-    host: &mut Host<'_>,
+    host: &mut ScriptHost<'_>,
     line: Line,
     frame: &[u8; FRAME_ROOM],
     output: &mut W,

@@ -65,7 +65,7 @@ fn add_udp(alloc: Global, sockets: &mut SocketSet<'_>, port: u16) -> Result<(), 
 
 /// An interface with its device and its sockets.
 #[derive(Drop)]
-pub struct Host<'a> {
+pub struct ScriptHost<'a> {
     alloc: Global,
     pub(crate) interface: Interface,
     pub device: MemoryDevice,
@@ -76,19 +76,19 @@ pub struct Host<'a> {
     ghost timely: { IsMoment moment },
 }
 
-impl<'a> Host<'a> {
+impl<'a> ScriptHost<'a> {
     ghost use Rattle.std.specs.Prelude.{◌≡◌};
     ghost use Rattle.script.specs.Commands.{IsTimelyCall, moment_after};
     ghost use Rattle.script.specs.Runs.{RunsCall};
 
     /// Creates a host without addresses and sockets, unless its device and its hardware address don't match.
-    pub fn new(alloc: Global) -> Result<Host<'a>, NewError>
+    pub fn new(alloc: Global) -> Result<ScriptHost<'a>, NewError>
         ensures { IfErr result (λ error. refusal_of CAPABILITIES HARDWARE_ADDR ≡ Some error) }
     {
         let mut device = MemoryDevice::new(alloc, CAPABILITIES);
         let config = Config::new(HARDWARE_ADDR);
         let interface = Interface::new(config, &mut device, Instant::ZERO)?;
-        Ok(Host {
+        Ok(ScriptHost {
             alloc,
             interface,
             device,

@@ -30,12 +30,12 @@ const REMOTE: IpEndpoint = IpEndpoint {
 
 // A host with at most one source address, in one network.
 #[derive(Drop)]
-struct Host {
+struct TestHost {
     moment: Instant,
     source: Option<IpAddress>,
 }
 
-impl SocketContext for Host {
+impl SocketContext for TestHost {
     ghost use Rattle.sockets.specs.Source.{is_same};
     ghost use Rattle.sockets_tests.specs.declared.kinds.TheConstants.{NETWORK};
 
@@ -58,7 +58,7 @@ impl SocketContext for Host {
     }
 }
 
-const HOST: Host = Host {
+const HOST: TestHost = TestHost {
     moment: Instant::ZERO,
     source: Some(OWN),
 };

@@ -1,6 +1,6 @@
 use Rattle.std.proofs.Common.{◌≡◌, List, [], ◌∷◌, length, get_or, refl, rules, arith}
 use Rattle.script.specs.Commands.{command_of, moment_after}
-use Rattle.script.proofs.script_host.Host.run.Goals as goal
+use Rattle.script.proofs.script_host.ScriptHost.run.Goals as goal
 
 -- a list of one
 single : {A : Type 0} (xs : List A) (d : A) → length xs ≡ 1 → xs ≡ get_or xs 0 d ∷ []
