@@ -219,7 +219,8 @@ fn is_changed(alloc: Global) -> Result<bool, AllocError> {
     let is_empty = has(&cache, &[]) && cache.lookup(&FIRST, SOON) == Answer::RateLimited;
     let mut cache = with_five(cache);
     cache.flush();
-    Ok(is_empty && has(&with_five(cache), &FIVE[3..]))
+    let five = &FIVE[..];
+    Ok(is_empty && has(&with_five(cache), &five[3..]))
 }
 
 #[test]

@@ -291,25 +291,48 @@ fn adds_three(routes: &mut Routes) -> bool {
     is_added && routes.add_default_ipv4_route(router(1)) == Ok(None)
 }
 
-/// Whether the routes are these three, and the others stay in order when the default routes are removed.
-fn stay_in_order(routes: &mut Routes, first: Route, middle: Route, last: Route) -> bool {
-    routes.as_slice() == [first, middle, last].as_slice()
-        && routes.get_default_ipv6_route() == Some(first)
-        && routes.remove_default_ipv6_route() == Some(first)
+/// The default route of IPv6, and that of IPv4.
+fn first_route() -> Route {
+    Route::new_ipv6_gateway(address6(0, 1))
+}
+
+fn last_route() -> Route {
+    Route::new_ipv4_gateway(router(1))
+}
+
+fn are_three(routes: &Routes) -> bool {
+    let three = [
+        first_route(),
+        route(PART, 16, router(3), None),
+        last_route(),
+    ];
+    routes.as_slice() == three.as_slice() && routes.get_default_ipv6_route() == Some(first_route())
+}
+
+fn goes_first(routes: &mut Routes) -> bool {
+    let two = [route(PART, 16, router(3), None), last_route()];
+    routes.remove_default_ipv6_route() == Some(first_route())
         && routes.remove_default_ipv6_route() == None
-        && routes.as_slice() == [middle, last].as_slice()
-        && routes.remove_default_ipv4_route() == Some(last)
+        && routes.as_slice() == two.as_slice()
+}
+
+fn goes_last(routes: &mut Routes) -> bool {
+    let one = [route(PART, 16, router(3), None)];
+    routes.remove_default_ipv4_route() == Some(last_route())
         && routes.get_default_ipv4_route() == None
-        && routes.as_slice() == [middle].as_slice()
+        && routes.as_slice() == one.as_slice()
+}
+
+/// Whether the three routes are there, and the others stay in order when the default routes are removed.
+fn stay_in_order(routes: &mut Routes) -> bool {
+    are_three(routes) && goes_first(routes) && goes_last(routes)
 }
 
 #[test]
 fn a_default_route_leaves_the_others_in_order(rt: HostRuntime) {
     let mut routes = Routes::new();
-    let first = Route::new_ipv6_gateway(address6(0, 1));
-    let middle = route(PART, 16, router(3), None);
-    let last = Route::new_ipv4_gateway(router(1));
-    assert!(rt; adds_three(&mut routes) && stay_in_order(&mut routes, first, middle, last));
+    let is_added = adds_three(&mut routes);
+    assert!(rt; is_added && stay_in_order(&mut routes));
 }
 
 /// A table over storage for so many routes and so many nodes.

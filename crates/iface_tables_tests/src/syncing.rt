@@ -213,11 +213,18 @@ fn a_full_table_keeps_a_route_out(rt: HostRuntime) {
     assert!(rt; is_full(&mut Routes::new(), &advised()));
 }
 
+/// A route that no router gave.
+fn other() -> Stored {
+    Stored::new_ipv4_gateway(Ipv4Address::new(10, 0, 0, 1))
+}
+
 fn end_everywhere(routes: &mut Routes, slaac: &Slaac) -> bool {
     let by_router = Stored::new_ipv6_gateway(ROUTER);
-    let other = Stored::new_ipv4_gateway(Ipv4Address::new(10, 0, 0, 1));
-    let stored = [by_router, gateway(), by_router, other];
-    routes.set(&stored).is_ok() && are_synced(routes, slaac, END, &[gateway(), other])
+    let is_set = routes
+        .set(&[by_router, gateway(), by_router, other()])
+        .is_ok();
+    sync_routes(routes, slaac.routes(), END);
+    is_set && routes.as_slice() == [gateway(), other()].as_slice()
 }
 
 #[test]

@@ -327,7 +327,7 @@ const OTHER_DATAGRAMS: [(usize, u8, u8); 3] = [(2, 0, 0), (4, 0, 7), (4, 0, 19)]
 fn is_no_datagram(case: &(usize, u8, u8)) -> bool {
     let (place, first, second) = case;
     let other = changed(&PADDED_DATAGRAM, *place, *first);
-    !is_datagram(&changed(&other, *place + 1, *second), false)
+    !is_datagram(&changed(&other, place.saturating_add(1), *second), false)
 }
 
 fn is_summed_datagram(octets: &[u8]) -> bool {

@@ -83,19 +83,6 @@ fn what_is_no_name(rt: HostRuntime) {
     assert_each(&rt, &NAMES, ends);
 }
 
-/// Three labels of 63 octets and one of so many, and the end of the name.
-fn long_name(last: u8) -> [u8; 256] {
-    let mut name = [b'a'; 256];
-    name[0] = 63;
-    name[64] = 63;
-    name[128] = 63;
-    name[192] = last;
-    if let Some(end) = name.get_mut(usize::from(last).saturating_add(193)) {
-        *end = 0;
-    }
-    name
-}
-
 /// A label of 63 octets, and one of 64 (RFC 1035 2.3.4).
 fn are_labels_bounded() -> bool {
     let mut label = [b'a'; 66];
@@ -109,11 +96,18 @@ fn are_labels_bounded() -> bool {
 
 /// A name of 255 octets, and one of 256.
 fn are_names_bounded() -> bool {
-    let name = long_name(61);
-    name_end(&name, 0) == Some(255)
-        && is_whole_name(&name[..255])
-        && !is_whole_name(&name)
-        && name_end(&long_name(62), 0).is_none()
+    let mut name = [b'a'; 256];
+    name[0] = 63;
+    name[64] = 63;
+    name[128] = 63;
+    name[192] = 61;
+    name[254] = 0;
+    let ends_at_255 = name_end(&name, 0) == Some(255);
+    let is_whole = is_whole_name(&name[..255]) && !is_whole_name(&name);
+    name[192] = 62;
+    name[254] = b'a';
+    name[255] = 0;
+    ends_at_255 && is_whole && name_end(&name, 0).is_none()
 }
 
 #[test]
