@@ -233,7 +233,7 @@ fn measure(alloc: Global, asked: &Asked, first: Vec<u8>, octets: Vec<u8>) -> Res
         asked.rounds,
         octets,
     )?;
-    measured(alloc, &host.link, read)
+    figures_of(alloc, &host.link, read)
 }
 
 /// Has a host be polled, and receive its first frame.
@@ -244,7 +244,7 @@ fn begin(host: &mut BenchHost, first: Vec<u8>) {
 }
 
 /// What was sent over a link, and read.
-fn measured(alloc: Global, link: &Link, read: u64) -> Result<Measured> {
+fn figures_of(alloc: Global, link: &Link, read: u64) -> Result<Measured> {
     Ok(Measured {
         read,
         frames: link.frames_sent(),
@@ -257,8 +257,8 @@ fn main(rt: HostRuntime) -> Result<()> {
     let asked = read_arguments(&rt)?;
     let first = octets_of_line(&rt)?;
     let octets = octets_of_line(&rt)?;
-    let measured = measure(rt.alloc(), &asked, first, octets)?;
-    print(&rt, &measured)
+    let figures = measure(rt.alloc(), &asked, first, octets)?;
+    print(&rt, &figures)
 }
 
 /// Prints what the host sent and read.
