@@ -4,7 +4,7 @@ use interface::{Answer, Command, PollIngressSingleResult};
 use net_base::phy::Device;
 use net_base::time::Instant;
 use scene::frames::frame;
-use scene::scene_host::{ETHERNET, Host, OWN};
+use scene::scene_host::{ETHERNET, OWN, SceneHost};
 use scene::words::networks;
 
 const NOTHING: Answer = Answer::PollIngressSingle(PollIngressSingleResult::None);
@@ -14,7 +14,7 @@ const TAKEN: Answer = Answer::PollIngressSingle(PollIngressSingleResult::SocketS
 // A frame that was withheld for want of memory is taken by the second poll.
 #[test]
 fn runs_commands_in_order(rt: HostRuntime) {
-    let mut host = Host::new(rt.alloc(), OWN, ETHERNET).expect(&rt, "a host");
+    let mut host = SceneHost::new(rt.alloc(), OWN, ETHERNET).expect(&rt, "a host");
     let request = frame("REQUEST").expect(&rt, "a frame");
     host.queue(request.as_slice()).expect(&rt, "room");
     let home = networks(&mut "c0a84501/24".split_whitespace()).expect(&rt, "a network");

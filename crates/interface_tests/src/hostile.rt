@@ -4,7 +4,7 @@
 use arrayvec::ArrayVec;
 use net_base::rand::Rand;
 use scene::frames::{Octets, frame};
-use scene::scene_host::{ETHERNET, Host, OWN};
+use scene::scene_host::{ETHERNET, OWN, SceneHost};
 use scene::script::outlives;
 use std::process::Abort;
 
@@ -123,7 +123,7 @@ fn good_frames_follow_spoilt_ones_over_ipv6(rt: HostRuntime) {
 // Fragments under ever more keys find the first two in their slots, until the time of these is over.
 #[test]
 fn fragments_of_many_datagrams_take_two_slots(rt: HostRuntime) {
-    let mut host = Host::new(rt.alloc(), OWN, ETHERNET).expect(&rt, "a host");
+    let mut host = SceneHost::new(rt.alloc(), OWN, ETHERNET).expect(&rt, "a host");
     assert!(&rt;
         host.follows(
             "addr c0a84501/24
@@ -207,7 +207,7 @@ fn noise(rand: &mut Rand) -> Octets {
 // Behind ten thousand frames an echo request is answered, and there is nothing to be done.
 #[test]
 fn a_host_stands_a_storm(rt: HostRuntime) {
-    let mut host = Host::new(rt.alloc(), OWN, ETHERNET).expect(&rt, "a host");
+    let mut host = SceneHost::new(rt.alloc(), OWN, ETHERNET).expect(&rt, "a host");
     assert!(&rt;
         host.follows(
             "addr c0a84501/24 fe800000000000000000000000000001/64

@@ -3,7 +3,7 @@
 use interface::Command;
 use net_base::phy::Device;
 use net_base::time::Instant;
-use scene::scene_host::{ETHERNET, Host, OWN};
+use scene::scene_host::{ETHERNET, OWN, SceneHost};
 use std::alloc::Global;
 
 // The moments of calls that send, in microseconds.
@@ -11,7 +11,7 @@ const MOMENTS: [u32; 4] = [5_000_000, 2_000_000, 5_999_999, 6_000_000];
 
 // Whether two sockets that wait for neighbours bring requests a second apart, at these of the moments.
 fn asks_spaced(alloc: Global, order: [usize; 4]) -> bool {
-    let Ok(mut host) = Host::new(alloc, OWN, ETHERNET) else {
+    let Ok(mut host) = SceneHost::new(alloc, OWN, ETHERNET) else {
         return false;
     };
     let is_ready = host.follows(
