@@ -27,23 +27,9 @@ pub fn frame_of(alloc: Global, script: &Script, router: &Router) -> Result<Vec<u
     let Some(source) = link_local_in(line.addresses.as_slice()) else {
         bail!("{}: a router has a link-local address", line.name);
     };
-    let packet = packet_of(router, source, line.hardware_addr);
-    let headers = headers_of(source, line.hardware_addr, packet.len());
-    joined(alloc, headers.as_slice(), packet.as_slice())
-}
-
-/// Some octets, and others behind them.
-fn joined(alloc: Global, front: &[u8], back: &[u8]) -> Result<Vec<u8>> {
-    let mut octets = Vec::from_slice(alloc, front)?;
-    octets.extend_from_slice(back)?;
-    Ok(octets)
-}
-
-/// The message that a router with this address advertises by.
-fn packet_of(router: &Router, source: Ipv6Address, hardware_addr: EthernetAddress) -> FrameBuffer {
-    let message = Icmpv6Repr::Router(message_of(router, hardware_addr));
-    let destination = IpAddress::Ipv6(Ipv6Address::LINK_LOCAL_ALL_NODES);
+    let message = Icmpv6Repr::Router(message_of(router, line.hardware_addr));
     let mut packet = FrameBuffer::new();
+    let destination = IpAddress::Ipv6(Ipv6Address::LINK_LOCAL_ALL_NODES);
     message.emit(
         &IpAddress::Ipv6(source),
         &destination,
@@ -51,24 +37,18 @@ fn packet_of(router: &Router, source: Ipv6Address, hardware_addr: EthernetAddres
         true,
         &mut packet,
     );
-    packet
-}
-
-/// The headers of a frame and of the packet in it, whose payload has so many octets.
-fn headers_of(
-    source: Ipv6Address,
-    hardware_addr: EthernetAddress,
-    payload_len: usize,
-) -> FrameBuffer {
     let mut frame = FrameBuffer::new();
     let link = EthernetRepr {
-        src_addr: hardware_addr,
+        src_addr: line.hardware_addr,
         dst_addr: ALL_NODES_ETHERNET,
         ethertype: EthernetProtocol::Ipv6,
     };
     link.emit(&mut frame);
-    header_of(source, payload_len).emit(&mut frame);
-    frame
+    header_of(source, packet.len()).emit(&mut frame);
+    let mut octets = Vec::new(alloc);
+    octets.extend_from_slice(frame.as_slice())?;
+    octets.extend_from_slice(packet.as_slice())?;
+    Ok(octets)
 }
 
 /// The first link-local address of a list.

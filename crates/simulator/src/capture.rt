@@ -16,17 +16,13 @@ pub fn write_header<W: Write>(output: &mut W) -> Result<()> {
 
 /// Writes a frame that was sent at a time, in microseconds.
 pub fn write_frame<W: Write>(output: &mut W, time: u64, frame: &[u8]) -> Result<()> {
-    output.write_all(&record_header(time, frame.len()))?;
+    let len = u32::try_from(frame.len()).unwrap_or(u32::MAX).to_le_bytes();
+    let seconds = u32::try_from(time / 1_000_000).unwrap_or(u32::MAX);
+    let micros = (time % 1_000_000) as u32;
+    output.write_all(&seconds.to_le_bytes())?;
+    output.write_all(&micros.to_le_bytes())?;
+    output.write_all(&len)?;
+    output.write_all(&len)?;
     output.write_all(frame)?;
     Ok(())
-}
-
-/// The header of a frame's record: its time in seconds and microseconds, and its length twice.
-fn record_header(time: u64, len: usize) -> [u8; 16] {
-    let [a, b, c, d] = u32::try_from(time / 1_000_000)
-        .unwrap_or(u32::MAX)
-        .to_le_bytes();
-    let [e, f, g, h] = ((time % 1_000_000) as u32).to_le_bytes();
-    let [i, j, k, l] = u32::try_from(len).unwrap_or(u32::MAX).to_le_bytes();
-    [a, b, c, d, e, f, g, h, i, j, k, l, i, j, k, l]
 }

@@ -95,60 +95,43 @@ pub fn row(
     outcome: Outcome,
 ) -> Result<String> {
     let columns = columns(script);
-    let places = script.hosts.len().min(columns.saturating_add(1));
-    let mut row = vec![in alloc; b' '; place_of(places)]?;
+    let mut row = vec![in alloc; b' '; place_of(
+        script.hosts.len().min(columns.saturating_add(1))
+    )]?;
     for column in 0..columns {
         put(&mut row, place_of(column), b'|');
     }
     let start = from.map_or(0, |host| place_of(column_of(script, host)));
-    draw_arrow(&mut row, start, place_of(column_of(script, to)), outcome);
-    Ok(String::from_utf8(row)?)
-}
-
-/// Draws the arrow of a copy from one place to another.
-fn draw_arrow(row: &mut [u8], start: usize, end: usize, outcome: Outcome) {
+    let end = place_of(column_of(script, to));
     for place in start.min(end)..start.max(end) {
-        put(row, place, b'-');
+        put(&mut row, place, b'-');
     }
-    put(row, start, b'*');
-    if start < end {
-        put(row, end, b'|');
-        put(row, end.saturating_sub(1), outcome.mark(b'>'));
-    } else if start > end {
-        put(row, end, b'|');
-        put(row, end.saturating_add(1), outcome.mark(b'<'));
+    put(&mut row, start, b'*');
+    let (head, before) = if start < end {
+        (b'>', end.saturating_sub(1))
     } else {
-        put(row, start, outcome.mark(b'*'));
+        (b'<', end.saturating_add(1))
+    };
+    if start != end {
+        put(&mut row, end, b'|');
+        put(&mut row, before, outcome.mark(head));
+    } else {
+        put(&mut row, start, outcome.mark(b'*'));
     }
+    Ok(String::from_utf8(row)?)
 }
 
 /// Writes the names of the hosts above their columns.
 pub fn write_names<W: Write>(alloc: Global, script: &Script, output: &mut W) -> Result<()> {
-    let names = names(alloc, script)?;
-    writeln!(output, "{}", names.trim_end())?;
-    Ok(())
-}
-
-/// The names of the hosts that have columns, each in its own.
-fn names(alloc: Global, script: &Script) -> Result<String> {
     let mut names = String::from_str(alloc, "                ")?;
     for column in 0..columns(script) {
-        add_name(&mut names, alloc, script.name_of(host_at(script, column)))?;
+        let host = match &script.section {
+            Some(section) => section.hosts.get(column).copied().unwrap_or(column),
+            None => column,
+        };
+        let name = script.name_of(host);
+        names.push_str(&format!(in alloc; "{name:<12}")?)?;
     }
-    Ok(names)
-}
-
-/// The host that a column is of.
-fn host_at(script: &Script, column: usize) -> usize {
-    match &script.section {
-        Some(section) => section.hosts.get(column).copied().unwrap_or(column),
-        None => column,
-    }
-}
-
-/// Adds a name with the width of a column.
-fn add_name(names: &mut String, alloc: Global, name: &str) -> Result<()> {
-    let name = format!(in alloc; "{name:<12}")?;
-    names.push_str(&name)?;
+    writeln!(output, "{}", names.trim_end())?;
     Ok(())
 }

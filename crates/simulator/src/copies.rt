@@ -4,42 +4,23 @@ use crate::agenda::What;
 use crate::capture;
 use crate::chart::{self, Outcome};
 use crate::kind::Label;
-use crate::link::{Arrival, Fate};
+use crate::link::Fate;
 use crate::report::Time;
 use crate::simulation::{Form, Simulation};
 use anyhow::Result;
 use std::io::Write;
 
-/// A frame that leaves a host.
-#[derive(Clone, Copy)]
-struct Leaving {
-    // The number of its transmission.
-    number: usize,
-    // Its number there.
-    k: usize,
-    // The host that sends it.
-    from: usize,
-    label: Label,
-    // How many octets it has.
-    len: usize,
-}
-
 impl Simulation {
     /// The transmissions that the link didn't get yet are sent.
     pub(crate) fn spread<W: Write>(&mut self, output: &mut W) -> Result<()> {
         for _ in self.next..self.network.next_number() {
-            self.spread_next(output)?;
+            let number = self.next;
+            self.next = number.saturating_add(1);
+            let copies = self.spread_one(number, output)?;
+            self.pending.add(copies)?;
         }
         self.network.forget(self.pending.take_done());
         Ok(())
-    }
-
-    /// The next transmission is sent.
-    fn spread_next<W: Write>(&mut self, output: &mut W) -> Result<()> {
-        let number = self.next;
-        self.next = number.saturating_add(1);
-        let copies = self.spread_one(number, output)?;
-        self.pending.add(copies)
     }
 
     /// A transmission is sent. Returns how many copies of its frames arrive.
@@ -54,99 +35,29 @@ impl Simulation {
     /// A frame of a transmission is sent: a copy goes to each host that its destination names. Returns how many arrive.
     fn spread_frame<W: Write>(&mut self, number: usize, k: usize, output: &mut W) -> Result<usize> {
         self.note_segment(number, k);
-        match self.leaving(number, k) {
-            Some(frame) => self.let_go(&frame, output),
-            None => Ok(0),
-        }
-    }
-
-    /// A frame of a transmission, if it is kept.
-    fn leaving(&self, number: usize, k: usize) -> Option<Leaving> {
-        let (from, label) = self.kept(number, k)?;
-        let len = self.network.frame(number, k)?.len();
-        Some(Leaving {
-            number,
-            k,
-            from,
-            label,
-            len,
-        })
-    }
-
-    /// A frame leaves its host, or is dropped there. Returns how many copies arrive.
-    fn let_go<W: Write>(&mut self, frame: &Leaving, output: &mut W) -> Result<usize> {
-        match self.leave_host(frame.from, frame.len)? {
-            Some(delay) => self.spread_copies(frame, delay, output),
-            None => {
-                self.counts.dropped = self.counts.dropped.saturating_add(1);
-                self.draw_dropped(frame, output)
+        let Some((from, label)) = self.kept(number, k) else {
+            return Ok(0);
+        };
+        let len = self.network.frame(number, k).map_or(0, |frame| frame.len());
+        let Some(leaving) = self.leave_host(from, len)? else {
+            self.counts.dropped = self.counts.dropped.saturating_add(1);
+            self.draw_row(Some(from), from, label, Outcome::Dropped, output)?;
+            return Ok(0);
+        };
+        self.counts.count_sent(from, label.kind);
+        let mut copies = 0_usize;
+        for to in self.send_frame(number, k, from, output)? {
+            let fate = self.treat(Some(from), to, label, len, output)?;
+            copies = copies.saturating_add(fate.count());
+            for arrival in [fate.first, fate.second] {
+                if let Some(arrival) = arrival {
+                    let passage = arrival.passage;
+                    let delay = leaving.saturating_add(arrival.delay);
+                    self.plan_copy(delay, What::Arrives { number, k, passage })?;
+                }
             }
         }
-    }
-
-    /// Shows that a frame is dropped, of which no copy arrives.
-    fn draw_dropped<W: Write>(&self, frame: &Leaving, output: &mut W) -> Result<usize> {
-        let outcome = Outcome::Dropped;
-        self.draw_row(Some(frame.from), frame.from, frame.label, outcome, output)?;
-        Ok(0)
-    }
-
-    /// A frame has left its host after a delay. Returns how many copies arrive.
-    fn spread_copies<W: Write>(
-        &mut self,
-        frame: &Leaving,
-        delay: u64,
-        output: &mut W,
-    ) -> Result<usize> {
-        self.counts.count_sent(frame.from, frame.label.kind);
-        let receivers = self.send_frame(frame, output)?;
-        self.spread_to(frame, delay, &receivers, output)
-    }
-
-    /// A copy of a frame goes to each of some hosts. Returns how many arrive.
-    fn spread_to<W: Write>(
-        &mut self,
-        frame: &Leaving,
-        delay: u64,
-        receivers: &[usize],
-        output: &mut W,
-    ) -> Result<usize> {
-        let mut copies = 0_usize;
-        for to in receivers {
-            let fate = self.treat(Some(frame.from), *to, frame.label, frame.len, output)?;
-            copies = copies.saturating_add(fate.count());
-            self.plan_arrivals(frame, delay, &fate)?;
-        }
         Ok(copies)
-    }
-
-    /// Plans the arrivals of a copy.
-    fn plan_arrivals(&mut self, frame: &Leaving, delay: u64, fate: &Fate) -> Result<()> {
-        self.plan_arrival(frame, delay, fate.first)?;
-        self.plan_arrival(frame, delay, fate.second)
-    }
-
-    /// Plans an arrival of a copy, if there is one.
-    fn plan_arrival(
-        &mut self,
-        frame: &Leaving,
-        delay: u64,
-        arrival: Option<Arrival>,
-    ) -> Result<()> {
-        let Some(
-            Arrival {
-                delay: more,
-                passage,
-            },
-        ) = arrival
-        else {
-            return Ok(());
-        };
-        let (number, k) = (frame.number, frame.k);
-        self.plan_copy(
-            delay.saturating_add(more),
-            What::Arrives { number, k, passage },
-        )
     }
 
     /// A segment of a stream that a host sends is counted.
@@ -178,30 +89,23 @@ impl Simulation {
         len: usize,
         output: &mut W,
     ) -> Result<Fate> {
-        let is_cut_off = self.is_cut_off(to) || self.is_sender_cut_off(from);
-        let fate = self.draw_fate(is_cut_off, to, len);
+        let is_cut_off = self.is_cut_off(to) || from.is_some_and(|host| self.is_cut_off(host));
+        let fate = if is_cut_off {
+            Fate::LOST
+        } else {
+            let treatment = self.script.treatment_of(Some(to));
+            self.link.draw(&treatment, to, len)
+        };
         self.counts.count_fate(&fate);
         if fate.first.is_none() {
-            self.draw_row(from, to, label, lost_by(is_cut_off), output)?;
+            let outcome = if is_cut_off {
+                Outcome::CutOff
+            } else {
+                Outcome::Lost
+            };
+            self.draw_row(from, to, label, outcome, output)?;
         }
         Ok(fate)
-    }
-
-    /// Draws what becomes of a copy on its way to a host; what is cut off is lost.
-    fn draw_fate(&mut self, is_cut_off: bool, to: usize, len: usize) -> Fate {
-        if is_cut_off {
-            return Fate::LOST;
-        }
-        let treatment = self.script.treatment_of(Some(to));
-        self.link.draw(&treatment, to, len)
-    }
-
-    /// Whether the host that sends a frame is cut off from the link now. What comes from outside isn't.
-    fn is_sender_cut_off(&self, from: Option<usize>) -> bool {
-        match from {
-            Some(host) => self.is_cut_off(host),
-            None => false,
-        }
     }
 
     /// Whether a host is cut off from the link now.
@@ -211,57 +115,39 @@ impl Simulation {
 
     /// A frame from outside is sent: a copy goes to each host that its destination names.
     pub(crate) fn come<W: Write>(&mut self, frame: usize, output: &mut W) -> Result<()> {
-        let receivers = self.send_outside(frame, output)?;
-        for to in receivers.as_slice() {
-            self.come_to(frame, *to, output)?;
+        let from = self.script.frames.get(frame).and_then(|line| line.from);
+        let (label, len, receivers) = self.send_outside(frame, from, output)?;
+        for to in receivers {
+            let fate = self.treat(from, to, label, len, output)?;
+            for arrival in [fate.first, fate.second] {
+                if let Some(arrival) = arrival {
+                    let passage = arrival.passage;
+                    self.plan_copy(arrival.delay, What::Enters { frame, passage })?;
+                }
+            }
         }
         Ok(())
     }
 
-    /// A copy of a frame from outside goes to a host.
-    fn come_to<W: Write>(&mut self, frame: usize, to: usize, output: &mut W) -> Result<()> {
-        let from = self.sender_outside(frame);
-        let octets = self.outside(frame);
-        let (label, len) = (Label::of(octets), octets.len());
-        let fate = self.treat(from, to, label, len, output)?;
-        self.plan_entry(frame, fate.first)?;
-        self.plan_entry(frame, fate.second)
-    }
-
-    /// Plans the arrival of a copy of a frame from outside, if there is one.
-    fn plan_entry(&mut self, frame: usize, arrival: Option<Arrival>) -> Result<()> {
-        let Some(Arrival { delay, passage }) = arrival else {
-            return Ok(());
-        };
-        self.plan_copy(delay, What::Enters { frame, passage })
-    }
-
-    /// The host in whose name a frame from outside is sent, if it is a router's.
-    pub(crate) fn sender_outside(&self, frame: usize) -> Option<usize> {
-        self.script.frames.get(frame)?.from
-    }
-
-    /// The octets of a frame from outside.
-    pub(crate) fn outside(&self, frame: usize) -> &[u8] {
-        match self.script.frames.get(frame) {
+    /// A frame from outside is written, if a capture is wanted. Returns its kind, its length, and the hosts to which it goes.
+    fn send_outside<W: Write>(
+        &self,
+        frame: usize,
+        from: Option<usize>,
+        output: &mut W,
+    ) -> Result<(Label, usize, Vec<usize>)> {
+        let octets = match self.script.frames.get(frame) {
             Some(line) => line.octets.as_slice(),
             None => &[],
+        };
+        if self.form == Form::Capture {
+            capture::write_frame(output, self.now, octets)?;
         }
-    }
-
-    /// A frame from outside is written, if a capture is wanted. Returns the hosts to which it goes.
-    fn send_outside<W: Write>(&self, frame: usize, output: &mut W) -> Result<Vec<usize>> {
-        let octets = self.outside(frame);
-        self.write_sent(octets, output)?;
-        self.receivers(octets, self.sender_outside(frame))
-    }
-
-    /// Writes a frame that is sent, if a capture is wanted.
-    fn write_sent<W: Write>(&self, frame: &[u8], output: &mut W) -> Result<()> {
-        if self.form != Form::Capture {
-            return Ok(());
-        }
-        capture::write_frame(output, self.now, frame)
+        Ok((
+            Label::of(octets),
+            octets.len(),
+            self.receivers(octets, from)?,
+        ))
     }
 
     /// The sender and the kind of a kept frame.
@@ -287,14 +173,20 @@ impl Simulation {
     }
 
     /// A frame is written, if a capture is wanted. Returns the hosts to which it goes.
-    fn send_frame<W: Write>(&self, frame: &Leaving, output: &mut W) -> Result<Vec<usize>> {
-        match self.network.frame(frame.number, frame.k) {
-            Some(octets) => {
-                self.write_sent(octets, output)?;
-                self.receivers(octets, Some(frame.from))
-            }
-            None => Ok(Vec::new(self.alloc)),
+    fn send_frame<W: Write>(
+        &self,
+        number: usize,
+        k: usize,
+        from: usize,
+        output: &mut W,
+    ) -> Result<Vec<usize>> {
+        let Some(frame) = self.network.frame(number, k) else {
+            return Ok(Vec::new(self.alloc));
+        };
+        if self.form == Form::Capture {
+            capture::write_frame(output, self.now, frame)?;
         }
+        self.receivers(frame, Some(from))
     }
 
     /// Plans the arrival of a copy.
@@ -305,31 +197,20 @@ impl Simulation {
     /// The numbers of the hosts to which a frame goes: all others if its destination is a group or broadcast, and
     /// otherwise the one with this Ethernet address, if there is one.
     fn receivers(&self, frame: &[u8], from: Option<usize>) -> Result<Vec<usize>> {
-        match frame.first_chunk::<6>() {
-            Some(destination) if destination[0] & 1 != 0 => self.all_but(from),
-            Some(destination) => self.hosts_at(destination),
-            None => Ok(Vec::new(self.alloc)),
-        }
-    }
-
-    /// The numbers of all hosts but one.
-    fn all_but(&self, from: Option<usize>) -> Result<Vec<usize>> {
-        let mut hosts = Vec::new(self.alloc);
-        for host in 0..self.script.hosts.len() {
-            if Some(host) != from {
-                hosts.push(host)?;
+        let mut receivers = Vec::new(self.alloc);
+        let Some(destination) = frame.first_chunk::<6>() else {
+            return Ok(receivers);
+        };
+        if destination[0] & 1 != 0 {
+            for host in 0..self.script.hosts.len() {
+                if Some(host) != from {
+                    receivers.push(host)?;
+                }
             }
+        } else if let Some(host) = self.by_address.get(destination) {
+            receivers.push(*host)?;
         }
-        Ok(hosts)
-    }
-
-    /// The number of the host with an Ethernet address, if there is one.
-    fn hosts_at(&self, address: &[u8; 6]) -> Result<Vec<usize>> {
-        let mut hosts = Vec::new(self.alloc);
-        if let Some(host) = self.by_address.get(address) {
-            hosts.push(*host)?;
-        }
-        Ok(hosts)
+        Ok(receivers)
     }
 
     /// Writes the row of a copy, if a chart is wanted and shows it.
@@ -348,14 +229,5 @@ impl Simulation {
         let time = Time(self.now);
         writeln!(output, "{time}  {row}  {label}")?;
         Ok(())
-    }
-}
-
-/// How a copy is lost.
-fn lost_by(is_cut_off: bool) -> Outcome {
-    if is_cut_off {
-        Outcome::CutOff
-    } else {
-        Outcome::Lost
     }
 }

@@ -150,13 +150,14 @@ pub struct Counts {
 }
 
 impl Counts {
-    /// Nothing was counted yet, and nothing can be.
-    pub fn new(alloc: Global) -> Counts {
-        Counts {
-            sent: Vec::new(alloc),
-            received: Vec::new(alloc),
-            flows: Vec::new(alloc),
-            pings: Vec::new(alloc),
+    /// Nothing was counted yet.
+    pub fn new(alloc: Global, script: &Script) -> Result<Counts> {
+        let hosts = script.hosts.len();
+        Ok(Counts {
+            sent: vec![in alloc; ByKind::NONE; hosts]?,
+            received: vec![in alloc; ByKind::NONE; hosts]?,
+            flows: tallies(alloc, script.flows.len())?,
+            pings: tallies(alloc, script.pings.len())?,
             strange: 0,
             copies: 0,
             lost: 0,
@@ -164,20 +165,7 @@ impl Counts {
             changed: 0,
             dropped: 0,
             events: 0,
-        }
-    }
-
-    /// Makes room for the frames of one more host. Fails if the memory is refused.
-    pub fn add_host(&mut self) -> Result<()> {
-        self.sent.push(ByKind::NONE)?;
-        self.received.push(ByKind::NONE)?;
-        Ok(())
-    }
-
-    /// Makes room for the flows and the echo requests of a script. Fails if the memory is refused.
-    pub fn add_lines(&mut self, alloc: Global, script: &Script) -> Result<()> {
-        add_tallies(&mut self.flows, alloc, script.flows.len())?;
-        add_tallies(&mut self.pings, alloc, script.pings.len())
+        })
     }
 
     /// A host sent a frame.
@@ -279,10 +267,11 @@ fn is_back(line: &Flow, datagram: &Received) -> bool {
     line.port == datagram.port && line.remote.port == datagram.remote.port
 }
 
-/// Adds so many tallies.
-fn add_tallies(tallies: &mut Vec<Tally>, alloc: Global, count: usize) -> Result<()> {
+/// Tallies of so many.
+fn tallies(alloc: Global, count: usize) -> Result<Vec<Tally>> {
+    let mut tallies = Vec::new(alloc);
     for _ in 0..count {
         tallies.push(Tally::new(alloc))?;
     }
-    Ok(())
+    Ok(tallies)
 }

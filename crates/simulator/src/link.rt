@@ -1,7 +1,7 @@
 //! What the link does with copies of frames, drawn from a seed.
 
 use net_base::rand::Rand;
-use simulation_script::script::{Pace, Treatment};
+use simulation_script::script::Treatment;
 
 /// How a copy of a frame comes to a host.
 #[derive(Clone, Copy, PartialEq, Eq, PartialOrd, Ord)]
@@ -125,15 +125,6 @@ impl Link {
             delay = delay.saturating_add(self.up_to(treatment.hold));
         }
         delay
-    }
-
-    /// The time from one of something that is sent to the next, which is drawn if it is random.
-    pub fn pause(&mut self, pace: &Pace) -> u64 {
-        if pace.is_random {
-            self.up_to(pace.every.saturating_mul(2))
-        } else {
-            pace.every
-        }
     }
 
     /// Draws a number from 0 to `most`. From 0 alone it draws nothing.

@@ -1,11 +1,10 @@
 //! How what was counted is printed.
 
-use crate::counts::{ByKind, Counts, Origin, Tally};
+use crate::counts::{Counts, Origin, Tally};
 use crate::kind::Kind;
 use crate::station::{Received, Station};
 use anyhow::Result;
 use host::link::Host;
-use ip_wire::IpCidr;
 use simulation_script::script::Script;
 use std::alloc::Global;
 use std::fmt::{self, Display, Formatter};
@@ -33,21 +32,18 @@ pub fn print_datagram<W: Write>(
 ) -> Result<()> {
     let (time, port, size) = (Time(time), datagram.port, datagram.size);
     let (addr, from) = (datagram.remote.addr, datagram.remote.port);
-    writeln!(
+    write!(
         output,
-        "{time}  {name}:{port} gets {size} octets of {addr} port {from}: {origin}"
+        "{time}  {name}:{port} gets {size} octets of {addr} port {from}: "
     )?;
-    Ok(())
-}
-
-impl Display for Origin {
-    fn fmt<W: fmt::Write>(&self, f: &mut Formatter<W>) -> fmt::Result {
-        match self {
-            Origin::Flow(flow, number) => write!(f, "flow {flow}, number {number}"),
-            Origin::Answer(flow, number) => write!(f, "back from flow {flow}, number {number}"),
-            Origin::Strange => write!(f, "no socket of the script sent it"),
+    match origin {
+        Origin::Flow(flow, number) => writeln!(output, "flow {flow}, number {number}")?,
+        Origin::Answer(flow, number) => {
+            writeln!(output, "back from flow {flow}, number {number}")?;
         }
+        Origin::Strange => writeln!(output, "no socket of the script sent it")?,
     }
+    Ok(())
 }
 
 /// Prints the hosts as they are in the end.
@@ -58,87 +54,69 @@ pub fn print_hosts<W: Write>(
 ) -> Result<()> {
     writeln!(output, "hosts")?;
     for (line, host) in script.hosts.iter().zip(hosts.iter()) {
-        print_host(output, line.name.as_str(), host.interface.ip_addrs())?;
+        write!(output, "  {}", line.name)?;
+        for address in host.interface.ip_addrs() {
+            write!(output, " {address}")?;
+        }
+        writeln!(output)?;
     }
-    Ok(())
-}
-
-/// Prints a host and its addresses.
-fn print_host<W: Write>(output: &mut W, name: &str, addresses: &[IpCidr]) -> Result<()> {
-    write!(output, "  {name}")?;
-    for address in addresses {
-        write!(output, " {address}")?;
-    }
-    writeln!(output)?;
     Ok(())
 }
 
 /// Prints the flows.
 pub fn print_flows<W: Write>(output: &mut W, script: &Script, counts: &Counts) -> Result<()> {
     writeln!(output, "flows")?;
-    for (i, tally) in counts.flows.iter().enumerate() {
-        print_flow(output, script, i, tally)?;
-        print_received(output, tally)?;
-        print_answers(output, tally)?;
-    }
-    Ok(())
-}
-
-/// Prints a flow, with how many datagrams were tried, refused and received.
-fn print_flow<W: Write>(output: &mut W, script: &Script, i: usize, tally: &Tally) -> Result<()> {
-    let Some(flow) = script.flows.get(i) else {
-        return Ok(());
-    };
-    let (name, port) = (script.name_of(flow.host), flow.port);
-    let (addr, to) = (flow.remote.addr, flow.remote.port);
-    let (tried, refused, received) = (tally.tried, tally.refused, tally.received.count);
-    writeln!(
-        output,
-        "  {i}: {name}:{port} to {addr} port {to}: {tried} tried, {refused} refused, {received} received"
-    )?;
-    Ok(())
-}
-
-/// Prints how long datagrams took, if some came.
-fn print_received<W: Write>(output: &mut W, tally: &Tally) -> Result<()> {
-    let times = tally.received;
-    if times.count != 0 {
-        writeln!(output, "     took {times}")?;
+    for i in 0..script.flows.len() {
+        let flow = script.flows[i];
+        let name = script.name_of(flow.host);
+        let (port, addr, to) = (flow.port, flow.remote.addr, flow.remote.port);
+        write!(output, "  {i}: {name}:{port} to {addr} port {to}: ")?;
+        if let Some(tally) = counts.flows.get(i) {
+            let received = tally.received.count;
+            print_tally(output, tally)?;
+            writeln!(output, "{received} received")?;
+            if received != 0 {
+                let times = tally.received;
+                writeln!(output, "     took {times}")?;
+            }
+            print_answers(output, tally)?;
+        }
     }
     Ok(())
 }
 
 /// Prints the echo requests, if there are some.
 pub fn print_pings<W: Write>(output: &mut W, script: &Script, counts: &Counts) -> Result<()> {
-    if counts.pings.is_empty() {
+    if script.pings.is_empty() {
         return Ok(());
     }
     writeln!(output, "pings")?;
-    for (i, tally) in counts.pings.iter().enumerate() {
-        print_ping(output, script, i, tally)?;
-        print_answers(output, tally)?;
+    for i in 0..script.pings.len() {
+        let ping = script.pings[i];
+        let (name, addr) = (script.name_of(ping.host), ping.remote);
+        write!(output, "  {i}: {name} to {addr}: ")?;
+        if let Some(tally) = counts.pings.get(i) {
+            let answered = tally.answered.count;
+            print_tally(output, tally)?;
+            writeln!(output, "{answered} answered")?;
+            print_answers(output, tally)?;
+        }
     }
     Ok(())
 }
 
-/// Prints a line of echo requests, with how many were tried, refused and answered.
-fn print_ping<W: Write>(output: &mut W, script: &Script, i: usize, tally: &Tally) -> Result<()> {
-    let Some(ping) = script.pings.get(i) else {
-        return Ok(());
-    };
-    let (name, addr) = (script.name_of(ping.host), ping.remote);
-    let (tried, refused, answered) = (tally.tried, tally.refused, tally.answered.count);
-    writeln!(
-        output,
-        "  {i}: {name} to {addr}: {tried} tried, {refused} refused, {answered} answered"
-    )?;
+/// Prints how many were tried and refused.
+fn print_tally<W: Write>(output: &mut W, tally: &Tally) -> Result<()> {
+    let (tried, refused) = (tally.tried, tally.refused);
+    write!(output, "{tried} tried, {refused} refused, ")?;
     Ok(())
 }
 
 /// Prints how many answers came, if some did, and after what time.
 fn print_answers<W: Write>(output: &mut W, tally: &Tally) -> Result<()> {
-    let (times, answered) = (tally.answered, tally.answered.count);
+    let answered = tally.answered.count;
     if answered != 0 {
+        let times = tally.answered;
         writeln!(output, "     {answered} came back after {times}")?;
     }
     Ok(())
@@ -166,29 +144,13 @@ pub fn print_frames<W: Write>(output: &mut W, script: &Script, counts: &Counts) 
         "frames                                sent  received"
     )?;
     for (i, line) in script.hosts.iter().enumerate() {
-        let (sent, received) = (of_host(&counts.sent, i), of_host(&counts.received, i));
-        print_frames_of(output, line.name.as_str(), &sent, &received)?;
-    }
-    Ok(())
-}
-
-/// What is counted of a host's frames by their kinds.
-fn of_host(counts: &[ByKind], host: usize) -> ByKind {
-    counts.get(host).copied().unwrap_or(ByKind::NONE)
-}
-
-/// Prints the frames of a host by their kinds.
-fn print_frames_of<W: Write>(
-    output: &mut W,
-    host: &str,
-    sent: &ByKind,
-    received: &ByKind,
-) -> Result<()> {
-    for kind in Kind::ALL {
-        let (sent, received) = (sent.of(kind), received.of(kind));
-        if sent != 0 || received != 0 {
-            let name = kind.name();
-            writeln!(output, "  {host:<8} {name:<24} {sent:>7}  {received:>8}")?;
+        for kind in Kind::ALL {
+            let sent = counts.sent.get(i).map_or(0, |count| count.of(kind));
+            let received = counts.received.get(i).map_or(0, |count| count.of(kind));
+            if sent != 0 || received != 0 {
+                let (host, name) = (line.name.as_str(), kind.name());
+                writeln!(output, "  {host:<8} {name:<24} {sent:>7}  {received:>8}")?;
+            }
         }
     }
     Ok(())
@@ -201,65 +163,37 @@ pub fn print_link<W: Write>(
     hosts: &[Host<'static, Station>],
     counts: &Counts,
 ) -> Result<()> {
-    print_copies(output, counts)?;
-    print_strange(output, counts)?;
-    print_premises(output, script, hosts, counts)
-}
-
-/// Prints what became of copies on the link.
-fn print_copies<W: Write>(output: &mut W, counts: &Counts) -> Result<()> {
     let (copies, lost, repeated) = (counts.copies, counts.lost, counts.repeated);
     let (changed, dropped) = (counts.changed, counts.dropped);
     writeln!(
         output,
         "link: {copies} copies, {lost} lost, {repeated} repeated, {changed} changed; {dropped} frames dropped"
     )?;
-    Ok(())
-}
-
-/// Prints how many datagrams came that no socket sent, if some did.
-fn print_strange<W: Write>(output: &mut W, counts: &Counts) -> Result<()> {
-    let strange = counts.strange;
-    if strange != 0 {
+    if counts.strange != 0 {
         writeln!(
             output,
-            "datagrams that no socket of the script sent: {strange}"
+            "datagrams that no socket of the script sent: {}",
+            counts.strange
         )?;
     }
-    Ok(())
-}
-
-/// Prints whether the law's premises are met.
-fn print_premises<W: Write>(
-    output: &mut W,
-    script: &Script,
-    hosts: &[Host<'static, Station>],
-    counts: &Counts,
-) -> Result<()> {
-    match raw_writer(script, hosts) {
-        Some(name) => writeln!(output, "premises: not met, {name} has a raw socket for UDP")?,
-        None => writeln!(output, "premises: {}", premises(script, counts))?,
-    }
-    Ok(())
-}
-
-/// The first host that has a raw socket for UDP, if there is one.
-fn raw_writer<'s>(script: &'s Script, hosts: &[Host<'static, Station>]) -> Option<&'s str> {
-    for (line, host) in script.hosts.iter().zip(hosts.iter()) {
-        if host.owner.writes_udp {
-            return Some(line.name.as_str());
+    let raw = script
+        .hosts
+        .iter()
+        .zip(hosts.iter())
+        .find(|pair| pair.1.owner.writes_udp);
+    match raw {
+        Some((line, _)) => writeln!(
+            output,
+            "premises: not met, {} has a raw socket for UDP",
+            line.name
+        )?,
+        None if !script.frames.is_empty() => {
+            writeln!(output, "premises: not met, frames come from outside")?;
         }
+        None if counts.changed != 0 => {
+            writeln!(output, "premises: not met, frames are changed on the way")?;
+        }
+        None => writeln!(output, "premises: met")?,
     }
-    None
-}
-
-/// Whether the other premises are met.
-fn premises(script: &Script, counts: &Counts) -> &'static str {
-    if !script.frames.is_empty() {
-        "not met, frames come from outside"
-    } else if counts.changed != 0 {
-        "not met, frames are changed on the way"
-    } else {
-        "met"
-    }
+    Ok(())
 }

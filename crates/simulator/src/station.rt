@@ -6,11 +6,11 @@ use egress_schedule::Schedule;
 use host::drive::Owner;
 use host::link::Host;
 use interface::{Config, Interface};
-use ip_wire::{HardwareAddress, IpAddress, IpCidr, IpProtocol, IpVersion};
+use ip_wire::{HardwareAddress, IpAddress, IpProtocol, IpVersion};
 use net_base::MemoryDevice;
 use net_base::phy::{ChecksumCapabilities, DeviceCapabilities, Medium};
 use net_base::time::{Duration, Instant};
-use simulation_script::script::{Flow, HostLine, Script};
+use simulation_script::script::{HostLine, Script};
 use simulation_streams::connections::Connections;
 use socket_set::{SocketHandle, SocketSet};
 use sockets::{IpEndpoint, IpListenEndpoint, Queue, icmp, raw, udp};
@@ -33,8 +33,8 @@ const QUEUE_PACKETS: usize = 8;
 /// The maximum number of octets in a queue of a socket.
 const QUEUE_OCTETS: usize = 8192;
 
-/// The octets of an echo request, of which eight are its header.
-const REQUEST: usize = 56;
+/// The octets of the data of an echo request.
+const PING_DATA: usize = 48;
 
 /// The most datagrams that it takes in a turn.
 const MOST_COLLECTED: usize = 64;
@@ -106,9 +106,29 @@ pub struct Attempt {
 #[derive(Drop)]
 pub enum Task {
     /// It queues the next datagram of a flow.
-    Datagram(Datagrams),
+    Datagram {
+        /// The number of the flow.
+        flow: u32,
+        /// Its socket.
+        socket: SocketHandle,
+        /// Where it goes.
+        remote: IpEndpoint,
+        /// The length of its payload.
+        size: usize,
+        /// How many it has tried to queue.
+        tried: u32,
+    },
     /// It queues the next echo request of a line.
-    Ping(Requests),
+    Ping {
+        /// The number of the line.
+        ping: u32,
+        /// Its socket.
+        socket: SocketHandle,
+        /// Where it goes.
+        remote: IpAddress,
+        /// How many it has tried to queue.
+        tried: u32,
+    },
     /// It queues a packet in a raw socket.
     Packet {
         /// The socket.
@@ -116,62 +136,6 @@ pub enum Task {
         /// The packet.
         octets: Vec<u8>,
     },
-}
-
-/// The datagrams of a flow.
-#[derive(Clone, Copy)]
-pub struct Datagrams {
-    // The number of the flow.
-    flow: u32,
-    // Its socket.
-    socket: SocketHandle,
-    // Where it goes.
-    remote: IpEndpoint,
-    // The length of each payload.
-    size: usize,
-    // How many its host has tried to queue.
-    tried: u32,
-}
-
-impl Datagrams {
-    /// Queues the next one, and returns whether its socket had room.
-    fn queue_next(&mut self, alloc: Global, sockets: &mut SocketSet<'_>) -> Result<Attempt> {
-        let number = self.tried;
-        let payload = payload_of(alloc, self.flow, number, self.size)?;
-        self.tried = number.saturating_add(1);
-        Ok(Attempt {
-            traffic: Traffic::Flow(self.flow),
-            number,
-            is_queued: queue_datagram(sockets, self.socket, self.remote, &payload),
-        })
-    }
-}
-
-/// The echo requests of a line.
-#[derive(Clone, Copy)]
-pub struct Requests {
-    // The number of the line.
-    ping: u32,
-    // Its socket.
-    socket: SocketHandle,
-    // Where they go.
-    remote: IpAddress,
-    // How many its host has tried to queue.
-    tried: u32,
-}
-
-impl Requests {
-    /// Queues the next one, and returns whether its socket had room.
-    fn queue_next(&mut self, sockets: &mut SocketSet<'_>) -> Attempt {
-        let number = self.tried;
-        let message = request_of(&self.remote, self.ping, number);
-        self.tried = number.saturating_add(1);
-        Attempt {
-            traffic: Traffic::Ping(self.ping),
-            number,
-            is_queued: queue_message(sockets, self.socket, self.remote, &message),
-        }
-    }
 }
 
 /// A UDP socket of a host.
@@ -245,23 +209,6 @@ impl Owner for Station {
 }
 
 impl Station {
-    /// The user of no socket.
-    fn new(alloc: Global) -> Station {
-        Station {
-            alloc,
-            sockets: Vec::new(alloc),
-            pings: Vec::new(alloc),
-            schedule: None,
-            connections: None,
-            tasks: Vec::new(alloc),
-            received: Vec::new(alloc),
-            replies: Vec::new(alloc),
-            attempt: None,
-            writes_udp: false,
-            lacks_memory: false,
-        }
-    }
-
     /// How many sockets it has at most.
     fn count_sockets(&self) -> usize {
         let of_connections = if self.connections.is_some() { 4 } else { 0 };
@@ -325,8 +272,10 @@ impl Station {
     /// Takes the datagrams that UDP sockets received, and sends some back.
     fn collect_datagrams(&mut self, sockets: &mut SocketSet<'_>) -> Result<()> {
         for i in 0..self.sockets.len() {
-            let socket = self.sockets[i];
-            collect_from(self.alloc, sockets, socket, &mut self.received)?;
+            let PortSocket { handle, is_echo } = self.sockets[i];
+            if let Some(socket) = sockets.get_mut::<udp::Socket<'_>>(handle) {
+                take_received(self.alloc, socket, is_echo, &mut self.received)?;
+            }
         }
         self.expect_long_packets();
         Ok(())
@@ -335,8 +284,10 @@ impl Station {
     /// Takes the echo replies that sockets received.
     fn collect_replies(&mut self, sockets: &mut SocketSet<'_>) -> Result<()> {
         for i in 0..self.pings.len() {
-            let socket = self.pings[i];
-            collect_replies_from(sockets, socket, &mut self.replies)?;
+            let PingSocket { handle, ping } = self.pings[i];
+            if let Some(socket) = sockets.get_mut::<icmp::Socket<'_>>(handle) {
+                take_replies(socket, ping, &mut self.replies)?;
+            }
         }
         Ok(())
     }
@@ -362,19 +313,6 @@ impl Station {
     }
 }
 
-/// Takes the datagrams of a UDP socket, and sends some back.
-fn collect_from(
-    alloc: Global,
-    sockets: &mut SocketSet<'_>,
-    socket: PortSocket,
-    received: &mut Vec<Received>,
-) -> Result<()> {
-    match sockets.get_mut::<udp::Socket<'_>>(socket.handle) {
-        Some(lent) => take_received(alloc, lent, socket.is_echo, received),
-        None => Ok(()),
-    }
-}
-
 /// Takes the datagrams of one socket, and sends each back from it if it `is_echo`.
 fn take_received(
     alloc: Global,
@@ -382,53 +320,31 @@ fn take_received(
     is_echo: bool,
     received: &mut Vec<Received>,
 ) -> Result<()> {
+    let port = socket.endpoint().port;
     for _ in 0..MOST_COLLECTED {
-        if !take_datagram(alloc, socket, is_echo, received)? {
+        let Some((remote, payload)) = socket.recv() else {
             break;
+        };
+        let remote = *remote;
+        received.push(Received {
+            port,
+            remote,
+            size: payload.len(),
+            named: name_in(payload),
+        })?;
+        let mut octets = Vec::new(alloc);
+        if is_echo {
+            octets.extend_from_slice(payload)?;
+        }
+        socket.done();
+        if is_echo {
+            let _ = socket.try_send(remote, &octets);
         }
     }
     Ok(())
 }
 
-/// Takes a datagram of a socket, and sends it back from there if it `is_echo`. Returns whether there was one.
-fn take_datagram(
-    alloc: Global,
-    socket: &mut udp::Socket<'_>,
-    is_echo: bool,
-    received: &mut Vec<Received>,
-) -> Result<bool> {
-    let port = socket.endpoint().port;
-    let Some((remote, payload)) = socket.recv() else {
-        return Ok(false);
-    };
-    let remote = *remote;
-    received.push(Received {
-        port,
-        remote,
-        size: payload.len(),
-        named: name_in(payload),
-    })?;
-    let octets = Vec::from_slice(alloc, if is_echo { payload } else { &[] })?;
-    socket.done();
-    if is_echo {
-        let _ = socket.try_send(remote, &octets);
-    }
-    Ok(true)
-}
-
-/// Takes the messages of a socket for echo requests.
-fn collect_replies_from(
-    sockets: &mut SocketSet<'_>,
-    socket: PingSocket,
-    replies: &mut Vec<(u32, u32)>,
-) -> Result<()> {
-    match sockets.get_mut::<icmp::Socket<'_>>(socket.handle) {
-        Some(lent) => take_replies(lent, socket.ping, replies),
-        None => Ok(()),
-    }
-}
-
-/// Takes the messages of one socket, and notes the number of each echo reply.
+/// Takes the messages of one socket, and notes the number of each echo reply (RFC 792, RFC 4443 4.2).
 fn take_replies(
     socket: &mut icmp::Socket<'_>,
     ping: u32,
@@ -438,40 +354,54 @@ fn take_replies(
         let Some((_, message)) = socket.recv() else {
             break;
         };
-        if let Some(number) = reply_in(message) {
-            replies.push((ping, number))?;
+        if let [0 | 129, _, _, _, _, _, high, low, ..] = message {
+            replies.push((ping, u32::from(u16::from_be_bytes([*high, *low]))))?;
         }
         socket.done();
     }
     Ok(())
 }
 
-/// The number of an echo reply, if a message is one (RFC 792, RFC 4443 4.2).
-fn reply_in(message: &[u8]) -> Option<u32> {
-    match message {
-        [0 | 129, _, _, _, _, _, high, low, ..] => {
-            Some(u32::from(u16::from_be_bytes([*high, *low])))
-        }
-        _ => None,
-    }
-}
-
 /// Does a task, and returns what it tried to queue, if it is something of a flow or of a line of echo requests.
 fn do_task(alloc: Global, task: &mut Task, sockets: &mut SocketSet<'_>) -> Result<Option<Attempt>> {
     match task {
-        Task::Datagram(datagrams) => Ok(Some(datagrams.queue_next(alloc, sockets)?)),
-        Task::Ping(requests) => Ok(Some(requests.queue_next(sockets))),
+        Task::Datagram {
+            flow,
+            socket,
+            remote,
+            size,
+            tried,
+        } => {
+            let number = *tried;
+            let payload = payload_of(alloc, *flow, number, *size)?;
+            *tried = number.saturating_add(1);
+            Ok(Some(Attempt {
+                traffic: Traffic::Flow(*flow),
+                number,
+                is_queued: queue_datagram(sockets, *socket, *remote, &payload),
+            }))
+        }
+        Task::Ping {
+            ping,
+            socket,
+            remote,
+            tried,
+        } => {
+            let number = *tried;
+            let message = request_of(alloc, remote, *ping, number)?;
+            *tried = number.saturating_add(1);
+            Ok(Some(Attempt {
+                traffic: Traffic::Ping(*ping),
+                number,
+                is_queued: queue_message(sockets, *socket, *remote, &message),
+            }))
+        }
         Task::Packet { socket, octets } => {
-            queue_packet(sockets, *socket, octets);
+            if let Some(socket) = sockets.get_mut::<raw::Socket<'_>>(*socket) {
+                let _ = socket.send((), octets);
+            }
             Ok(None)
         }
-    }
-}
-
-/// Queues a packet, if its socket has room.
-fn queue_packet(sockets: &mut SocketSet<'_>, handle: SocketHandle, packet: &[u8]) {
-    if let Some(socket) = sockets.get_mut::<raw::Socket<'_>>(handle) {
-        let _ = socket.send((), packet);
     }
 }
 
@@ -507,43 +437,30 @@ fn identifier_of(ping: u32) -> u16 {
 }
 
 /// An echo request, whose checksum the host computes (RFC 792, RFC 4443 4.1).
-fn request_of(remote: &IpAddress, ping: u32, number: u32) -> [u8; REQUEST] {
+fn request_of(alloc: Global, remote: &IpAddress, ping: u32, number: u32) -> Result<Vec<u8>> {
     let kind = match remote {
         IpAddress::Ipv4(_) => 8,
         IpAddress::Ipv6(_) => 128,
     };
-    let [a, b] = identifier_of(ping).to_be_bytes();
-    let [c, d] = ((number % 65_536) as u16).to_be_bytes();
-    let mut message = [0_u8; REQUEST];
-    message[..8].copy_from_slice(&[kind, 0, 0, 0, a, b, c, d]);
-    for i in 8..REQUEST {
-        message[i] = (i - 8) as u8;
+    let mut message = Vec::with_capacity(alloc, 8 + PING_DATA)?;
+    message.extend_from_slice(&[kind, 0, 0, 0])?;
+    message.extend_from_slice(&identifier_of(ping).to_be_bytes())?;
+    message.extend_from_slice(&((number % 65_536) as u16).to_be_bytes())?;
+    for i in 0..PING_DATA {
+        message.push(i as u8)?;
     }
-    message
+    Ok(message)
 }
 
 /// The payload of a flow's datagram: the flow's number, its own, and octets that count on from both.
 fn payload_of(alloc: Global, flow: u32, number: u32, size: usize) -> Result<Vec<u8>> {
-    let mut payload = Vec::from_elem(alloc, 0, size)?;
-    fill(&mut payload, flow, number);
+    let mut payload = Vec::with_capacity(alloc, size)?;
+    payload.extend_from_slice(&flow.to_be_bytes())?;
+    payload.extend_from_slice(&number.to_be_bytes())?;
+    for i in 8..size {
+        payload.push(octet_of(flow, number, i))?;
+    }
     Ok(payload)
-}
-
-/// Writes the payload of a flow's datagram.
-fn fill(payload: &mut [u8], flow: u32, number: u32) {
-    for (i, octet) in payload.iter_mut().enumerate() {
-        *octet = octet_of(flow, number, i);
-    }
-    if let Some(front) = payload.get_mut(..8) {
-        front.copy_from_slice(&name_of(flow, number));
-    }
-}
-
-/// The octets by which a payload names its flow and its number.
-fn name_of(flow: u32, number: u32) -> [u8; 8] {
-    let [a, b, c, d] = flow.to_be_bytes();
-    let [e, f, g, h] = number.to_be_bytes();
-    [a, b, c, d, e, f, g, h]
 }
 
 /// An octet of such a payload, from the ninth on.
@@ -554,24 +471,24 @@ fn octet_of(flow: u32, number: u32, place: usize) -> u8 {
 
 /// The flow and the number that a payload names, if it is as flows make it.
 fn name_in(payload: &[u8]) -> Option<(u32, u32)> {
-    let [a, b, c, d, e, f, g, h] = *payload.first_chunk::<8>()?;
-    let flow = u32::from_be_bytes([a, b, c, d]);
-    let number = u32::from_be_bytes([e, f, g, h]);
-    if counts_on(payload, flow, number) {
-        Some((flow, number))
-    } else {
-        None
-    }
-}
-
-/// Whether the octets of a payload from the ninth on count on from its flow and its number.
-fn counts_on(payload: &[u8], flow: u32, number: u32) -> bool {
+    let flow = u32::from_be_bytes([
+        *payload.get(0)?,
+        *payload.get(1)?,
+        *payload.get(2)?,
+        *payload.get(3)?,
+    ]);
+    let number = u32::from_be_bytes([
+        *payload.get(4)?,
+        *payload.get(5)?,
+        *payload.get(6)?,
+        *payload.get(7)?,
+    ]);
     for i in 8..payload.len() {
         if payload[i] != octet_of(flow, number, i) {
-            return false;
+            return None;
         }
     }
-    true
+    Some((flow, number))
 }
 
 /// Makes the host of a line, with its number.
@@ -580,76 +497,46 @@ pub fn new_host(alloc: Global, script: &Script, number: usize) -> Result<Host<'s
         bail!("no host");
     };
     let mut device = MemoryDevice::new(alloc, CAPABILITIES);
-    let interface = interface_of(line, number, &mut device)?;
+    let mut config = Config::new(HardwareAddress::Ethernet(line.hardware_addr));
+    config.random_seed = number as u64;
+    config.slaac = line.slaac;
+    let Ok(mut interface) = Interface::new(config, &mut device, Instant::ZERO) else {
+        bail!("{}: its Ethernet address is a group's", line.name);
+    };
+    configure(&mut interface, line)?;
     let mut sockets = SocketSet::new(Vec::new(alloc));
-    let owner = owner_of(alloc, script, number, line, &mut sockets)?;
+    let mut owner = Station {
+        alloc,
+        sockets: Vec::new(alloc),
+        pings: Vec::new(alloc),
+        schedule: None,
+        connections: None,
+        tasks: Vec::new(alloc),
+        received: Vec::new(alloc),
+        replies: Vec::new(alloc),
+        attempt: None,
+        writes_udp: false,
+        lacks_memory: false,
+    };
+    for port in line.ports.as_slice() {
+        let handle = add_udp(alloc, &mut sockets, *port)?;
+        let is_echo = line.echoes.as_slice().contains(port);
+        owner.sockets.push(PortSocket { handle, is_echo })?;
+    }
+    add_flows(script, number, line, &mut owner)?;
+    add_pings(alloc, script, number, &mut owner, &mut sockets)?;
+    add_packets(alloc, script, number, &mut owner, &mut sockets)?;
+    add_connections(alloc, script, number, &mut owner, &mut sockets)?;
+    if let Some(patience) = script.patience {
+        let count = owner.count_sockets();
+        owner.schedule = Some(Schedule::new(alloc, count, Duration::from_micros(patience))?);
+    }
     Ok(Host {
         interface,
         device,
         sockets,
         owner,
     })
-}
-
-/// The interface of a line, with its number, over a device.
-fn interface_of(line: &HostLine, number: usize, device: &mut MemoryDevice) -> Result<Interface> {
-    let mut config = Config::new(HardwareAddress::Ethernet(line.hardware_addr));
-    config.random_seed = number as u64;
-    config.slaac = line.slaac;
-    let Ok(mut interface) = Interface::new(config, device, Instant::ZERO) else {
-        bail!("{}: its Ethernet address is a group's", line.name);
-    };
-    configure(&mut interface, line)?;
-    Ok(interface)
-}
-
-/// The owner of the sockets of a line, with its number, which are added to a set.
-fn owner_of(
-    alloc: Global,
-    script: &Script,
-    number: usize,
-    line: &HostLine,
-    sockets: &mut SocketSet<'static>,
-) -> Result<Station> {
-    let mut owner = Station::new(alloc);
-    add_tasks(script, number, line, &mut owner, sockets)?;
-    add_connections(alloc, script, number, &mut owner, sockets)?;
-    add_schedule(alloc, script, &mut owner)?;
-    Ok(owner)
-}
-
-/// Gives an owner its sockets and its tasks.
-fn add_tasks(
-    script: &Script,
-    number: usize,
-    line: &HostLine,
-    owner: &mut Station,
-    sockets: &mut SocketSet<'static>,
-) -> Result<()> {
-    add_ports(line, owner, sockets)?;
-    add_flows(script, number, line, owner)?;
-    add_pings(script, number, owner, sockets)?;
-    add_packets(script, number, owner, sockets)
-}
-
-/// Gives an owner the UDP sockets of a line.
-fn add_ports(line: &HostLine, owner: &mut Station, sockets: &mut SocketSet<'static>) -> Result<()> {
-    for port in line.ports.as_slice() {
-        let handle = add_udp(owner.alloc, sockets, *port)?;
-        let is_echo = line.echoes.as_slice().contains(port);
-        owner.sockets.push(PortSocket { handle, is_echo })?;
-    }
-    Ok(())
-}
-
-/// Gives an owner a schedule of its sockets, if packets are given up.
-fn add_schedule(alloc: Global, script: &Script, owner: &mut Station) -> Result<()> {
-    if let Some(patience) = script.patience {
-        let count = owner.count_sockets();
-        let schedule = Schedule::new(alloc, count, Duration::from_micros(patience))?;
-        owner.schedule = Some(schedule);
-    }
-    Ok(())
 }
 
 /// Gives an owner its connections, if its host listens or sends streams.
@@ -671,11 +558,17 @@ fn add_connections(
 
 /// Gives an interface its addresses, routers and groups.
 fn configure(interface: &mut Interface, line: &HostLine) -> Result<()> {
-    if !has_set_addresses(interface, line.addresses.as_slice()) {
+    let mut addresses = ArrayVec::new();
+    let _ = addresses.try_extend_from_slice(line.addresses.as_slice());
+    if interface.update_ip_addrs(move |_| addresses).is_err() {
         bail!("{}: an address is a group's", line.name);
     }
     for gateway in line.gateways.as_slice() {
-        if !has_added_router(interface, gateway) {
+        let outcome = match gateway {
+            IpAddress::Ipv4(router) => interface.routes_mut().add_default_ipv4_route(*router),
+            IpAddress::Ipv6(router) => interface.routes_mut().add_default_ipv6_route(*router),
+        };
+        if outcome.is_err() {
             bail!("{}: too many routers", line.name);
         }
     }
@@ -687,119 +580,73 @@ fn configure(interface: &mut Interface, line: &HostLine) -> Result<()> {
     Ok(())
 }
 
-/// Gives an interface its addresses, and returns whether it took them.
-fn has_set_addresses(interface: &mut Interface, list: &[IpCidr]) -> bool {
-    let mut addresses = ArrayVec::new();
-    let _ = addresses.try_extend_from_slice(list);
-    interface.update_ip_addrs(move |_| addresses).is_ok()
-}
-
-/// Gives an interface a default route, and returns whether there was room for it.
-fn has_added_router(interface: &mut Interface, gateway: &IpAddress) -> bool {
-    match gateway {
-        IpAddress::Ipv4(router) => interface
-            .routes_mut()
-            .add_default_ipv4_route(*router)
-            .is_ok(),
-        IpAddress::Ipv6(router) => interface
-            .routes_mut()
-            .add_default_ipv6_route(*router)
-            .is_ok(),
-    }
-}
-
-/// Room for the packets of a socket.
-fn queue<M: Drop>(alloc: Global) -> Result<Queue<M>> {
-    Ok(Queue::new(alloc, QUEUE_PACKETS, QUEUE_OCTETS)?)
-}
-
 /// Adds a UDP socket at a port of any address.
 fn add_udp(alloc: Global, sockets: &mut SocketSet<'static>, port: u16) -> Result<SocketHandle> {
     let endpoint = IpListenEndpoint { addr: None, port };
-    let socket: udp::Socket<'static> = udp::SocketOf::new(endpoint, queue(alloc)?, queue(alloc)?);
+    let rx = Queue::new(alloc, QUEUE_PACKETS, QUEUE_OCTETS)?;
+    let tx = Queue::new(alloc, QUEUE_PACKETS, QUEUE_OCTETS)?;
+    let socket: udp::Socket<'static> = udp::SocketOf::new(endpoint, rx, tx);
     Ok(sockets.add(socket)?)
 }
 
 /// Gives an owner the tasks of its flows, in the order of the script.
 fn add_flows(script: &Script, number: usize, line: &HostLine, owner: &mut Station) -> Result<()> {
-    for (i, flow) in script.flows.iter().enumerate() {
+    for i in 0..script.flows.len() {
+        let flow = script.flows[i];
         if flow.host == number {
-            add_flow(i, flow, line, owner)?;
+            let place = line
+                .ports
+                .as_slice()
+                .iter()
+                .position(|port| *port == flow.port);
+            let Some(socket) = place.and_then(|place| owner.sockets.get(place)) else {
+                bail!("no socket");
+            };
+            let task = Task::Datagram {
+                flow: u32::try_from(i).unwrap_or(u32::MAX),
+                socket: socket.handle,
+                remote: flow.remote,
+                size: flow.size,
+                tried: 0,
+            };
+            owner.tasks.push(task)?;
         }
     }
     Ok(())
-}
-
-/// Gives an owner the task of a flow.
-fn add_flow(i: usize, flow: &Flow, line: &HostLine, owner: &mut Station) -> Result<()> {
-    let Some(socket) = socket_of(line, flow.port, owner) else {
-        bail!("no socket");
-    };
-    owner.tasks.push(Task::Datagram(Datagrams {
-        flow: u32::try_from(i).unwrap_or(u32::MAX),
-        socket,
-        remote: flow.remote,
-        size: flow.size,
-        tried: 0,
-    }))?;
-    Ok(())
-}
-
-/// The socket of an owner at a port.
-fn socket_of(line: &HostLine, port: u16, owner: &Station) -> Option<SocketHandle> {
-    for (i, own) in line.ports.as_slice().iter().enumerate() {
-        if *own == port {
-            return Some(owner.sockets.get(i)?.handle);
-        }
-    }
-    None
 }
 
 /// Gives an owner the tasks of its echo requests, each with a socket for its identifier.
 fn add_pings(
+    alloc: Global,
     script: &Script,
     number: usize,
     owner: &mut Station,
     sockets: &mut SocketSet<'static>,
 ) -> Result<()> {
-    for (i, line) in script.pings.iter().enumerate() {
+    for i in 0..script.pings.len() {
+        let line = script.pings[i];
         if line.host == number {
             let ping = u32::try_from(i).unwrap_or(u32::MAX);
-            let handle = add_icmp(owner.alloc, sockets, identifier_of(ping))?;
-            add_ping(ping, handle, line.remote, owner)?;
+            let endpoint = icmp::Endpoint::Ident(identifier_of(ping));
+            let rx = Queue::new(alloc, QUEUE_PACKETS, QUEUE_OCTETS)?;
+            let tx = Queue::new(alloc, QUEUE_PACKETS, QUEUE_OCTETS)?;
+            let socket: icmp::Socket<'static> = icmp::SocketOf::new(endpoint, rx, tx);
+            let handle = sockets.add(socket)?;
+            owner.pings.push(PingSocket { handle, ping })?;
+            owner.tasks.push(Task::Ping {
+                ping,
+                socket: handle,
+                remote: line.remote,
+                tried: 0,
+            })?;
         }
     }
     Ok(())
 }
 
-/// Adds a socket for the echo replies with an identifier.
-fn add_icmp(
-    alloc: Global,
-    sockets: &mut SocketSet<'static>,
-    identifier: u16,
-) -> Result<SocketHandle> {
-    let endpoint = icmp::Endpoint::Ident(identifier);
-    let socket: icmp::Socket<'static> = icmp::SocketOf::new(endpoint, queue(alloc)?, queue(alloc)?);
-    Ok(sockets.add(socket)?)
-}
-
-/// Gives an owner the task of a line of echo requests.
-fn add_ping(ping: u32, socket: SocketHandle, remote: IpAddress, owner: &mut Station) -> Result<()> {
-    owner.pings.push(PingSocket {
-        handle: socket,
-        ping,
-    })?;
-    owner.tasks.push(Task::Ping(Requests {
-        ping,
-        socket,
-        remote,
-        tried: 0,
-    }))?;
-    Ok(())
-}
-
 /// Gives an owner the tasks of its packets, each with a raw socket of the packet's version and protocol.
 fn add_packets(
+    alloc: Global,
     script: &Script,
     number: usize,
     owner: &mut Station,
@@ -807,38 +654,19 @@ fn add_packets(
 ) -> Result<()> {
     for packet in script.packets.iter() {
         if packet.host == number {
-            add_packet(&packet.octets, owner, sockets)?;
+            let (version, protocol) = kind_of(&packet.octets);
+            let rx = Queue::new(alloc, QUEUE_PACKETS, QUEUE_OCTETS)?;
+            let tx = Queue::new(alloc, QUEUE_PACKETS, QUEUE_OCTETS)?;
+            let raw: raw::Socket<'static> = raw::SocketOf::new(version, protocol, rx, tx);
+            let socket = sockets.add(raw)?;
+            let octets = packet.octets.clone()?;
+            owner.tasks.push(Task::Packet { socket, octets })?;
+            if protocol.number() == 17 || protocol.number() == 0 {
+                owner.writes_udp = true;
+            }
         }
     }
     Ok(())
-}
-
-/// Gives an owner the task of a packet.
-fn add_packet(packet: &[u8], owner: &mut Station, sockets: &mut SocketSet<'static>) -> Result<()> {
-    let (version, protocol) = kind_of(packet);
-    let socket = add_raw(owner.alloc, sockets, version, protocol)?;
-    let octets = Vec::from_slice(owner.alloc, packet)?;
-    owner.tasks.push(Task::Packet { socket, octets })?;
-    if protocol.number() == 17 || protocol.number() == 0 {
-        owner.writes_udp = true;
-    }
-    Ok(())
-}
-
-/// Adds a raw socket of a version and a protocol.
-fn add_raw(
-    alloc: Global,
-    sockets: &mut SocketSet<'static>,
-    version: IpVersion,
-    protocol: IpProtocol,
-) -> Result<SocketHandle> {
-    let socket: raw::Socket<'static> = raw::SocketOf::new(
-        version,
-        protocol,
-        queue(alloc)?,
-        queue(alloc)?,
-    );
-    Ok(sockets.add(socket)?)
 }
 
 /// The version and the protocol of a packet.

@@ -52,13 +52,18 @@ pub fn print_streams<W: Write>(
     writeln!(output, "streams")?;
     let receptions = receptions(alloc, script, hosts)?;
     for (i, stream) in script.streams.iter().enumerate() {
-        if let Some(sender) = sender_of(hosts, stream, i) {
-            let reception = receptions.get(i).copied().unwrap_or(Reception::NONE);
-            let name = script.name_of(stream.host);
-            print_stream(output, name, stream, sender, &reception)?;
-            print_again(output, transmissions.again(i))?;
-            print_course(output, stream, sender, &reception)?;
-        }
+        let Some(sender) = sender_of(hosts, stream, i) else {
+            continue;
+        };
+        let reception = receptions.get(i).copied().unwrap_or(Reception::NONE);
+        let (name, addr, port) = (
+            script.name_of(stream.host),
+            stream.remote.addr,
+            stream.remote.port,
+        );
+        write!(output, "  {i}: {name} to {addr} port {port}: ")?;
+        print_counts(output, sender, &reception, transmissions.again(i))?;
+        print_course(output, stream, sender, &reception)?;
     }
     Ok(())
 }
@@ -85,21 +90,16 @@ fn receptions(
     let mut receptions = vec![in alloc; Reception::NONE; script.streams.len()]?;
     for host in hosts.iter() {
         if let Some(connections) = &host.owner.connections {
-            note_receivers(script, connections.receivers(), &mut receptions);
+            for receiver in connections.receivers().iter().rev() {
+                if let Some(number) = stream_of(script, receiver)
+                    && let Some(reception) = receptions.get_mut(number)
+                {
+                    *reception = Reception::of(receiver);
+                }
+            }
         }
     }
     Ok(receptions)
-}
-
-/// Notes what the receivers of a host read.
-fn note_receivers(script: &Script, receivers: &[Receiver], receptions: &mut [Reception]) {
-    for receiver in receivers.iter().rev() {
-        if let Some(number) = stream_of(script, receiver)
-            && let Some(reception) = receptions.get_mut(number)
-        {
-            *reception = Reception::of(receiver);
-        }
-    }
 }
 
 /// The number of the stream that a receiver got, if it is one of the script.
@@ -113,29 +113,19 @@ fn stream_of(script: &Script, receiver: &Receiver) -> Option<usize> {
     }
 }
 
-/// Prints a stream: its ends, how many octets were sent and received, and whether they were the right ones.
-fn print_stream<W: Write>(
+/// Prints how many octets were sent and received, whether they were the right ones, and how many segments were sent again.
+fn print_counts<W: Write>(
     output: &mut W,
-    name: &str,
-    stream: &Stream,
     sender: &Sender,
     reception: &Reception,
+    again: u64,
 ) -> Result<()> {
-    let (i, addr, port) = (sender.number, stream.remote.addr, stream.remote.port);
     let (written, received) = (sender.written, reception.received);
-    write!(
-        output,
-        "  {i}: {name} to {addr} port {port}: {written} octets sent, {received} received, "
-    )?;
+    write!(output, "{written} octets sent, {received} received, ")?;
     match reception.wrong {
         Some(place) => write!(output, "octet {place} wrong, ")?,
         None => write!(output, "none wrong, ")?,
     }
-    Ok(())
-}
-
-/// Prints how many segments were sent again.
-fn print_again<W: Write>(output: &mut W, again: u64) -> Result<()> {
     writeln!(output, "{again} segments sent again")?;
     Ok(())
 }
@@ -147,48 +137,28 @@ fn print_course<W: Write>(
     sender: &Sender,
     reception: &Reception,
 ) -> Result<()> {
-    match reception.ended_at {
-        Some(end) => print_end(output, stream, end, reception.received)?,
-        None => print_no_end(output, stream, sender.stage)?,
-    }
-    print_failure(output, stream, sender.stage)
-}
-
-/// Prints when a stream began and ended, and how fast it was.
-fn print_end<W: Write>(output: &mut W, stream: &Stream, end: u64, received: u64) -> Result<()> {
-    let took = end.saturating_sub(stream.start);
-    let rate = rate_of(received, took);
-    let (begin, end) = (Time(stream.start), Time(end));
-    writeln!(
-        output,
-        "     from {begin} to {end}: {took} us, {rate} octets a second"
-    )?;
-    Ok(())
-}
-
-/// Prints when a stream began, if it goes on.
-fn print_no_end<W: Write>(output: &mut W, stream: &Stream, stage: Stage) -> Result<()> {
     let begin = Time(stream.start);
-    match stage {
-        Stage::Writes(_) | Stage::Closed(_) | Stage::Done => {
-            writeln!(output, "     from {begin}: not ended")?;
-        }
-        Stage::Waits | Stage::Unopened(_) | Stage::Failed(..) => {}
+    if let Some(end) = reception.ended_at {
+        let took = end.saturating_sub(stream.start);
+        let rate = rate_of(reception.received, took);
+        let end = Time(end);
+        writeln!(
+            output,
+            "     from {begin} to {end}: {took} us, {rate} octets a second"
+        )?;
     }
-    Ok(())
-}
-
-/// Prints why a stream didn't begin, or how it failed.
-fn print_failure<W: Write>(output: &mut W, stream: &Stream, stage: Stage) -> Result<()> {
-    let begin = Time(stream.start);
-    match stage {
+    match sender.stage {
         Stage::Waits => writeln!(output, "     not begun")?,
         Stage::Unopened(_) => writeln!(output, "     from {begin}: not opened")?,
         Stage::Failed(ending, time) => {
             let (how, time) = (text_of(ending), Time(time));
             writeln!(output, "     from {begin}: {how} at {time}")?;
         }
-        Stage::Writes(_) | Stage::Closed(_) | Stage::Done => {}
+        Stage::Writes(_) | Stage::Closed(_) | Stage::Done => {
+            if reception.ended_at.is_none() {
+                writeln!(output, "     from {begin}: not ended")?;
+            }
+        }
     }
     Ok(())
 }
