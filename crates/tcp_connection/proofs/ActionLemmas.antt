@@ -4,13 +4,13 @@ use Rattle.std.specs.Option.{option_map}
 use Rattle.std.specs.Prelude.{◌&&◌, not, if◌then◌else◌, min}
 use Rattle.std.proofs.lemmas.List.{length-take, take_min}
 use Rattle.tcp_machine.specs.declared.timers.Pending.{Pending}
-use Rattle.tcp_machine.specs.declared.timers.Pending.TheVariants.{Empty, Challenge, Resend, Probe, KeepAlive, Reset}
+use Rattle.tcp_machine.specs.declared.timers.Pending.TheVariants.{Empty, Challenge, SynAgain, Resend, Probe, KeepAlive, Reset}
 use Rattle.tcp_machine.specs.Pieces.{Piece, after_piece}
 use Rattle.tcp_machine.specs.Sending.{Sender}
 use Rattle.tcp_machine.specs.States.{sends_octets, is_synchronized, is_opening}
 use Rattle.tcp_machine.specs.Connection.{Connection}
 use Rattle.tcp_machine.specs.Outgoing as machine
-use Rattle.tcp_machine.specs.Outgoing.{action, action_pending, next_action, ack_if, is_reset, is_syn_due, is_worth_sending, tells_something}
+use Rattle.tcp_machine.specs.Outgoing.{action, action_pending, action_in_opening, next_action, ack_if, is_reset, is_challenge, is_syn_due, is_syn_sent, is_worth_sending, tells_something}
 use Rattle.tcp_machine.specs.Outgoing.{has_octets, next_piece, first_piece, most_again, piece_from, octets_from, segment_for}
 use Rattle.tcp_connection.specs.declared.transmission.Part.{Part}
 use Rattle.tcp_connection.specs.declared.outgoing.Action.{Action}
@@ -60,24 +60,25 @@ pending_fits : (p : Pending) (now : ℕ) (m : machine.Action) (c : Connection) �
 pending_fits Empty now m c e =
     next_fits (sends_octets c.state && is_worth_sending c (next_piece c)) (is_synchronized c.state && tells_something now c) m c e
 pending_fits Challenge now m c e = challenge_fits (is_synchronized c.state) m c e
+pending_fits SynAgain now m c e = challenge_fits (is_synchronized c.state) m c e
 pending_fits KeepAlive now m c e = some_of machine.SendKeepAlive m c e tt
 pending_fits Probe now m c e = probe_fits (sends_octets c.state && has_octets (next_piece c)) m c e
 pending_fits Resend now m c e = some_of (machine.SendAgain (first_piece (most_again c) c)) m c e refl
 pending_fits (Reset n) now m c e = some_of (machine.SendReset n) m c e tt
 
-syn_fits : (b : Bool) (m : machine.Action) (c : Connection) → (if b then Some machine.SendSyn else None) ≡ Some m → Fits m c
-syn_fits true m c e = some_of machine.SendSyn m c e tt
-syn_fits false m c e = absurd cc
+syn_fits : (b t : Bool) (m : machine.Action) (c : Connection) → (if b then Some machine.SendSyn else ack_if t) ≡ Some m → Fits m c
+syn_fits true t m c e = some_of machine.SendSyn m c e tt
+syn_fits false t m c e = ack_fits t m c e
 
 pub action_fits : (now : ℕ) (m : machine.Action) (c : Connection) → action now c ≡ Some m → Fits m c
 action_fits now m c e = by (is_opening c.state && not (is_reset c.pending)) refl where
   by : (b : Bool) → (is_opening c.state && not (is_reset c.pending)) ≡ b → Fits m c
   by true t =
-      syn_fits (is_syn_due now c) m c
-      (sym (ap (λ (b : Bool). if b then (if is_syn_due now c then Some machine.SendSyn else None) else action_pending c.pending now c) t) ∙ e)
+      syn_fits (is_syn_due now c) (is_challenge c.pending && not (is_syn_sent c.state)) m c
+      (sym (ap (λ (b : Bool). if b then action_in_opening now c else action_pending c.pending now c) t) ∙ e)
   by false t =
       pending_fits c.pending now m c
-      (sym (ap (λ (b : Bool). if b then (if is_syn_due now c then Some machine.SendSyn else None) else action_pending c.pending now c) t) ∙ e)
+      (sym (ap (λ (b : Bool). if b then action_in_opening now c else action_pending c.pending now c) t) ∙ e)
 
 -- what is sent, of which code knows the parts
 pub record Chosen (now : ℕ) (a : Action) (c : Connection) : Type 0 where

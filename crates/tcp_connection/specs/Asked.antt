@@ -1,16 +1,17 @@
 -- What a host asks of a connection, besides its events.
-use Rattle.std.specs.Prelude.{ℕ, Bool, true, false, nat_lt, ◌&&◌, ◌||◌, length, is_none, Option, Some, None, if◌then◌else◌}
+use Rattle.std.specs.Prelude.{ℕ, Bool, true, false, nat_lt, ◌==◌, ◌&&◌, ◌||◌, not, length, is_none, Option, Some, None, if◌then◌else◌}
 use Rattle.tcp_machine.specs.Connection.{Connection}
 use Rattle.tcp_machine.specs.States.{may_write, takes_octets, is_synchronized}
 use Rattle.tcp_machine.specs.Calls.{taken, readable, room_to_write}
 use Rattle.tcp_machine.specs.Outgoing.{is_syn_sent, next_action}
+use Rattle.tcp_machine.specs.Arrivals.{is_syn_received}
 use Rattle.tcp_machine.specs.Opening.{opened}
 use Rattle.tcp_machine.specs.declared.settings.Settings.{Settings}
 use Rattle.tcp_machine.specs.declared.state.State.TheVariants.{Closed}
 use Rattle.tcp_machine.specs.declared.timers.Owed.{Owed}
 use Rattle.tcp_machine.specs.declared.timers.Owed.TheVariants.{Nothing}
 use Rattle.tcp_machine.specs.declared.timers.Pending.{Pending}
-use Rattle.tcp_machine.specs.declared.timers.Pending.TheVariants.{Challenge}
+use Rattle.tcp_machine.specs.declared.timers.Pending.TheVariants.{Challenge, SynAgain}
 
 -- no connection yet, with room for so many octets each way
 abbrev pub unopened : (send_room receive_room : ℕ) → Settings → Connection
@@ -40,16 +41,20 @@ abbrev pub offered_scale : Connection → Option ℕ
 offered_scale c =
     if is_syn_sent c.state || nat_lt 0 c.transmission.scale || nat_lt 0 c.reception.scale then Some c.settings.own_scale else None
 
--- only a challenge is to be sent: the acknowledgement answers a segment that may be an attacker's (RFC 5961), and without that
--- segment nothing would be sent now, and none would be owed
-abbrev pub is_challenge : Pending → Bool
-is_challenge Challenge = true
-is_challenge p = false
+-- only a challenge is to be sent: an acknowledgement, or the own SYN once more, answers a segment that may be an attacker's (RFC
+-- 5961), and without that segment nothing would be sent now, and no acknowledgement would be owed
+abbrev pub is_answer : Pending → Bool
+is_answer Challenge = true
+is_answer SynAgain = true
+is_answer p = false
 
 abbrev pub owes_nothing : Owed → Bool
 owes_nothing Nothing = true
 owes_nothing o = false
 
+abbrev pub is_otherwise_silent : ℕ → Connection → Bool
+is_otherwise_silent now c =
+    if is_synchronized c.state then is_none (next_action now c) else is_syn_received c.state && not (c.transmission.nxt == 0)
+
 abbrev pub is_only_challenged : ℕ → Connection → Bool
-is_only_challenged now c =
-    is_challenge c.pending && is_synchronized c.state && owes_nothing c.reception.owed && is_none (next_action now c)
+is_only_challenged now c = is_answer c.pending && owes_nothing c.reception.owed && is_otherwise_silent now c

@@ -4,10 +4,10 @@ ghost use Rattle.tcp_machine.specs.Instants as instants;
 ghost use Rattle.tcp_machine.specs.Acknowledgements as acknowledgements;
 ghost use Rattle.tcp_machine.specs.Segments as segments;
 ghost use Rattle.tcp_connection.specs.Segments.{segment_of, piece_of};
-ghost use Rattle.tcp_connection.specs.Details.Parts.{tells_nothing, after_old_position, after_position_of};
+ghost use Rattle.tcp_connection.specs.Details.Parts.{tells_nothing, after_old_position, after_position_of, with_waiting_from};
 
 use crate::connection::Connection;
-use crate::instants::later;
+use crate::instants::{later, since_first};
 use crate::segment::Segment;
 use crate::states::after_end_acknowledged;
 use tcp_machine::estimator::Estimator;
@@ -102,11 +102,28 @@ impl Connection {
         let una = self.transmission.una();
         let _top = self.transmission.top();
         let window = self.window_in(segment);
+        let was_waited_for = self.transmission.is_waited_for();
         self.take_position(now, position, window, octets.len(), segment.fin);
         if una <= position {
             self.transmission.take_window(start, position, window);
         }
+        self.wait(now, was_waited_for);
         self.take_own_end();
+    }
+
+    /// What was sent, and what the peer's window has room for, waits to be acknowledged: since before, if it was so; or nothing
+    /// does any more.
+    fn wait(&mut self, now: u64, was_waited_for: bool)
+        ensures value { self.new ≡ with_waiting_from now was_waited_for self.old }
+        ensures kept { self.new.reception ≡ self.old.reception }
+    {
+        self.timers.waiting_since = if !self.transmission.is_waited_for() {
+            None
+        } else if was_waited_for {
+            since_first(now, self.timers.waiting_since)
+        } else {
+            Some(now)
+        };
     }
 
     /// The state moves on if the own end is acknowledged.

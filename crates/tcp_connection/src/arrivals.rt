@@ -8,7 +8,7 @@ ghost use Rattle.tcp_machine.specs.Opening as opening;
 ghost use Rattle.tcp_machine.specs.Opening.{Arrives, MayLeave};
 ghost use Rattle.tcp_machine.specs.Acknowledgements.{is_believed};
 ghost use Rattle.tcp_connection.specs.Segments.{segment_of, piece_of};
-ghost use Rattle.tcp_connection.specs.Details.Parts.{after_syn_again, after_ack_of_syn};
+ghost use Rattle.tcp_connection.specs.Details.Parts.{after_ack_of_syn};
 
 use crate::connection::Connection;
 use crate::segment::Segment;
@@ -20,6 +20,23 @@ use tcp_machine::timers::{Ending, Owed, Pending, Timers};
 
 /// The time-out once the own SYN is acknowledged, if it ran out before, in microseconds (RFC 6298 5.7).
 const TIMEOUT_AFTER_SYN: u64 = 3_000_000;
+
+/// Whether a segment begins before a position; one older than position 0 does.
+fn is_before(start: Option<u64>, position: u64) -> bool
+    ensures { result ≡ arrivals.is_before start position }
+{
+    match start {
+        None => true,
+        Some(start) => start < position,
+    }
+}
+
+/// Whether a segment takes positions of the stream.
+fn has_text(segment: &Segment, octets: &[u8]) -> bool
+    ensures { result ≡ arrivals.has_text (piece_of 0 segment.now octets.now) }
+{
+    !octets.is_empty() || segment.fin
+}
 
 impl Connection {
     /// A segment arrives (RFC 9293 3.10.7.3, 3.10.7.4). `default` is the MSS of a peer that doesn't tell it, and `link` the
@@ -76,7 +93,7 @@ impl Connection {
         }
         match self.acceptable_start(segment, octets) {
             None => {
-                self.refuse(now, segment);
+                self.refuse(now, segment, octets);
                 true
             }
             Some(start) if segment.rst => {
@@ -111,10 +128,10 @@ impl Connection {
     }
 
     /// A segment isn't acceptable (first check).
-    fn refuse(&mut self, now: u64, segment: &Segment)
-        ensures { self.new ≡ arrivals.after_unacceptable now (segment_of segment.now []) self.old }
+    fn refuse(&mut self, now: u64, segment: &Segment, octets: &[u8])
+        ensures { self.new ≡ arrivals.after_unacceptable now (segment_of segment.now octets.now) self.old }
     {
-        if segment.rst {
+        if segment.rst || !self.is_answered(segment, octets) {
             return;
         }
         self.add_pending(Pending::Challenge);
@@ -123,10 +140,32 @@ impl Connection {
         }
     }
 
-    /// A reset arrives at a position (second check; RFC 5961 3.2).
+    /// Whether a segment that isn't taken is answered: octets and the end are, and an empty one that asks.
+    fn is_answered(&self, segment: &Segment, octets: &[u8]) -> bool
+        ensures { result ≡ arrivals.is_answered (segment_of segment.now octets.now) self.now }
+    {
+        !octets.is_empty() || segment.fin || self.is_asked(segment)
+    }
+
+    /// Whether an empty segment asks whether this side is still there (RFC 9293 3.8.4).
+    fn is_asked(&self, segment: &Segment) -> bool
+        ensures { result ≡ arrivals.asks (segment_of segment.now []) self.now }
+    {
+        let Some(number) = segment.ack else {
+            return false;
+        };
+        let start = position_near(self.remote, self.reception.next(), segment.number);
+        let position = position_near(self.local, self.transmission.una(), number);
+        is_before(start, self.reception.expected()) && self.transmission.is_of_sent(position)
+    }
+
+    /// A reset arrives at a position (second check; RFC 5961 3.2). In TIME-WAIT it is left (RFC 1337).
     fn take_reset(&mut self, start: u64)
         ensures { self.new ≡ arrivals.after_reset (record { start = start; octets = []; ends = false }) self.old }
     {
+        if is_time_wait(self.state) {
+            return;
+        }
         if start != self.reception.expected() {
             if self.reception.is_in_window(start) {
                 self.add_pending(Pending::Challenge);
@@ -140,14 +179,19 @@ impl Connection {
 
     /// A SYN arrives once more (fourth check; RFC 5961 4.2).
     fn take_syn_again(&mut self, segment: &Segment)
-        ensures { self.new ≡ after_syn_again (segment_of segment.now []) self.old }
+        ensures { self.new ≡ arrivals.after_syn_once_more (segment_of segment.now []) self.old }
     {
         let is_own_acknowledged = segment.ack == Some(number_at(self.local, 1))
             && segment.number == self.remote
             && is_syn_received(self.state);
+        let is_again = segment.number == self.remote
+            && segment.ack.is_none()
+            && is_syn_received(self.state);
         if is_own_acknowledged {
             self.establish();
             self.reception.set_owed(Owed::AtOnce);
+        } else if is_again {
+            self.add_pending(Pending::SynAgain);
         } else {
             self.add_pending(Pending::Challenge);
         }
@@ -251,9 +295,18 @@ impl Connection {
                 self.take_believed(now, position, segment, start, octets)
             }
             _ => {
-                self.add_pending(Pending::Challenge);
+                self.leave(segment, octets);
                 true
             }
+        }
+    }
+
+    /// An acknowledgement isn't believed: octets or the end with it are answered.
+    fn leave(&mut self, segment: &Segment, octets: &[u8])
+        ensures { self.new ≡ arrivals.after_unbelieved (piece_of 0 segment.now octets.now) self.old }
+    {
+        if has_text(segment, octets) {
+            self.add_pending(Pending::Challenge);
         }
     }
 

@@ -29,10 +29,11 @@ fn rank(pending: Pending) -> u8
     match pending {
         Pending::Empty => 0,
         Pending::Challenge => 1,
-        Pending::KeepAlive => 2,
-        Pending::Probe => 3,
-        Pending::Resend => 4,
-        Pending::Reset(_) => 5,
+        Pending::SynAgain => 2,
+        Pending::KeepAlive => 3,
+        Pending::Probe => 4,
+        Pending::Resend => 5,
+        Pending::Reset(_) => 6,
     }
 }
 

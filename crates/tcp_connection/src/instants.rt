@@ -1,7 +1,7 @@
 //! Instants and spans, in microseconds.
 ghost use Rattle.std.specs.Prelude.{◌≡◌, ◌+◌, min};
 ghost use Rattle.tcp_machine.specs.Instants as instants;
-ghost use Rattle.tcp_machine.specs.Timers as timers;
+ghost use Rattle.tcp_machine.specs.Acknowledgements as acknowledgements;
 ghost use Rattle.tcp_machine.specs.Due as due;
 ghost use Rattle.tcp_machine.specs.Outgoing as outgoing;
 ghost use Rattle.tcp_machine.specs.Arrivals as arrivals;
@@ -31,16 +31,13 @@ pub fn has_passed(timer: Option<u64>, now: u64) -> bool
     }
 }
 
-/// Whether a time-out has passed since an instant, if there are both.
-pub fn has_waited(now: u64, timeout: Option<u64>, since: Option<u64>) -> bool
-    ensures { result ≡ timers.has_waited now timeout since }
+/// Since when something waits, that does so now: an instant before, if there is one.
+pub fn since_first(now: u64, since: Option<u64>) -> Option<u64>
+    ensures { result ≡ acknowledgements.since_first now since }
 {
-    match (timeout, since) {
-        (Some(timeout), Some(since)) => match since.checked_add(timeout) {
-            Some(end) => end <= now,
-            None => false,
-        },
-        _ => false,
+    match since {
+        None => Some(now),
+        Some(before) => Some(before),
     }
 }
 

@@ -5,15 +5,15 @@ ghost use Rattle.tcp_machine.specs.Outgoing as outgoing;
 ghost use Rattle.std.specs.List.{filter_map};
 ghost use Rattle.tcp_connection.specs.Actions.{action_of, IsHeader, AreBlocks, AreOctets, after_sending};
 ghost use Rattle.tcp_connection.specs.Blocks as blocks;
-ghost use Rattle.tcp_connection.specs.Asked.{is_only_challenged};
+ghost use Rattle.tcp_connection.specs.Asked.{is_only_challenged, is_otherwise_silent};
 ghost use Rattle.tcp_connection.specs.Pieces.{part_of, IsPieceOf};
 ghost use Rattle.tcp_machine.specs.Pieces.{Piece, after_piece};
 ghost use Rattle.tcp_connection.specs.Details.Bounds.{last, after_part};
 ghost use Rattle.tcp_connection.specs.Details.Sent as sent;
 
 use crate::connection::Connection;
-use crate::instants::{is_owed, later};
-use crate::states::{is_opening, is_synchronized, sends_octets};
+use crate::instants::{is_owed, later, since_first};
+use crate::states::{is_opening, is_syn_received, is_syn_sent, is_synchronized, sends_octets};
 use crate::transmission::Part;
 use net_base::assembler::Range;
 use tcp_machine::positions::number_at;
@@ -62,10 +62,9 @@ impl Connection {
             return self.pending_action(now);
         }
         if self.is_syn_due(now) {
-            Some(Action::SendSyn)
-        } else {
-            None
+            return Some(Action::SendSyn);
         }
+        self.ack_if(matches!(self.pending, Pending::Challenge) && !is_syn_sent(self.state))
     }
 
     /// Whether a reset is to be sent.
@@ -75,13 +74,14 @@ impl Connection {
         matches!(self.pending, Pending::Reset(_))
     }
 
-    /// Whether the own SYN is sent now, while it isn't acknowledged.
+    /// Whether the own SYN is sent now, while it isn't acknowledged: at first, when its time-out has ended, and in answer to the
+    /// peer's.
     fn is_syn_due(&self, now: u64) -> bool
         ensures { result ≡ outgoing.is_syn_due now self.now }
     {
         self.transmission.nxt() == 0
             || is_owed(self.reception.owed(), now)
-            || !matches!(self.pending, Pending::Empty)
+            || matches!(self.pending, Pending::SynAgain)
     }
 
     /// What is sent once the own SYN is acknowledged, or by a connection that is no more.
@@ -90,7 +90,7 @@ impl Connection {
     {
         match self.pending {
             Pending::Empty => self.unforced_action(now),
-            Pending::Challenge => self.ack_if(is_synchronized(self.state)),
+            Pending::Challenge | Pending::SynAgain => self.ack_if(is_synchronized(self.state)),
             Pending::KeepAlive => Some(Action::SendKeepAlive),
             Pending::Probe => self.probe_action(),
             Pending::Resend => Some(Action::SendAgain(self.first_part(self.most_again()))),
@@ -129,15 +129,25 @@ impl Connection {
         self.ack_if(is_synchronized(self.state) && self.tells_something(now))
     }
 
-    /// Whether only a challenge is to be sent: an acknowledgement that answers a segment which may be an attacker's (RFC 5961),
-    /// where nothing would be sent now without that segment, and no acknowledgement would be owed.
+    /// Whether only a challenge is to be sent: an acknowledgement, or the own SYN once more, that answers a segment which may be
+    /// an attacker's (RFC 5961), where nothing would be sent now without that segment, and no acknowledgement would be owed.
     pub fn is_only_challenged(&self, now: u64) -> bool
         ensures { result ≡ is_only_challenged now self.now }
     {
-        matches!(self.pending, Pending::Challenge)
-            && is_synchronized(self.state)
+        matches!(self.pending, Pending::Challenge | Pending::SynAgain)
             && matches!(self.reception.owed(), Owed::Nothing)
-            && self.unforced_action(now).is_none()
+            && self.is_otherwise_silent(now)
+    }
+
+    /// Whether nothing would be sent now, if no segment were to be answered.
+    fn is_otherwise_silent(&self, now: u64) -> bool
+        ensures { result ≡ is_otherwise_silent now self.now }
+    {
+        if is_synchronized(self.state) {
+            self.unforced_action(now).is_none()
+        } else {
+            is_syn_received(self.state) && self.transmission.nxt() != 0
+        }
     }
 
     /// Whether an acknowledgement is to be sent by itself.
@@ -361,7 +371,8 @@ impl Connection {
         ensures { self.new ≡ outgoing.syn_sent now self.old }
     {
         let room = self.reception.room() as u64;
-        self.reception.told(1 + room.min(65_535));
+        let told = self.reception.promised().max(1 + room.min(65_535));
+        self.reception.told(told);
         self.pending = Pending::Empty;
         self.start_resend_timer(now);
         let _una = self.transmission.una();
@@ -406,6 +417,7 @@ impl Connection {
     {
         let _end = self.transmission.end_of(part);
         self.timers.resend_at = Some(later(now, self.estimator.timeout));
+        self.timers.waiting_since = since_first(now, self.timers.waiting_since);
         self.tell();
         let nxt = self.transmission.nxt();
         self.transmission.send(part, nxt);
@@ -418,9 +430,7 @@ impl Connection {
         if self.timers.resend_at.is_none() {
             self.timers.resend_at = Some(later(now, self.estimator.timeout));
         }
-        if self.timers.waiting_since.is_none() {
-            self.timers.waiting_since = Some(now);
-        }
+        self.timers.waiting_since = since_first(now, self.timers.waiting_since);
     }
 }
 

@@ -254,6 +254,13 @@ impl Reception {
         true
     }
 
+    /// The edge that was promised last.
+    pub fn promised(&self) -> u64
+        ensures { result ≡ self.now.promised }
+    {
+        self.promised
+    }
+
     /// The edge that is promised in the next segment.
     pub fn next_promise(&self, own_mss: u16) -> u64
         ensures { result ≡ windows.next_promise own_mss self.now }

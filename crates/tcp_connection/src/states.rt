@@ -2,6 +2,7 @@
 ghost use Rattle.std.specs.Prelude.{◌≡◌};
 ghost use Rattle.tcp_machine.specs.States as states;
 ghost use Rattle.tcp_machine.specs.Arrivals as arrivals;
+ghost use Rattle.tcp_machine.specs.Outgoing as outgoing;
 ghost use Rattle.tcp_machine.specs.Calls as calls;
 
 use tcp_machine::state::State;
@@ -79,6 +80,25 @@ pub fn is_opening(state: State) -> bool
         State::SynSent | State::SynReceived => true,
         State::Closed
         | State::Listen
+        | State::Established
+        | State::FinWait1
+        | State::FinWait2
+        | State::CloseWait
+        | State::Closing
+        | State::LastAck
+        | State::TimeWait => false,
+    }
+}
+
+/// Whether it is SYN-SENT.
+pub fn is_syn_sent(state: State) -> bool
+    ensures { result ≡ outgoing.is_syn_sent state }
+{
+    match state {
+        State::SynSent => true,
+        State::Closed
+        | State::Listen
+        | State::SynReceived
         | State::Established
         | State::FinWait1
         | State::FinWait2

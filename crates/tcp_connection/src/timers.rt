@@ -5,7 +5,7 @@ ghost use Rattle.tcp_machine.specs.Due as due;
 ghost use Rattle.tcp_machine.specs.Timers as timers;
 
 use crate::connection::Connection;
-use crate::instants::{has_passed, has_waited, later};
+use crate::instants::{has_passed, later};
 use crate::states::{is_opening, is_synchronized, is_time_wait, sends_octets};
 use tcp_machine::timers::{Ending, Pending, Timers};
 
@@ -28,6 +28,7 @@ impl Connection {
         ensures { self.new ≡ timers.after_timers now self.old }
     {
         self.expire_time_wait(now);
+        self.expire_user_timeout(now);
         self.expire_resend_timer(now);
         self.expire_keep_alive(now);
         self.start_probe_timer(now);
@@ -42,6 +43,25 @@ impl Connection {
         }
     }
 
+    /// The program's time-out ends (RFC 9293 3.8.3).
+    fn expire_user_timeout(&mut self, now: u64)
+        ensures { self.new ≡ timers.after_user_timeout now self.old }
+    {
+        if has_passed(self.gives_up_at(), now) {
+            self.give_up(Ending::TimedOut);
+        }
+    }
+
+    /// When it ends, if there is one, and the peer lets something wait.
+    pub(crate) fn gives_up_at(&self) -> Option<u64>
+        ensures { result ≡ timers.gives_up_at self.now }
+    {
+        match (self.settings.timeout, self.timers.waiting_since) {
+            (Some(timeout), Some(since)) => Some(later(since, timeout)),
+            _ => None,
+        }
+    }
+
     /// What isn't acknowledged is sent again, or the peer is probed, or the connection is given up.
     fn expire_resend_timer(&mut self, now: u64)
         ensures { self.new ≡ timers.after_resend_timer now self.old }
@@ -51,20 +71,18 @@ impl Connection {
         }
         if self.is_held_back() && !is_opening(self.state) {
             self.expire_probe_timer(now);
-        } else if self.is_given_up(now) {
+        } else if self.is_given_up() {
             self.give_up(Ending::TimedOut);
         } else {
             self.lose_all();
         }
     }
 
-    /// Whether what was sent has been unacknowledged for too long (RFC 9293 3.8.3).
-    fn is_given_up(&self, now: u64) -> bool
-        ensures { result ≡ timers.is_given_up now self.now }
+    /// Whether what was sent was sent again too often, where the program set no time-out.
+    fn is_given_up(&self) -> bool
+        ensures { result ≡ timers.is_given_up self.now }
     {
-        let timeout = self.settings.timeout;
-        has_waited(now, timeout, self.timers.waiting_since)
-            || (timeout.is_none() && MOST_TRIES <= self.timers.tries)
+        self.settings.timeout.is_none() && MOST_TRIES <= self.timers.tries
     }
 
     /// All from the first unacknowledged position on is sent again (RFC 6298 5.4 to 5.6).
@@ -88,11 +106,11 @@ impl Connection {
         };
     }
 
-    /// The peer is probed, or given up if it hasn't answered for too long (RFC 9293 3.8.6.1).
+    /// The peer is probed, or given up if it hasn't answered too often (RFC 9293 3.8.6.1).
     fn expire_probe_timer(&mut self, now: u64)
         ensures { self.new ≡ timers.after_probe_time now self.old }
     {
-        if self.is_unheard(now) && self.timers.probes > 0 {
+        if self.is_unheard() {
             self.give_up(Ending::TimedOut);
             return;
         }
@@ -102,13 +120,11 @@ impl Connection {
         self.add_pending(Pending::Probe);
     }
 
-    /// Whether nothing has arrived for too long.
-    fn is_unheard(&self, now: u64) -> bool
-        ensures { result ≡ timers.is_unheard now self.now }
+    /// Whether it hasn't answered so many probes, where the program set no time-out.
+    fn is_unheard(&self) -> bool
+        ensures { result ≡ timers.is_unheard self.now }
     {
-        let timeout = self.settings.timeout;
-        has_waited(now, timeout, Some(self.timers.heard_at))
-            || (timeout.is_none() && MOST_TRIES <= self.timers.probes)
+        self.settings.timeout.is_none() && MOST_TRIES <= self.timers.probes
     }
 
     /// A silent peer is asked whether it is still there, or given up after nine such questions (RFC 9293 3.8.4).

@@ -2,7 +2,8 @@
 ghost use Rattle.std.specs.Prelude.{◌≡◌, ◌+◌, ◌-◌, ◌*◌, ◌≤◌, ◌<◌, ◌^◌, min, max, ◌++◌, length, take, IfOk, None, true, false};
 ghost use Rattle.tcp_machine.specs.Sending.{after_position, after_close, after_send, MaySend};
 ghost use Rattle.tcp_machine.specs.Windows.{tells_window, after_window};
-ghost use Rattle.tcp_machine.specs.Acknowledgements.{flight, empty_position, is_believed, is_end_acknowledged, is_duplicate};
+ghost use Rattle.tcp_machine.specs.Acknowledgements.{flight, empty_position, is_believed, is_end_acknowledged, is_duplicate, is_waited_for};
+ghost use Rattle.tcp_machine.specs.Arrivals.{is_of_sent};
 ghost use Rattle.tcp_machine.specs.Opening.{no_transmission};
 ghost use Rattle.tcp_machine.specs.Calls.{room_to_write};
 ghost use Rattle.tcp_machine.specs.Timers.{has_unsent};
@@ -143,6 +144,23 @@ impl Transmission {
         ensures { result ≡ is_believed position self.now }
     {
         self.una.saturating_sub(self.largest_window) <= position && position <= self.top
+    }
+
+    /// Whether an acknowledgement is believed, and of nothing beyond the place of an empty segment.
+    pub fn is_of_sent(&self, position: Option<u64>) -> bool
+        ensures { result ≡ is_of_sent position self.now }
+    {
+        match position {
+            None => false,
+            Some(position) => self.is_believed(position) && position <= self.empty_position(),
+        }
+    }
+
+    /// Whether something that was sent, and for which the peer's window has room, isn't acknowledged.
+    pub fn is_waited_for(&self) -> bool
+        ensures { result ≡ is_waited_for self.now }
+    {
+        self.una < self.top.min(self.told_edge)
     }
 
     /// Whether the own end is acknowledged.

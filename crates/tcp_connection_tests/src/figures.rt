@@ -8,13 +8,14 @@ use tcp_machine::state::State;
 use tcp_machine::timers::Ending;
 
 /// A segment as the figures write it: <SEQ=..><CTL=SYN>, <SEQ=..><ACK=..><CTL=SYN,ACK>, <SEQ=..><ACK=..><CTL=ACK>, and
-/// <SEQ=..><ACK=..><CTL=FIN,ACK>.
+/// <SEQ=..><ACK=..><CTL=FIN,ACK>; and one that none of them has, <SEQ=..><CTL=SYN,FIN>.
 #[derive(Clone, Copy)]
 enum Line {
     Syn(u32),
     SynAck(u32, u32),
     Ack(u32, u32),
     FinAck(u32, u32),
+    SynFin(u32),
 }
 
 /// What happens at two sides, A and B, or what is so then.
@@ -23,13 +24,17 @@ enum Step {
     /// A opens with this initial number, or B does.
     OpenA(u32),
     OpenB(u32),
-    /// What A sends is lost.
+    /// What A sends is lost, or what B sends.
     Lose(u64),
+    LoseB(u64),
     /// The program of A closes, or that of B does.
     CloseA,
     CloseB,
     /// A reset with this number and acknowledgement arrives at A.
     Reset(u64, u32, Option<u32>),
+    /// A segment that the other side didn't send arrives at A, or at B.
+    ForgeA(u64, Line),
+    ForgeB(u64, Line),
     /// The clock of A comes to this moment.
     Expire(u64),
     /// B, which listens with this initial number, gets exactly this of A.
@@ -41,6 +46,8 @@ enum Step {
     Cross(u64, Line, Line),
     /// A has nothing to send.
     IsQuiet(u64),
+    /// Both send until neither has anything to send, and each segment arrives: so many.
+    Ends(u64, u64),
     /// A sends exactly this, which is lost.
     Tells(u64, Line),
     /// The program of A aborts, and B gets a reset with this number.
@@ -74,6 +81,7 @@ fn values_of(line: &Line) -> (u32, Option<u32>, bool, bool) {
         Line::SynAck(seq, ack) => (*seq, Some(*ack), true, false),
         Line::Ack(seq, ack) => (*seq, Some(*ack), false, false),
         Line::FinAck(seq, ack) => (*seq, Some(*ack), false, true),
+        Line::SynFin(seq) => (*seq, None, true, true),
     }
 }
 
@@ -139,6 +147,46 @@ const fn reset(number: u32, ack: Option<u32>) -> Segment {
     }
 }
 
+/// What one side sends arrives at the other. It returns the number of segments.
+fn pass_all(from: &mut Connection, to: &mut Connection, now: u64) -> u64 {
+    for count in 0..100 {
+        let header = send_one(from, now);
+        if header.is_none() {
+            return count;
+        }
+        arrive_sent(to, now, &header);
+    }
+    100
+}
+
+/// Both send until neither has anything to send, or a hundred times. It returns the number of segments.
+fn exchanged(sides: &mut Sides, now: u64) -> u64 {
+    let mut count = 0u64;
+    for _ in 0..100 {
+        let from_a = pass_all(&mut sides.a, &mut sides.b, now);
+        let from_b = pass_all(&mut sides.b, &mut sides.a, now);
+        if from_a == 0 && from_b == 0 {
+            break;
+        }
+        count = count.saturating_add(from_a).saturating_add(from_b);
+    }
+    count
+}
+
+const fn segment_with(values: (u32, Option<u32>, bool, bool)) -> Segment {
+    Segment {
+        number: values.0,
+        ack: values.1,
+        window: 1_000,
+        syn: values.2,
+        fin: values.3,
+        rst: false,
+        mss: None,
+        scale: None,
+        sack_permitted: false,
+    }
+}
+
 /// Does what a step says of a program, of the wire or of the clock.
 fn happen(sides: &mut Sides, step: &Step) {
     match step {
@@ -150,6 +198,15 @@ fn happen(sides: &mut Sides, step: &Step) {
         Step::Expire(now) => sides.a.expire(*now),
         Step::Lose(now) => {
             let _ = send_one(&mut sides.a, *now);
+        }
+        Step::LoseB(now) => {
+            let _ = send_one(&mut sides.b, *now);
+        }
+        Step::ForgeA(now, line) => {
+            arrive_empty(&mut sides.a, *now, &segment_with(values_of(line)));
+        }
+        Step::ForgeB(now, line) => {
+            arrive_empty(&mut sides.b, *now, &segment_with(values_of(line)));
         }
         _ => {}
     }
@@ -163,6 +220,7 @@ fn comes(sides: &mut Sides, step: &Step) -> bool {
         Step::FromB(now, line) => passes(&mut sides.b, &mut sides.a, *now, line),
         Step::Cross(now, from_a, from_b) => cross(sides, *now, from_a, from_b),
         Step::IsQuiet(now) => sides.a.next_action(*now).is_none(),
+        Step::Ends(now, count) => exchanged(sides, *now) == *count,
         Step::Tells(now, line) => is_line(&send_one(&mut sides.a, *now), line),
         Step::Abort(now, number) => aborts(sides, *now, *number),
         Step::Is(state) => sides.a.state() == *state,
@@ -316,6 +374,87 @@ const RESETS: [Step; 8] = [
 #[test]
 fn resets(rt: HostRuntime) {
     assert!(rt; come_opened(rt.alloc(), &RESETS));
+}
+
+/// One forged SYN comes to a side in SYN-SENT, whose own SYN has been accepted: both stand in SYN-RECEIVED with numbers that
+/// don't fit. Each answers the other's SYN by an acknowledgement, the wrong number in one of these brings a reset, and the
+/// exchange ends (RFC 9293 3.10.7.4).
+const ONE_FORGED_SYN: [Step; 9] = [
+    Step::OpenA(100),
+    Step::Accept(300, Line::Syn(100)),
+    Step::ForgeA(0, Line::Syn(70_000)),
+    Step::Are(State::SynReceived, State::SynReceived),
+    Step::Cross(0, Line::SynAck(100, 70_001), Line::SynAck(300, 101)),
+    Step::Are(State::SynReceived, State::SynReceived),
+    Step::Cross(0, Line::Ack(101, 70_001), Line::Ack(301, 101)),
+    Step::Ends(0, 2),
+    Step::EndA(Some(Ending::Refused)),
+];
+
+#[test]
+fn one_forged_syn(rt: HostRuntime) {
+    assert!(rt; come_unopened(rt.alloc(), &ONE_FORGED_SYN));
+}
+
+/// Both sides open, and a forged SYN comes to each. Neither believes the other, and two answers are all.
+const TWO_FORGED_SYNS: [Step; 10] = [
+    Step::OpenA(100),
+    Step::OpenB(300),
+    Step::Lose(0),
+    Step::LoseB(0),
+    Step::ForgeA(0, Line::Syn(70_000)),
+    Step::ForgeB(0, Line::Syn(90_000)),
+    Step::Cross(0, Line::SynAck(100, 70_001), Line::SynAck(300, 90_001)),
+    Step::Cross(0, Line::Ack(101, 70_001), Line::Ack(301, 90_001)),
+    Step::Ends(0, 0),
+    Step::Are(State::SynReceived, State::SynReceived),
+];
+
+#[test]
+fn two_forged_syns(rt: HostRuntime) {
+    assert!(rt; come_unopened(rt.alloc(), &TWO_FORGED_SYNS));
+}
+
+/// In SYN-RECEIVED the peer's SYN comes once more, and is answered by the own one; a SYN of another number is answered by an
+/// acknowledgement, and so is one with an end where the connection is open (RFC 9293 3.10.7.4, RFC 5961 4.2).
+const SYNS_AGAIN: [Step; 12] = [
+    Step::OpenA(100),
+    Step::ForgeA(0, Line::Syn(300)),
+    Step::Tells(0, Line::SynAck(100, 301)),
+    Step::ForgeA(1, Line::Syn(300)),
+    Step::Tells(1, Line::SynAck(100, 301)),
+    Step::ForgeA(1, Line::Syn(290)),
+    Step::Tells(1, Line::Ack(101, 301)),
+    Step::ForgeA(1, Line::Ack(301, 101)),
+    Step::Is(State::Established),
+    Step::ForgeA(1, Line::SynFin(301)),
+    Step::Tells(1, Line::Ack(101, 301)),
+    Step::Is(State::Established),
+];
+
+#[test]
+fn syns_again(rt: HostRuntime) {
+    assert!(rt; come_unopened(rt.alloc(), &SYNS_AGAIN));
+}
+
+/// A reset in TIME-WAIT changes nothing, of the next number neither (RFC 1337 3).
+const RESET_IN_TIME_WAIT: [Step; 11] = [
+    Step::CloseA,
+    Step::CloseB,
+    Step::Cross(1, Line::FinAck(100, 300), Line::FinAck(300, 100)),
+    Step::Cross(1, Line::Ack(101, 301), Line::Ack(301, 101)),
+    Step::Reset(2, 301, None),
+    Step::IsQuiet(2),
+    Step::Expire(60_000_000),
+    Step::Is(State::TimeWait),
+    Step::Expire(60_000_001),
+    Step::Is(State::Closed),
+    Step::EndA(None),
+];
+
+#[test]
+fn reset_in_time_wait(rt: HostRuntime) {
+    assert!(rt; come_opened(rt.alloc(), &RESET_IN_TIME_WAIT));
 }
 
 /// The program aborts: the peer gets a reset, which ends its side (RFC 9293 3.10.5).

@@ -3,6 +3,7 @@ use crate::ends::{MSS, Packet, SETTINGS, arrive, segment_of, send, send_one, uno
 use std::alloc::{AllocError, Global};
 use std::collections::VecDeque;
 use tcp_connection::connection::Connection;
+use tcp_machine::settings::Settings;
 use tcp_machine::state::State;
 use tcp_machine::timers::Ending;
 
@@ -295,6 +296,32 @@ fn gives_up(alloc: Global) -> bool {
     let (now, count) = given_up(&mut a);
     let is_given_up = a.state() == State::Closed && a.ending() == Some(Ending::TimedOut);
     is_given_up && 180_000_000 <= now && 3 <= count && count <= 13
+}
+
+/// Whether a connection ends after exactly ten seconds, where its program set such a time-out (RFC 9293 3.8.3).
+fn times_out(alloc: Global) -> bool {
+    let Ok(mut a) = unopened(alloc) else {
+        return false;
+    };
+    let timeout = Some(10_000_000);
+    a.open(
+        0,
+        100,
+        MSS,
+        &Settings {
+            timeout,
+            ..SETTINGS
+        },
+    );
+    let (now, count) = given_up(&mut a);
+    let has_ended = a.state() == State::Closed && a.ending() == Some(Ending::TimedOut);
+    has_ended && now == 10_000_000 && count == 4
+}
+
+/// Nothing arrives for ten seconds: the SYN is sent after 0, 1, 3 and 7 s.
+#[test]
+fn ten_seconds_are_ten(rt: HostRuntime) {
+    assert!(rt; times_out(rt.alloc()));
 }
 
 /// Nothing arrives: the SYN is sent again for at least three minutes (RFC 9293 3.8.3), and then the connection is given up.

@@ -31,6 +31,10 @@ is_named handle h =
 abbrev pub changed : ℕ → Connection → Host → Host
 changed place c h = with_alarm place 0 (with_connection place c h)
 
+-- where no octet was written or read, nothing changes
+abbrev pub changed_by : (count place : ℕ) → Connection → Host → Host
+changed_by count place c h = if count == 0 then h else changed place c h
+
 -- the program lets go: a connection on which the peer may still send is aborted, another one ends by itself
 abbrev pub ends_by_itself : State → Bool
 ends_by_itself Closed = true

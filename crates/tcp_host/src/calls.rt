@@ -1,5 +1,5 @@
 //! What a program does with its connections (RFC 9293 3.10.1 to 3.10.5).
-ghost use Rattle.std.specs.Prelude.{◌≡◌, ◌≢◌, ◌<◌, ◌++◌, ℕ, length, drop, max, true, false, Ok, Err, None, Some, IsErr, IsNone, IfOk, OnOk, OnErr};
+ghost use Rattle.std.specs.Prelude.{◌≡◌, ◌≢◌, ◌<◌, ◌==◌, ◌++◌, min, ℕ, length, drop, max, true, false, Ok, Err, None, Some, IsErr, IsNone, IfOk, OnOk, OnErr};
 ghost use Rattle.std.specs.Option.{option_map};
 ghost use Rattle.tcp_machine.specs.Calls as calls;
 ghost use Rattle.tcp_host.specs.Table.{IsNowhere, IsPlaceOf};
@@ -52,35 +52,53 @@ impl TcpHost {
     }
 
     /// Queues the first octets, as many as there is room for, and returns their number (RFC 9293 3.10.2). It is 0 once the
-    /// program closed or the connection is gone. With a wrong handle nothing changes.
+    /// program closed or the connection is gone, and then nothing changes; nor does it with a wrong handle.
     pub fn send_slice(&mut self, handle: Handle, octets: &[u8]) -> Result<usize, WrongHandle>
         ensures wrong { spec.is_named handle self.old ≡ false → IsErr result }
         ensures unchanged { spec.is_named handle self.old ≡ false → self.new ≡ self.old }
         ensures taken { spec.is_named handle self.old ≡ true → result ≡ Ok (calls.taken (length octets.now) (connection_at handle.place self.old)) }
         ensures written { spec.is_named handle self.old ≡ true → self.new
-            ≡ spec.changed handle.place (calls.after_writing octets.now (connection_at handle.place self.old)) self.old }
+            ≡ spec.changed_by (calls.taken (length octets.now) (connection_at handle.place self.old)) handle.place
+            (calls.after_writing octets.now (connection_at handle.place self.old)) self.old }
     {
         if !self.is_named(handle) {
             return Err(WrongHandle);
+        }
+        if self.takes_none(handle.place, octets.len()) {
+            return Ok(0);
         }
         let count = self.slots[handle.place].connection.write(octets);
         self.alarms.set(handle.place, 0);
         Ok(count)
     }
 
+    // Whether the connection at a place takes none of so many octets.
+    fn takes_none(&self, place: usize, len: usize) -> bool
+        requires { place < length self.now.slots }
+        ensures { result ≡ (calls.taken len (connection_at place self.now) == 0) }
+    {
+        let connection = &self.slots[place].connection;
+        !connection.may_send() || len.min(connection.send_room()) == 0
+    }
+
     /// Copies the first octets in order to the front of `out`, as many as it has room for, and returns their number
-    /// (RFC 9293 3.10.3). With a wrong handle nothing changes.
+    /// (RFC 9293 3.10.3). If it has no room, or none can be read, nothing changes; nor does it with a wrong handle.
     pub fn recv_slice(&mut self, handle: Handle, out: &mut [u8]) -> Result<usize, WrongHandle>
         ensures wrong { spec.is_named handle self.old ≡ false → IsErr result }
         ensures unchanged { spec.is_named handle self.old ≡ false → self.new ≡ self.old }
         ensures count { spec.is_named handle self.old ≡ true → result ≡ Ok (calls.readable_count (length out.old) (connection_at handle.place self.old)) }
         ensures read { spec.is_named handle self.old ≡ true → self.new
-            ≡ spec.changed handle.place (calls.after_reading (length out.old) (connection_at handle.place self.old)) self.old }
+            ≡ spec.changed_by (min (length out.old) (length (calls.readable (connection_at handle.place self.old)))) handle.place
+            (calls.after_reading (length out.old) (connection_at handle.place self.old)) self.old }
         ensures octets { spec.is_named handle self.old ≡ true → out.new ≡ calls.read_of (length out.old) (connection_at handle.place self.old)
             ++ drop (calls.readable_count (length out.old) (connection_at handle.place self.old)) out.old }
     {
         if !self.is_named(handle) {
             return Err(WrongHandle);
+        }
+        let readable = self.slots[handle.place].connection.recv_queue();
+        if out.len().min(readable) == 0 {
+            return Ok(0);
         }
         let count = self.slots[handle.place].connection.read(out);
         self.alarms.set(handle.place, 0);

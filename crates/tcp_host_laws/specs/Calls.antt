@@ -24,7 +24,7 @@ opening place now e h =
     (Opens now (link_mss h.config e.remote_addr) (settings_for h.config e.remote_addr))
 
 -- A program's call on a host, what its connections do, and what the host is then. What it wrote, or how much it read,
--- is in the act. A call that fails changes nothing, and isn't told here.
+-- is in the act. A call that fails, or writes or reads no octet, changes nothing, and isn't told here.
 pub data Calls (old : Host) : List Event → Host → Type 0 where
   Connect : (place now : ℕ) (e : Endpoints) → place < length old.slots → IsFreePlace old (Some place) →
       Calls old (opening place now e old ∷ []) (opened_at place now e old)

@@ -8,7 +8,7 @@ use Rattle.tcp_machine.specs.declared.state.State.{State}
 use Rattle.tcp_machine.specs.declared.state.State.TheVariants.{Closed, Listen, SynSent, SynReceived, Established, FinWait1}
 use Rattle.tcp_machine.specs.declared.state.State.TheVariants.{FinWait2, CloseWait, Closing, LastAck, TimeWait}
 use Rattle.tcp_machine.specs.declared.timers.Pending.{Pending}
-use Rattle.tcp_machine.specs.declared.timers.Pending.TheVariants.{Challenge, Reset}
+use Rattle.tcp_machine.specs.declared.timers.Pending.TheVariants.{Challenge, Reset, SynAgain}
 use Rattle.tcp_machine.specs.declared.timers.Owed.TheVariants.{AtOnce}
 use Rattle.tcp_machine.specs.declared.timers.Ending.{Ending}
 use Rattle.tcp_machine.specs.Positions.{number_at, IsNear, position_near}
@@ -19,15 +19,15 @@ use Rattle.tcp_machine.specs.States.{is_opening, is_synchronized, takes_octets, 
 use Rattle.tcp_machine.specs.Connection.{Connection}
 use Rattle.tcp_machine.specs.Segments.{Segment, Options, window_in, acceptable_piece, acknowledged_in}
 use Rattle.tcp_machine.specs.Windows.{tells_window, with_window, after_window}
-use Rattle.tcp_machine.specs.Acknowledgements.{rank, with_pending, empty_position, is_believed, is_end_acknowledged, is_duplicate}
+use Rattle.tcp_machine.specs.Acknowledgements.{rank, with_pending, empty_position, is_believed, is_end_acknowledged, is_duplicate, with_waiting}
 use Rattle.tcp_machine.specs.Acknowledgements.{after_progress, after_duplicate, after_acked, after_told, after_end, after_acknowledgement}
 use Rattle.tcp_machine.specs.Acknowledgements as acknowledgements
 use Rattle.tcp_machine.specs.Congestion as congestion
 use Rattle.tcp_machine.specs.declared.timers.Pending.TheVariants.{Resend}
-use Rattle.tcp_machine.specs.Arrivals.{is_time_wait, is_syn_received, is_closed, with_owed, ended, aborted, with_time_wait, after_entering}
+use Rattle.tcp_machine.specs.Arrivals.{is_time_wait, is_syn_received, is_closed, with_owed, ended, aborted, with_time_wait, after_entering, after_syn_once_more, is_syn_again}
 use Rattle.tcp_machine.specs.Arrivals.{after_unacceptable, why_reset, after_reset, is_own_syn_acknowledged, state_after_handshake, established}
 use Rattle.tcp_machine.specs.Arrivals.{reception_after, has_text, after_octets_of, has_ended, after_fin, after_text, after_last}
-use Rattle.tcp_machine.specs.Arrivals.{after_position_acknowledged, after_ack_field, heard, after_piece_of, after_segment_arrives}
+use Rattle.tcp_machine.specs.Arrivals.{after_position_acknowledged, after_ack_field, heard, after_piece_of, after_segment_arrives, is_answered, after_unbelieved}
 use Rattle.tcp_machine.specs.Outgoing.{is_syn_sent}
 use Rattle.tcp_machine.proofs.PositionsLemmas.{position_right}
 use Rattle.tcp_laws.specs.Machines.{Sent, arrived}
@@ -156,16 +156,22 @@ knows_aborted g why c h =
 
 knows_unacceptable : (g : Given) (now : ℕ) (s : Segment) (c : Connection) → Knows g c → Knows g (after_unacceptable now s c)
 knows_unacceptable g now s c h =
-    either (Knows g) s.rst c
+    either (Knows g) (s.rst || not (is_answered s c)) c
     (if s.fin && is_time_wait c.state then with_time_wait now (with_pending Challenge c) else with_pending Challenge c) (λ _. h) (λ _.
     either (Knows g) (s.fin && is_time_wait c.state) (with_time_wait now (with_pending Challenge c)) (with_pending Challenge c)
     (λ _. knows_pending g Challenge c h) (λ _. knows_pending g Challenge c h))
 
+pub knows_unbelieved : (g : Given) (p : Piece) (c : Connection) → Knows g c → Knows g (after_unbelieved p c)
+knows_unbelieved g p c h = either (Knows g) (has_text p) (with_pending Challenge c) c (λ _. knows_pending g Challenge c h) (λ _. h)
+
 knows_reset : (g : Given) (p : Piece) (c : Connection) → Knows g c → Knows g (after_reset p c)
 knows_reset g p c h =
+    either (Knows g) (is_time_wait c.state) c
+    (if p.start == expected c.reception.receiver then ended (Some (why_reset c)) c
+    else if is_in_window c.reception.receiver p.start then with_pending Challenge c else c) (λ _. h) (λ _.
     either (Knows g) (p.start == expected c.reception.receiver) (ended (Some (why_reset c)) c)
     (if is_in_window c.reception.receiver p.start then with_pending Challenge c else c) (λ _. knows_ended g (Some (why_reset c)) c h) (λ _.
-    either (Knows g) (is_in_window c.reception.receiver p.start) (with_pending Challenge c) c (λ _. knows_pending g Challenge c h) (λ _. h))
+    either (Knows g) (is_in_window c.reception.receiver p.start) (with_pending Challenge c) c (λ _. knows_pending g Challenge c h) (λ _. h)))
 
 -- the own SYN is acknowledged
 abbrev pub IsUp : Given → Connection → Type 0
@@ -203,10 +209,12 @@ is_established g c h low =
     )
 
 pub knows_syn_again : (g : Given) (s : Segment) (c : Connection) → Knows g c → IsLow c →
-    Knows g (if is_own_syn_acknowledged s c then with_owed AtOnce (established c) else with_pending Challenge c)
+    Knows g (after_syn_once_more s c)
 knows_syn_again g s c h low =
-    either (Knows g) (is_own_syn_acknowledged s c) (with_owed AtOnce (established c)) (with_pending Challenge c)
-    (λ _. (is_established g c h low).0) (λ _. knows_pending g Challenge c h)
+    either (Knows g) (is_own_syn_acknowledged s c) (with_owed AtOnce (established c))
+    (if is_syn_again s c then with_pending SynAgain c else with_pending Challenge c) (λ _. (is_established g c h low).0) (λ _.
+    either (Knows g) (is_syn_again s c) (with_pending SynAgain c) (with_pending Challenge c)
+    (λ _. knows_pending g SynAgain c h) (λ _. knows_pending g Challenge c h))
 
 -- an acknowledgement moves una and nothing else of the sender's numbers
 acked_top : (a window : ℕ) (s : Sender) → (after_position a window s).top ≡ s.top
@@ -299,7 +307,7 @@ module _ (g : Given) (now a : ℕ) (s : Segment) (p : Piece) (far : a ≤ expect
       )) (λ _. h)
 
   up_acknowledgement : (c : Connection) → IsUp g c → a ≤ c.transmission.sender.top → IsUp g (after_acknowledgement now a s p c)
-  up_acknowledgement c h high = up_end (after_told a s p c (after_acked now a s p c)) (up_told c (after_acked now a s p c) (up_acked c h high))
+  up_acknowledgement c h high = up_end (with_waiting now c.transmission (after_told a s p c (after_acked now a s p c))) (up_told c (after_acked now a s p c) (up_acked c h high))
 
 pub up_entering : (g : Given) (now : ℕ) (before : State) (c : Connection) → IsUp g c → IsUp g (after_entering now before c)
 up_entering g now before c h =
@@ -342,11 +350,11 @@ module _ (g : Given) (now : ℕ) (keeps : Bool) (p : Piece) (k : PieceStands g.p
   knows_acknowledged a s c far h =
       let d = after_acknowledgement now a s p c in
       either (Knows g) (is_believed a c.transmission) (after_text now keeps p (after_last (after_entering now c.state d)))
-      (with_pending Challenge c) (λ e.
+      (after_unbelieved p c) (λ e.
       let high = believed c.transmission.sender.una a c.transmission.largest_window c.transmission.sender.top e in
       (up_text (after_last (after_entering now c.state d))
       (up_last g (after_entering now c.state d) (up_entering g now c.state d (up_acknowledgement g now a s p far c h high)))).0)
-      (λ _. knows_pending g Challenge c h.0)
+      (λ _. knows_unbelieved g p c h.0)
 
 -- a segment with a position arrives
 module _ (g : Given) (now : ℕ) (keeps : Bool) (k : Sent) (options : Options) (c : Connection) (h : Knows g c)
@@ -402,7 +410,7 @@ module _ (g : Given) (now : ℕ) (keeps : Bool) (k : Sent) (options : Options) (
   pub gets_plain : Knows g (after_segment_arrives now keeps s c)
   gets_plain =
       either (Knows g) (s.syn && not s.rst)
-      (if is_own_syn_acknowledged s c then with_owed AtOnce (established c) else with_pending Challenge c)
+      (after_syn_once_more s c)
       (after_piece_of now keeps (acceptable_piece c s) s c) (λ _. knows_syn_again g s c h low) (λ _.
       subst (λ o. Knows g (after_piece_of now keeps o s c)) (sym right_piece) (acceptable (is_acceptable c.reception.receiver (piece_of k))))
 
@@ -416,7 +424,7 @@ module _ (g : Given) (now : ℕ) (keeps : Bool) (s : Segment) (c : Connection) (
   pub gets_syn : s.syn ≡ true → s.rst ≡ false → Knows g (after_segment_arrives now keeps s c)
   gets_syn syn no_reset =
       either (Knows g) (s.syn && not s.rst)
-      (if is_own_syn_acknowledged s c then with_owed AtOnce (established c) else with_pending Challenge c)
+      (after_syn_once_more s c)
       (after_piece_of now keeps (acceptable_piece c s) s c) (λ _. knows_syn_again g s c h low) (λ e. not_both s.syn s.rst syn no_reset e)
 
   piece_reset : s.rst ≡ true → (o : Option Piece) → Knows g (after_piece_of now keeps o s c)
@@ -428,5 +436,5 @@ module _ (g : Given) (now : ℕ) (keeps : Bool) (s : Segment) (c : Connection) (
   pub gets_reset : s.rst ≡ true → Knows g (after_segment_arrives now keeps s c)
   gets_reset reset =
       either (Knows g) (s.syn && not s.rst)
-      (if is_own_syn_acknowledged s c then with_owed AtOnce (established c) else with_pending Challenge c)
+      (after_syn_once_more s c)
       (after_piece_of now keeps (acceptable_piece c s) s c) (λ _. knows_syn_again g s c h low) (λ _. piece_reset reset (acceptable_piece c s))

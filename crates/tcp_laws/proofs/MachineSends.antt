@@ -1,10 +1,10 @@
 -- What a connection sends stands in the stream.
 use Rattle.std.proofs.Common.{◌≡◌, ◌<◌, ◌≤◌, ◌+◌, ◌-◌, ℕ, Bool, true, false, List, [], ◌∷◌, ◌++◌, length, take, drop}
 use Rattle.std.proofs.Common.{refl, sym, ap, subst, ◌∙◌, arith, Option, Some, None, inl, inr}
-use Rattle.std.specs.Prelude.{max, min, map, nat_le, ◌&&◌, ◌||◌, not, if◌then◌else◌}
+use Rattle.std.specs.Prelude.{max, min, map, nat_le, ◌&&◌, ◌||◌, not}
 use Rattle.std.specs.List.{All}
 use Rattle.tcp_machine.specs.Sack.{Block}
-use Rattle.tcp_machine.specs.Outgoing.{block_on_wire, blocks_told, blocks_on_wire}
+use Rattle.tcp_machine.specs.Outgoing.{block_on_wire, blocks_told, blocks_on_wire, action_in_opening, is_challenge, is_syn_sent}
 use Rattle.std.proofs.lemmas.Bool.Decides.{nat_tests}
 use Rattle.std.proofs.lemmas.Option.{none-some}
 use Rattle.std.proofs.lemmas.List.{length-take, length-drop, take-append-drop}
@@ -13,7 +13,7 @@ use Rattle.tcp_machine.specs.declared.state.State.{State}
 use Rattle.tcp_machine.specs.declared.state.State.TheVariants.{Closed, Listen, SynSent, SynReceived, Established, FinWait1}
 use Rattle.tcp_machine.specs.declared.state.State.TheVariants.{FinWait2, CloseWait, Closing, LastAck, TimeWait}
 use Rattle.tcp_machine.specs.declared.timers.Pending.{Pending}
-use Rattle.tcp_machine.specs.declared.timers.Pending.TheVariants.{Empty, Challenge, Resend, Probe, KeepAlive, Reset}
+use Rattle.tcp_machine.specs.declared.timers.Pending.TheVariants.{Empty, Challenge, Resend, Probe, KeepAlive, Reset, SynAgain}
 use Rattle.tcp_machine.specs.Positions.{number_at}
 use Rattle.tcp_machine.specs.Pieces.{Piece, after_piece}
 use Rattle.tcp_machine.specs.Sending.{Sender, after_send}
@@ -321,6 +321,7 @@ module _ (g : Given) (now : ℕ) (c : Connection) (h : Knows g c) where
       (λ e. known_next (sends_synchronized c.state (first_of_two (sends_octets c.state) (is_worth_sending c (next_piece c)) e)))
       (λ _. known_acks (is_synchronized c.state && tells_something now c))
   known_pending Challenge = known_acks (is_synchronized c.state)
+  known_pending SynAgain = known_acks (is_synchronized c.state)
   known_pending KeepAlive = known_keep
   known_pending Probe =
       either (IsSent g now c) (sends_octets c.state && has_octets (next_piece c)) (Some (SendNext (next_piece c)))
@@ -332,10 +333,11 @@ module _ (g : Given) (now : ℕ) (c : Connection) (h : Knows g c) where
 
   known_sends : IsSent g now c (action now c)
   known_sends =
-      either (IsSent g now c) (is_opening c.state && not (is_reset c.pending)) (if is_syn_due now c then Some SendSyn else None)
+      either (IsSent g now c) (is_opening c.state && not (is_reset c.pending)) (action_in_opening now c)
       (action_pending c.pending now c) (λ e.
-      either (IsSent g now c) (is_syn_due now c) (Some SendSyn) None
-      (λ _. known_syn (first_of_two (is_opening c.state) (not (is_reset c.pending)) e)) (λ _. inl h)) (λ _. known_pending c.pending)
+      either (IsSent g now c) (is_syn_due now c) (Some SendSyn) (ack_if (is_challenge c.pending && not (is_syn_sent c.state)))
+      (λ _. known_syn (first_of_two (is_opening c.state) (not (is_reset c.pending)) e))
+      (λ _. known_acks (is_challenge c.pending && not (is_syn_sent c.state)))) (λ _. known_pending c.pending)
 
 -- in SYN-SENT
 module _ (g : Given) (now : ℕ) (c : Connection) (h : Asks g c) where
@@ -358,9 +360,18 @@ module _ (g : Given) (now : ℕ) (c : Connection) (h : Asks g c) where
             (syn_stands g.i g.j c.transmission.sender g.written c.reception.receiver c k.local) h.1,
       ))
 
+  asking_ack : (b : Bool) → b ≡ false → IsSent g now c (ack_if b)
+  asking_ack true e = false_true (sym e)
+  asking_ack false e = inr (inl h)
+
+  without : (a b : Bool) → b ≡ true → a && not b ≡ false
+  without true b e = ap not e
+  without false b e = refl
+
   asking_pending : (p : Pending) → not (is_reset p) ≡ false → IsSent g now c (action_pending p now c)
   asking_pending Empty e = false_true (sym e)
   asking_pending Challenge e = false_true (sym e)
+  asking_pending SynAgain e = false_true (sym e)
   asking_pending KeepAlive e = false_true (sym e)
   asking_pending Probe e = false_true (sym e)
   asking_pending Resend e = false_true (sym e)
@@ -372,9 +383,11 @@ module _ (g : Given) (now : ℕ) (c : Connection) (h : Asks g c) where
 
   asking_sends : IsSent g now c (action now c)
   asking_sends =
-      either (IsSent g now c) (is_opening c.state && not (is_reset c.pending)) (if is_syn_due now c then Some SendSyn else None)
+      either (IsSent g now c) (is_opening c.state && not (is_reset c.pending)) (action_in_opening now c)
       (action_pending c.pending now c)
-      (λ _. either (IsSent g now c) (is_syn_due now c) (Some SendSyn) None (λ _. asking_syn) (λ _. inr (inl h)))
+      (λ _. either (IsSent g now c) (is_syn_due now c) (Some SendSyn) (ack_if (is_challenge c.pending && not (is_syn_sent c.state)))
+      (λ _. asking_syn) (λ _. asking_ack (is_challenge c.pending && not (is_syn_sent c.state))
+      (without (is_challenge c.pending) (is_syn_sent c.state) (ap is_syn_sent h.0.state))))
       (λ e. asking_pending c.pending (reset_only (is_opening c.state) (not (is_reset c.pending)) (ap is_opening h.0.state) e))
 
 -- after the connection is gone
@@ -404,6 +417,7 @@ module _ (g : Given) (now : ℕ) (c : Connection) (h : IsGone g c) where
       (λ _. silent (is_synchronized c.state && tells_something now c)
       (both (is_synchronized c.state) (tells_something now c) (ap is_synchronized h.0.state)))
   gone_pending Challenge e = false_true e
+  gone_pending SynAgain e = false_true e
   gone_pending KeepAlive e = false_true e
   gone_pending Probe e = false_true e
   gone_pending Resend e = false_true e
@@ -411,7 +425,7 @@ module _ (g : Given) (now : ℕ) (c : Connection) (h : IsGone g c) where
 
   gone_sends : IsSent g now c (action now c)
   gone_sends =
-      either (IsSent g now c) (is_opening c.state && not (is_reset c.pending)) (if is_syn_due now c then Some SendSyn else None)
+      either (IsSent g now c) (is_opening c.state && not (is_reset c.pending)) (action_in_opening now c)
       (action_pending c.pending now c)
       (λ e. false_true (sym (ap is_opening h.0.state) ∙ first_of_two (is_opening c.state) (not (is_reset c.pending)) e))
       (λ _. gone_pending c.pending h.0.pending)

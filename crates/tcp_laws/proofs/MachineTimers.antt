@@ -19,7 +19,7 @@ use Rattle.tcp_machine.specs.Estimator as estimator
 use Rattle.tcp_machine.specs.Acknowledgements.{rank, with_pending, empty_position}
 use Rattle.tcp_machine.specs.Arrivals.{is_time_wait, is_syn_received, is_closed, ended, aborted, established, heard}
 use Rattle.tcp_machine.specs.Opening.{with_syn, is_acknowledgement_of_syn, after_wrong_ack, after_syn, after_arrival_in_syn_sent}
-use Rattle.tcp_machine.specs.Timers.{is_held_back, with_probe_timer, is_given_up, after_loss_of_all, is_unheard}
+use Rattle.tcp_machine.specs.Timers.{is_held_back, with_probe_timer, is_given_up, after_loss_of_all, is_unheard, after_user_timeout, gives_up_at}
 use Rattle.tcp_machine.specs.Timers.{after_probe_time, after_resend_timer, most_probes, keep_alive_at, asked_at, after_question}
 use Rattle.tcp_machine.specs.Timers.{is_all_acknowledged, after_keep_alive}
 use Rattle.tcp_machine.specs.Timers.{after_time_wait, after_timers}
@@ -109,10 +109,10 @@ none_passed o now e f = false_true (sym f ∙ ap (λ o. not (has_passed o now)) 
 
 probe_time : (g : Given) (now : ℕ) (c : Connection) → (Knows g c ⊎ Asks g c) → Good g (after_probe_time now c)
 probe_time g now c (inl h) =
-    inl (either (Knows g) (is_unheard now c && nat_lt 0 c.timers.probes) (aborted TimedOut c) (with_pending Probe (probing c))
+    inl (either (Knows g) (is_unheard c) (aborted TimedOut c) (with_pending Probe (probing c))
     (λ _. knows_aborted g TimedOut c h) (λ _. knows_pending g Probe (probing c) h))
 probe_time g now c (inr h) =
-    either (Good g) (is_unheard now c && nat_lt 0 c.timers.probes) (aborted TimedOut c) (with_pending Probe (probing c))
+    either (Good g) (is_unheard c) (aborted TimedOut c) (with_pending Probe (probing c))
     (λ _. inr (inr (is_aborted g TimedOut c h.0.local h.1))) (λ _. inr (inl (asks_pending g Probe (probing c) h)))
 
 resend : (g : Given) (now : ℕ) (c : Connection) → Good g c → Good g (after_resend_timer now c)
@@ -121,24 +121,32 @@ resend g now c h = by h where
   by (inl h) =
       either (Good g) (not (has_passed c.timers.resend_at now)) c
       (if is_held_back c && not (is_opening c.state) then after_probe_time now c
-      else if is_given_up now c then aborted TimedOut c else after_loss_of_all c) (λ _. inl h) (λ _.
+      else if is_given_up c then aborted TimedOut c else after_loss_of_all c) (λ _. inl h) (λ _.
       either (Good g) (is_held_back c && not (is_opening c.state)) (after_probe_time now c)
-      (if is_given_up now c then aborted TimedOut c else after_loss_of_all c) (λ _. probe_time g now c (inl h)) (λ _.
-      either (Good g) (is_given_up now c) (aborted TimedOut c) (after_loss_of_all c) (λ _. inl (knows_aborted g TimedOut c h))
+      (if is_given_up c then aborted TimedOut c else after_loss_of_all c) (λ _. probe_time g now c (inl h)) (λ _.
+      either (Good g) (is_given_up c) (aborted TimedOut c) (after_loss_of_all c) (λ _. inl (knows_aborted g TimedOut c h))
       (λ _. inl (knows_loss g c h))))
   by (inr (inl h)) =
       either (Good g) (not (has_passed c.timers.resend_at now)) c
       (if is_held_back c && not (is_opening c.state) then after_probe_time now c
-      else if is_given_up now c then aborted TimedOut c else after_loss_of_all c) (λ _. inr (inl h)) (λ _.
+      else if is_given_up c then aborted TimedOut c else after_loss_of_all c) (λ _. inr (inl h)) (λ _.
       either (Good g) (is_held_back c && not (is_opening c.state)) (after_probe_time now c)
-      (if is_given_up now c then aborted TimedOut c else after_loss_of_all c) (λ _. probe_time g now c (inr h)) (λ _.
-      either (Good g) (is_given_up now c) (aborted TimedOut c) (after_loss_of_all c)
+      (if is_given_up c then aborted TimedOut c else after_loss_of_all c) (λ _. probe_time g now c (inr h)) (λ _.
+      either (Good g) (is_given_up c) (aborted TimedOut c) (after_loss_of_all c)
       (λ _. inr (inr (is_aborted g TimedOut c h.0.local h.1))) (λ _. inr (inl (asks_loss g c h)))))
   by (inr (inr h)) =
       either (Good g) (not (has_passed c.timers.resend_at now)) c
       (if is_held_back c && not (is_opening c.state) then after_probe_time now c
-      else if is_given_up now c then aborted TimedOut c else after_loss_of_all c) (λ _. inr (inr h))
+      else if is_given_up c then aborted TimedOut c else after_loss_of_all c) (λ _. inr (inr h))
       (λ e. none_passed c.timers.resend_at now h.0.resend_at e)
+
+-- the program's time-out
+user_timeout : (g : Given) (now : ℕ) (c : Connection) → Good g c → Good g (after_user_timeout now c)
+user_timeout g now c h = either (Good g) (has_passed (gives_up_at c) now) (aborted TimedOut c) c (λ _. by h) (λ _. h) where
+  by : Good g c → Good g (aborted TimedOut c)
+  by (inl h) = inl (knows_aborted g TimedOut c h)
+  by (inr (inl h)) = inr (inr (is_aborted g TimedOut c h.0.local h.1))
+  by (inr (inr h)) = inr (inr (is_aborted g TimedOut c h.0.local h.1))
 
 -- keep-alive
 abbrev pub once_more : ℕ → Connection → Connection
@@ -189,9 +197,10 @@ probe_timer g now c (inr (inr h)) =
 
 pub expires : (g : Given) (now : ℕ) (c : Connection) → Good g c → Good g (after_timers now c)
 expires g now c h =
-    let a = after_time_wait now c in
+    let z = after_time_wait now c in
+    let a = after_user_timeout now z in
     let b = after_resend_timer now a in
-    probe_timer g now (after_keep_alive now b) (keep_alive g now b (resend g now a (time_wait g now c h)))
+    probe_timer g now (after_keep_alive now b) (keep_alive g now b (resend g now a (user_timeout g now z (time_wait g now c h))))
 
 -- the program closes
 closing_synchronized : (s : State) → is_synchronized (after_program_closes s) ≡ true → is_synchronized s ≡ true

@@ -6,7 +6,7 @@ use Rattle.tcp_machine.specs.declared.state.State.{State}
 use Rattle.tcp_machine.specs.declared.state.State.TheVariants.{Closed, Listen, SynSent, SynReceived, Established, FinWait1}
 use Rattle.tcp_machine.specs.declared.state.State.TheVariants.{FinWait2, CloseWait, Closing, LastAck, TimeWait}
 use Rattle.tcp_machine.specs.declared.timers.Pending.{Pending}
-use Rattle.tcp_machine.specs.declared.timers.Pending.TheVariants.{Challenge, Resend, Probe, KeepAlive, Reset}
+use Rattle.tcp_machine.specs.declared.timers.Pending.TheVariants.{Challenge, Resend, Probe, KeepAlive, Reset, SynAgain}
 use Rattle.tcp_machine.specs.declared.timers.Owed.{Owed}
 use Rattle.tcp_machine.specs.declared.timers.Owed.TheVariants.{AtOnce}
 use Rattle.tcp_machine.specs.declared.timers.Ending.{Ending}
@@ -16,35 +16,36 @@ use Rattle.tcp_machine.specs.Positions.{number_at}
 use Rattle.tcp_machine.specs.Pieces.{Piece}
 use Rattle.tcp_machine.specs.Sending.{after_position, after_close}
 use Rattle.tcp_machine.specs.Receiving.{expected, first_new, with_piece, is_in_window}
-use Rattle.tcp_machine.specs.States.{is_synchronized, is_opening, sends_octets, takes_octets, after_program_closes, after_peers_end}
+use Rattle.tcp_machine.specs.States.{is_synchronized, sends_octets, takes_octets, after_program_closes, after_peers_end, is_opening}
 use Rattle.tcp_machine.specs.States.{after_end_acknowledged}
+use Rattle.tcp_machine.specs.Outgoing.{is_syn_sent}
 use Rattle.tcp_machine.specs.Connection.{Connection, Reception, most_tries}
 use Rattle.tcp_machine.specs.Segments.{Segment, window_in, acceptable_piece, acknowledged_in}
 use Rattle.tcp_machine.specs.Windows.{after_window}
 use Rattle.tcp_machine.specs.Congestion as congestion
 use Rattle.tcp_machine.specs.Estimator as estimator
-use Rattle.tcp_machine.specs.Acknowledgements.{rank, with_pending, empty_position, is_believed, is_end_acknowledged, is_duplicate}
+use Rattle.tcp_machine.specs.Acknowledgements.{rank, with_pending, empty_position, is_believed, is_end_acknowledged, is_duplicate, with_waiting}
 use Rattle.tcp_machine.specs.Acknowledgements.{after_progress, after_duplicate, after_acked, after_told, after_end}
 use Rattle.tcp_machine.specs.Acknowledgements.{after_acknowledgement, flight}
-use Rattle.tcp_machine.specs.Arrivals.{is_time_wait, is_syn_received, is_closed, with_owed, ended, aborted, with_time_wait, after_entering}
+use Rattle.tcp_machine.specs.Arrivals.{is_time_wait, is_syn_received, is_closed, with_owed, ended, aborted, with_time_wait, after_entering, after_syn_once_more, is_syn_again, state_after_handshake}
 use Rattle.tcp_machine.specs.Arrivals.{after_unacceptable, why_reset, after_reset, is_own_syn_acknowledged, established}
 use Rattle.tcp_machine.specs.Arrivals.{reception_after, has_text, after_octets_of, has_ended, after_fin, after_text, after_last}
-use Rattle.tcp_machine.specs.Arrivals.{after_position_acknowledged, after_ack_field, heard, after_piece_of, after_segment_arrives}
+use Rattle.tcp_machine.specs.Arrivals.{after_position_acknowledged, after_ack_field, heard, after_piece_of, after_segment_arrives, is_answered, after_unbelieved}
 use Rattle.tcp_machine.specs.Opening.{with_syn, is_acknowledgement_of_syn, after_wrong_ack, after_syn, after_arrival_in_syn_sent}
 use Rattle.tcp_machine.specs.Opening.{after_arrival_in}
 use Rattle.tcp_machine.specs.Calls.{with_sender, closes_at_once, after_closing, after_abort}
-use Rattle.tcp_machine.specs.Timers.{is_held_back, with_probe_timer, is_given_up, after_loss_of_all, is_unheard}
+use Rattle.tcp_machine.specs.Timers.{is_held_back, with_probe_timer, is_given_up, after_loss_of_all, is_unheard, after_user_timeout, gives_up_at}
 use Rattle.tcp_machine.specs.Timers.{after_probe_time, after_resend_timer, most_probes, keep_alive_at, after_question, after_keep_alive}
 use Rattle.tcp_machine.specs.Timers.{after_time_wait, after_timers}
 use Rattle.tcp_laws.proofs.Lists.{length-filled}
 use Rattle.tcp_laws.proofs.ReceivingSteps.{false_true, expected_kept}
-use Rattle.tcp_laws.proofs.MachineArrivals.{either, handshake_opening}
+use Rattle.tcp_laws.proofs.MachineArrivals.{either}
 
 -- A reception after another one, with which a connection was in a state
 pub record Onward (st : State) (r : Reception) (s : State) (q : Reception) : Type 0 where
-  pub opens : is_opening s ≡ true → is_opening st ≡ true
+  pub opens : is_syn_sent s ≡ true → is_syn_sent st ≡ true
   pub promised : q.promised ≡ r.promised
-  pub scale : is_opening st ≡ false → q.scale ≡ r.scale
+  pub scale : is_syn_sent st ≡ false → q.scale ≡ r.scale
   pub expected : expected r.receiver ≤ expected q.receiver
   pub base : r.receiver.base ≤ q.receiver.base
   pub places : length q.receiver.cells ≡ length r.receiver.cells
@@ -59,10 +60,14 @@ onward_same s r = record {
   places = refl;
 }
 
-never_opens : {P : Type 0} (s : State) → is_opening s ≡ false → is_opening s ≡ true → P
+never_opens : {P : Type 0} (s : State) → is_syn_sent s ≡ false → is_syn_sent s ≡ true → P
 never_opens s e f = false_true (sym e ∙ f)
 
-end_keeps : (s : State) → is_opening (after_end_acknowledged s) ≡ true → is_opening s ≡ true
+handshake_knows : (stop : Option ℕ) → is_syn_sent (state_after_handshake stop) ≡ false
+handshake_knows None = refl
+handshake_knows (Some end) = refl
+
+end_keeps : (s : State) → is_syn_sent (after_end_acknowledged s) ≡ true → is_syn_sent s ≡ true
 end_keeps Closed e = e
 end_keeps Listen e = e
 end_keeps SynSent e = e
@@ -75,7 +80,7 @@ end_keeps Closing e = false_true e
 end_keeps LastAck e = false_true e
 end_keeps TimeWait e = e
 
-peers_end_keeps : (s : State) → is_opening (after_peers_end s) ≡ true → is_opening s ≡ true
+peers_end_keeps : (s : State) → is_syn_sent (after_peers_end s) ≡ true → is_syn_sent s ≡ true
 peers_end_keeps Closed e = e
 peers_end_keeps Listen e = e
 peers_end_keeps SynSent e = e
@@ -88,7 +93,7 @@ peers_end_keeps Closing e = e
 peers_end_keeps LastAck e = e
 peers_end_keeps TimeWait e = e
 
-close_keeps : (s : State) → is_opening (after_program_closes s) ≡ true → is_opening s ≡ true
+close_keeps : (s : State) → is_syn_sent (after_program_closes s) ≡ true → is_syn_sent s ≡ true
 close_keeps Closed e = e
 close_keeps Listen e = false_true e
 close_keeps SynSent e = false_true e
@@ -106,7 +111,7 @@ module _ (st : State) (r : Reception) where
   On c = Onward st r c.state c.reception
 
   -- another state
-  moved : (s : State) (q : Reception) (t : State) → (is_opening t ≡ true → is_opening s ≡ true) → Onward st r s q → Onward st r t q
+  moved : (s : State) (q : Reception) (t : State) → (is_syn_sent t ≡ true → is_syn_sent s ≡ true) → Onward st r s q → Onward st r t q
   moved s q t m h = record {
     opens = λ e. h.opens (m e);
     promised = h.promised;
@@ -151,21 +156,27 @@ module _ (st : State) (r : Reception) where
 
   on_unacceptable : (now : ℕ) (s : Segment) (c : Connection) → On c → On (after_unacceptable now s c)
   on_unacceptable now s c h =
-      either On s.rst c
+      either On (s.rst || not (is_answered s c)) c
       (if s.fin && is_time_wait c.state then with_time_wait now (with_pending Challenge c) else with_pending Challenge c) (λ _. h) (λ _.
       either On (s.fin && is_time_wait c.state) (with_time_wait now (with_pending Challenge c)) (with_pending Challenge c)
       (λ _. on_pending Challenge c h) (λ _. on_pending Challenge c h))
 
+  on_unbelieved : (p : Piece) (c : Connection) → On c → On (after_unbelieved p c)
+  on_unbelieved p c h = either On (has_text p) (with_pending Challenge c) c (λ _. on_pending Challenge c h) (λ _. h)
+
   on_reset : (p : Piece) (c : Connection) → On c → On (after_reset p c)
   on_reset p c h =
+      either On (is_time_wait c.state) c
+      (if p.start == expected c.reception.receiver then ended (Some (why_reset c)) c
+      else if is_in_window c.reception.receiver p.start then with_pending Challenge c else c) (λ _. h) (λ _.
       either On (p.start == expected c.reception.receiver) (ended (Some (why_reset c)) c)
       (if is_in_window c.reception.receiver p.start then with_pending Challenge c else c) (λ _. on_ended (Some (why_reset c)) c h) (λ _.
-      either On (is_in_window c.reception.receiver p.start) (with_pending Challenge c) c (λ _. on_pending Challenge c h) (λ _. h))
+      either On (is_in_window c.reception.receiver p.start) (with_pending Challenge c) c (λ _. on_pending Challenge c h) (λ _. h)))
 
   on_established : (c : Connection) → On c → On (established c)
   on_established c h =
       moved c.state c.reception (established c).state
-      (λ e. never_opens (established c).state (handshake_opening c.transmission.sender.stop) e) h
+      (λ e. never_opens (established c).state (handshake_knows c.transmission.sender.stop) e) h
 
   -- acknowledgements
   module _ (now a : ℕ) (s : Segment) (p : Piece) where
@@ -190,7 +201,7 @@ module _ (st : State) (r : Reception) where
         (λ _. moved c.state c.reception (after_end_acknowledged c.state) (end_keeps c.state) h) (λ _. h)
 
     on_acknowledgement : (c : Connection) → On c → On (after_acknowledgement now a s p c)
-    on_acknowledgement c h = on_end (after_told a s p c (after_acked now a s p c)) (on_told c (after_acked now a s p c) (on_acked c h))
+    on_acknowledgement c h = on_end (with_waiting now c.transmission (after_told a s p c (after_acked now a s p c))) (on_told c (after_acked now a s p c) (on_acked c h))
 
   -- octets, and the end
   onto : (x y z : ℕ) → x ≤ y → y ≤ z → x ≤ z
@@ -228,13 +239,13 @@ module _ (st : State) (r : Reception) where
 
   module _ (now : ℕ) (keeps : Bool) (s : Segment) where
     on_position : (o : Option ℕ) (p : Piece) (c : Connection) → On c → On (after_position_acknowledged now keeps o s p c)
-    on_position None p c h = on_pending Challenge c h
+    on_position None p c h = on_unbelieved p c h
     on_position (Some a) p c h =
         let d = after_entering now c.state (after_acknowledgement now a s p c) in
-        either On (is_believed a c.transmission) (after_text now keeps p (after_last d)) (with_pending Challenge c) (λ _.
+        either On (is_believed a c.transmission) (after_text now keeps p (after_last d)) (after_unbelieved p c) (λ _.
         on_fin now (after_octets_of now keeps p (after_last d)) (on_octets now keeps p (after_last d)
         (on_last d (on_entering now c.state (after_acknowledgement now a s p c) (on_acknowledgement now a s p c h)))))
-        (λ _. on_pending Challenge c h)
+        (λ _. on_unbelieved p c h)
 
     on_ack_field : (o : Option ℕ) (p : Piece) (c : Connection) → On c → On (after_ack_field now keeps o s p c)
     on_ack_field None p c h = h
@@ -254,15 +265,18 @@ module _ (st : State) (r : Reception) where
     on_segment : (c : Connection) → On c → On (after_segment_arrives now keeps s c)
     on_segment c h =
         either On (s.syn && not s.rst)
-        (if is_own_syn_acknowledged s c then with_owed AtOnce (established c) else with_pending Challenge c)
+        (after_syn_once_more s c)
         (after_piece_of now keeps (acceptable_piece c s) s c) (λ _.
-        either On (is_own_syn_acknowledged s c) (with_owed AtOnce (established c)) (with_pending Challenge c)
-        (λ _. owing (established c).state c.reception AtOnce (on_established c h)) (λ _. on_pending Challenge c h))
+        either On (is_own_syn_acknowledged s c) (with_owed AtOnce (established c))
+        (if is_syn_again s c then with_pending SynAgain c else with_pending Challenge c)
+        (λ _. owing (established c).state c.reception AtOnce (on_established c h)) (λ _.
+        either On (is_syn_again s c) (with_pending SynAgain c) (with_pending Challenge c)
+        (λ _. on_pending SynAgain c h) (λ _. on_pending Challenge c h)))
         (λ _. on_piece (acceptable_piece c s) c h)
 
     -- the peer's SYN tells whether windows are scaled
     module _ (default link : ℕ) where
-      scaled : (c : Connection) → is_opening st ≡ true → On c → On (with_syn default link s c)
+      scaled : (c : Connection) → is_syn_sent st ≡ true → On c → On (with_syn default link s c)
       scaled c o h = record {
         opens = λ _. o;
         promised = h.promised;
@@ -272,7 +286,7 @@ module _ (st : State) (r : Reception) where
         places = h.places;
       }
 
-      opening : (s t : State) (q : Reception) → is_opening st ≡ true → Onward st r s q → Onward st r t q
+      opening : (s t : State) (q : Reception) → is_syn_sent st ≡ true → Onward st r s q → Onward st r t q
       opening s t q o h = record {
         opens = λ _. o;
         promised = h.promised;
@@ -282,7 +296,7 @@ module _ (st : State) (r : Reception) where
         places = h.places;
       }
 
-      on_syn : (b : Bool) (c : Connection) → is_opening st ≡ true → On c → On (after_syn default link now b s c)
+      on_syn : (b : Bool) (c : Connection) → is_syn_sent st ≡ true → On c → On (after_syn default link now b s c)
       on_syn true c o h =
           let d = with_syn default link s (heard now c) in
           owing (established d).state d.reception AtOnce (on_established d (scaled (heard now c) o h))
@@ -294,7 +308,7 @@ module _ (st : State) (r : Reception) where
       on_wrong_ack None c h = h
       on_wrong_ack (Some n) c h = either On s.rst c (with_pending (Reset n) c) (λ _. h) (λ _. on_pending (Reset n) c h)
 
-      on_asking : (c : Connection) → is_opening st ≡ true → On c → On (after_arrival_in_syn_sent default link now s c)
+      on_asking : (c : Connection) → is_syn_sent st ≡ true → On c → On (after_arrival_in_syn_sent default link now s c)
       on_asking c o h =
           either On (is_acknowledgement_of_syn s c)
           (if s.rst then ended (Some Refused) c else if s.syn then after_syn default link now true s c else c)
@@ -309,7 +323,7 @@ module _ (st : State) (r : Reception) where
       pub on_in : (t : State) (c : Connection) → c.state ≡ t → On c → On (after_arrival_in t default link now keeps s c)
       on_in Closed c e h = h
       on_in Listen c e h = h
-      on_in SynSent c e h = on_asking c (h.opens (ap is_opening e)) h
+      on_in SynSent c e h = on_asking c (h.opens (ap is_syn_sent e)) h
       on_in SynReceived c e h = on_segment c h
       on_in Established c e h = on_segment c h
       on_in FinWait1 c e h = on_segment c h
@@ -323,24 +337,27 @@ module _ (st : State) (r : Reception) where
   on_time_wait : (now : ℕ) (c : Connection) → On c → On (after_time_wait now c)
   on_time_wait now c h = either On (has_passed c.timers.ends_at now) (ended None c) c (λ _. on_ended None c h) (λ _. h)
 
+  on_user_timeout : (now : ℕ) (c : Connection) → On c → On (after_user_timeout now c)
+  on_user_timeout now c h = either On (has_passed (gives_up_at c) now) (aborted TimedOut c) c (λ _. on_aborted TimedOut c h) (λ _. h)
+
   on_probe_time : (now : ℕ) (c : Connection) → On c → On (after_probe_time now c)
   on_probe_time now c h =
       let d : Connection = record c {
         estimator = estimator.after_timeout c.estimator;
         timers = record c.timers { resend_at = None; probes = min most_tries (c.timers.probes + 1) };
       } in
-      either On (is_unheard now c && nat_lt 0 c.timers.probes) (aborted TimedOut c) (with_pending Probe d) (λ _. on_aborted TimedOut c h)
+      either On (is_unheard c) (aborted TimedOut c) (with_pending Probe d) (λ _. on_aborted TimedOut c h)
       (λ _. on_pending Probe d h)
 
   on_resend : (now : ℕ) (c : Connection) → On c → On (after_resend_timer now c)
   on_resend now c h =
       either On (not (has_passed c.timers.resend_at now)) c
       (if is_held_back c && not (is_opening c.state) then after_probe_time now c
-      else if is_given_up now c then aborted TimedOut c
+      else if is_given_up c then aborted TimedOut c
       else after_loss_of_all c) (λ _. h) (λ _.
       either On (is_held_back c && not (is_opening c.state)) (after_probe_time now c)
-      (if is_given_up now c then aborted TimedOut c else after_loss_of_all c) (λ _. on_probe_time now c h)
-      (λ _. either On (is_given_up now c) (aborted TimedOut c) (after_loss_of_all c) (λ _. on_aborted TimedOut c h) (λ _. h)))
+      (if is_given_up c then aborted TimedOut c else after_loss_of_all c) (λ _. on_probe_time now c h)
+      (λ _. either On (is_given_up c) (aborted TimedOut c) (after_loss_of_all c) (λ _. on_aborted TimedOut c h) (λ _. h)))
 
   on_keep_alive : (now : ℕ) (c : Connection) → On c → On (after_keep_alive now c)
   on_keep_alive now c h =
@@ -357,9 +374,10 @@ module _ (st : State) (r : Reception) where
 
   pub on_timers : (now : ℕ) (c : Connection) → On c → On (after_timers now c)
   on_timers now c h =
-      let a = after_time_wait now c in
+      let z = after_time_wait now c in
+      let a = after_user_timeout now z in
       let b = after_resend_timer now a in
-      on_probe_timer now (after_keep_alive now b) (on_keep_alive now b (on_resend now a (on_time_wait now c h)))
+      on_probe_timer now (after_keep_alive now b) (on_keep_alive now b (on_resend now a (on_user_timeout now z (on_time_wait now c h))))
 
   -- what a program does but for reading
   pub on_closing : (c : Connection) → On c → On (after_closing c)

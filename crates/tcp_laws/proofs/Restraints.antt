@@ -8,8 +8,7 @@ use Rattle.tcp_machine.specs.declared.state.State.{State}
 use Rattle.tcp_machine.specs.declared.state.State.TheVariants.{Closed, Listen, SynSent, SynReceived, Established, FinWait1}
 use Rattle.tcp_machine.specs.declared.state.State.TheVariants.{FinWait2, CloseWait, Closing, LastAck, TimeWait}
 use Rattle.tcp_machine.specs.declared.timers.Pending.{Pending}
-use Rattle.tcp_machine.specs.declared.timers.Pending.TheVariants.{Empty, Challenge, Resend, Probe, KeepAlive, Reset}
-use Rattle.tcp_machine.specs.declared.timers.Owed.TheVariants.{AtOnce}
+use Rattle.tcp_machine.specs.declared.timers.Pending.TheVariants.{Empty, Challenge, Resend, Probe, KeepAlive, Reset, SynAgain}
 use Rattle.tcp_machine.specs.declared.timers.Ending.TheVariants.{Refused}
 use Rattle.tcp_machine.specs.Positions.{number_at, position_near}
 use Rattle.tcp_machine.specs.Pieces.{Piece, after_piece}
@@ -18,11 +17,11 @@ use Rattle.tcp_machine.specs.States.{is_opening, is_synchronized, sends_octets}
 use Rattle.tcp_machine.specs.Connection.{Connection}
 use Rattle.tcp_machine.specs.Segments.{Segment, acceptable_piece}
 use Rattle.tcp_machine.specs.Acknowledgements.{rank, with_pending}
-use Rattle.tcp_machine.specs.Arrivals.{is_time_wait, with_owed, ended, with_time_wait, why_reset, after_reset}
-use Rattle.tcp_machine.specs.Arrivals.{is_own_syn_acknowledged, established, after_ack_field, heard, after_piece_of, after_segment_arrives}
+use Rattle.tcp_machine.specs.Arrivals.{is_time_wait, ended, with_time_wait, why_reset, after_reset, after_syn_once_more}
+use Rattle.tcp_machine.specs.Arrivals.{after_ack_field, heard, after_piece_of, after_segment_arrives, is_answered}
 use Rattle.tcp_machine.specs.Opening.{is_acknowledgement_of_syn, after_wrong_ack, after_syn, after_arrival_in_syn_sent, after_arrival_in}
-use Rattle.tcp_machine.specs.Outgoing.{Action, SendSyn, SendNext, next_piece, is_worth_sending, ack_if, tells_something}
-use Rattle.tcp_machine.specs.Outgoing.{action_pending, is_reset, is_syn_due}
+use Rattle.tcp_machine.specs.Outgoing.{Action, SendNext, next_piece, is_worth_sending, ack_if, tells_something, action_in_opening}
+use Rattle.tcp_machine.specs.Outgoing.{action_pending, is_reset}
 use Rattle.tcp_laws.specs.Restraint.{IsUntouched, IsOutside, OutsideChangesNothing, OtherResetsChangeNothing, EarlyResetsChangeNothing}
 use Rattle.tcp_laws.specs.Restraint.{NoResetAnswersAReset, ClosedIsSilent}
 use Rattle.tcp_laws.proofs.ReceivingSteps.{false_true, is_at_some, first_of_two}
@@ -32,6 +31,7 @@ use Rattle.tcp_laws.proofs.MachineArrivals.{either}
 lowest : (p : Pending) → nat_lt (rank p) 1 ≡ true → p ≡ Empty
 lowest Empty e = refl
 lowest Challenge e = false_true e
+lowest SynAgain e = false_true e
 lowest KeepAlive e = false_true e
 lowest Probe e = false_true e
 lowest Resend e = false_true e
@@ -119,15 +119,19 @@ outside_changes_nothing now keeps s c p syn wait at outside =
     let none : acceptable_piece c s ≡ None =
     ap (λ o. option_and_then f (option_map read o)) at ∙ ap (λ b. if b then Some piece else None) (unacceptable r piece outside) in
     either (IsUntouched c) (s.syn && not s.rst)
-    (if is_own_syn_acknowledged s c then with_owed AtOnce (established c) else with_pending Challenge c)
+    (after_syn_once_more s c)
     (after_piece_of now keeps (acceptable_piece c s) s c) (λ e. no_syn s.syn (not s.rst) syn e) (λ _.
     subst (λ o. IsUntouched c (after_piece_of now keeps o s c)) (sym none)
-    (either (IsUntouched c) s.rst c
+    (either (IsUntouched c) (s.rst || not (is_answered s c)) c
     (if s.fin && is_time_wait c.state then with_time_wait now (with_pending Challenge c) else with_pending Challenge c) (λ _. inl refl) (λ _.
     either (IsUntouched c) (s.fin && is_time_wait c.state) (with_time_wait now (with_pending Challenge c)) (with_pending Challenge c)
     (λ e. no_fin s.fin (is_time_wait c.state) wait e) (λ _. challenged c))))
 
 -- resets
+neither : (a b : Bool) → a || b ≡ false → a ≡ false
+neither true b e = false_true (sym e)
+neither false b e = refl
+
 resets_no_syn : {P : Type 0} (a b : Bool) → b ≡ true → a && not b ≡ true → P
 resets_no_syn true true e f = false_true f
 resets_no_syn true false e f = false_true e
@@ -147,29 +151,32 @@ module _ (now : ℕ) (keeps : Bool) (s : Segment) (c : Connection) (reset : s.rs
   taken : (o : Option ℕ) → position_near c.remote (next r) s.number ≡ o → (b : Bool) → (q : ℕ) → o ≡ Some q →
       IsUntouched c (after_piece_of now keeps (if b then Some (piece_at q) else None) s c)
   taken o e false q at =
-      either (IsUntouched c) s.rst c
+      either (IsUntouched c) (s.rst || not (is_answered s c)) c
       (if s.fin && is_time_wait c.state then with_time_wait now (with_pending Challenge c) else with_pending Challenge c) (λ _. inl refl)
-      (λ f. false_true (sym f ∙ reset))
+      (λ f. false_true (sym (neither s.rst (not (is_answered s c)) f) ∙ reset))
   taken o e true q at =
       either (IsUntouched c) s.rst (after_reset (piece_at q) c) (after_ack_field now keeps s.ack s (piece_at q) (heard now c)) (λ _.
+      either (IsUntouched c) (is_time_wait c.state) c
+      (if q == expected r then ended (Some (why_reset c)) c else if is_in_window r q then with_pending Challenge c else c)
+      (λ _. inl refl) (λ _.
       either (IsUntouched c) (q == expected r) (ended (Some (why_reset c)) c) (if is_in_window r q then with_pending Challenge c else c)
       (λ f. absurd (other (e ∙ at ∙ ap (λ (n : ℕ). Some n) (equal_of q (expected r) f))))
-      (λ _. either (IsUntouched c) (is_in_window r q) (with_pending Challenge c) c (λ _. challenged c) (λ _. inl refl)))
+      (λ _. either (IsUntouched c) (is_in_window r q) (with_pending Challenge c) c (λ _. challenged c) (λ _. inl refl))))
       (λ f. false_true (sym f ∙ reset))
 
   read_as : (o : Option ℕ) → position_near c.remote (next r) s.number ≡ o →
       IsUntouched c (after_piece_of now keeps
       (option_and_then (λ (p : Piece). if is_acceptable r p then Some p else None) (option_map (λ p. piece_at p) o)) s c)
   read_as None e =
-      either (IsUntouched c) s.rst c
+      either (IsUntouched c) (s.rst || not (is_answered s c)) c
       (if s.fin && is_time_wait c.state then with_time_wait now (with_pending Challenge c) else with_pending Challenge c) (λ _. inl refl)
-      (λ f. false_true (sym f ∙ reset))
+      (λ f. false_true (sym (neither s.rst (not (is_answered s c)) f) ∙ reset))
   read_as (Some q) e = taken (Some q) e (is_acceptable r (piece_at q)) q refl
 
   untouched : IsUntouched c (after_segment_arrives now keeps s c)
   untouched =
       either (IsUntouched c) (s.syn && not s.rst)
-      (if is_own_syn_acknowledged s c then with_owed AtOnce (established c) else with_pending Challenge c)
+      (after_syn_once_more s c)
       (after_piece_of now keeps (acceptable_piece c s) s c) (λ e. resets_no_syn s.syn s.rst reset e)
       (λ _. read_as (position_near c.remote (next r) s.number) refl)
 
@@ -205,20 +212,23 @@ module _ (default link now : ℕ) (keeps : Bool) (s : Segment) (number : ℕ) (r
 
   quiet_piece : (c : Connection) (o : Option Piece) → Quiet c (after_piece_of now keeps o s c)
   quiet_piece c None =
-      either (Quiet c) s.rst c
+      either (Quiet c) (s.rst || not (is_answered s c)) c
       (if s.fin && is_time_wait c.state then with_time_wait now (with_pending Challenge c) else with_pending Challenge c) (λ _. λ e. e)
-      (λ f. false_true (sym f ∙ reset))
+      (λ f. false_true (sym (neither s.rst (not (is_answered s c)) f) ∙ reset))
   quiet_piece c (Some p) =
       either (Quiet c) s.rst (after_reset p c) (after_ack_field now keeps s.ack s p (heard now c)) (λ _.
+      either (Quiet c) (is_time_wait c.state) c
+      (if p.start == expected c.reception.receiver then ended (Some (why_reset c)) c
+      else if is_in_window c.reception.receiver p.start then with_pending Challenge c else c) (λ _. λ e. e) (λ _.
       either (Quiet c) (p.start == expected c.reception.receiver) (ended (Some (why_reset c)) c)
       (if is_in_window c.reception.receiver p.start then with_pending Challenge c else c) (λ _. λ e. cc) (λ _.
-      either (Quiet c) (is_in_window c.reception.receiver p.start) (with_pending Challenge c) c (λ _. quiet_challenge c) (λ _. λ e. e)))
+      either (Quiet c) (is_in_window c.reception.receiver p.start) (with_pending Challenge c) c (λ _. quiet_challenge c) (λ _. λ e. e))))
       (λ f. false_true (sym f ∙ reset))
 
   quiet_arrival : (c : Connection) → Quiet c (after_segment_arrives now keeps s c)
   quiet_arrival c =
       either (Quiet c) (s.syn && not s.rst)
-      (if is_own_syn_acknowledged s c then with_owed AtOnce (established c) else with_pending Challenge c)
+      (after_syn_once_more s c)
       (after_piece_of now keeps (acceptable_piece c s) s c) (λ e. resets_no_syn s.syn s.rst reset e)
       (λ _. quiet_piece c (acceptable_piece c s))
 
@@ -258,7 +268,7 @@ pub closed_is_silent : ClosedIsSilent
 closed_is_silent now c closed empty = record {
   silent =
       let opened : State → Option Action = λ t.
-      if is_opening t && not (is_reset c.pending) then (if is_syn_due now c then Some SendSyn else None)
+      if is_opening t && not (is_reset c.pending) then action_in_opening now c
       else action_pending c.pending now c in
       let sending : State → Option Action = λ t.
       if sends_octets t && is_worth_sending c (next_piece c) then Some (SendNext (next_piece c))

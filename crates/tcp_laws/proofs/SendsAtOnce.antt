@@ -8,24 +8,24 @@ use Rattle.tcp_machine.specs.declared.state.State.{State}
 use Rattle.tcp_machine.specs.declared.state.State.TheVariants.{Established}
 use Rattle.tcp_machine.specs.declared.timers.Owed.TheVariants.{AtOnce}
 use Rattle.tcp_machine.specs.declared.timers.Ending.TheVariants.{Refused}
-use Rattle.tcp_machine.specs.declared.timers.Pending.TheVariants.{Empty, Challenge, Resend, Reset}
+use Rattle.tcp_machine.specs.declared.timers.Pending.TheVariants.{Empty, Resend, Reset}
 use Rattle.tcp_machine.specs.Positions.{number_at}
 use Rattle.tcp_machine.specs.Pieces.{Piece, after_octets}
 use Rattle.tcp_machine.specs.Sending.{Sender, after_position}
 use Rattle.tcp_machine.specs.Receiving.{in_order, next, is_at, stop_from, edge}
 use Rattle.tcp_machine.specs.States.{is_synchronized, is_opening, sends_octets, takes_octets, after_peers_end, after_end_acknowledged}
-use Rattle.tcp_machine.specs.Connection.{Connection, Reception}
+use Rattle.tcp_machine.specs.Connection.{Connection, Reception, Transmission}
 use Rattle.tcp_machine.specs.Segments.{Segment, window_in, acknowledged_in}
 use Rattle.tcp_machine.specs.Windows.{tells_window, with_window, after_window}
 use Rattle.tcp_machine.specs.Congestion as congestion
-use Rattle.tcp_machine.specs.Acknowledgements.{is_believed, is_acknowledged, is_end_acknowledged, is_duplicate, flight, with_pending}
+use Rattle.tcp_machine.specs.Acknowledgements.{is_believed, is_acknowledged, is_end_acknowledged, is_duplicate, flight, with_pending, with_waiting}
 use Rattle.tcp_machine.specs.Acknowledgements.{after_progress, after_duplicate, after_acked, after_told, after_end, after_acknowledgement}
 use Rattle.tcp_machine.specs.Arrivals.{is_time_wait, is_syn_received, is_closed, with_owed, ended, with_time_wait, after_entering, established}
 use Rattle.tcp_machine.specs.Arrivals.{state_after_handshake, reception_after, has_text, after_octets_of, has_ended, after_fin, after_text}
-use Rattle.tcp_machine.specs.Arrivals.{after_last, after_position_acknowledged, after_ack_field, heard, after_segment_arrives}
+use Rattle.tcp_machine.specs.Arrivals.{after_last, after_position_acknowledged, after_ack_field, heard, after_segment_arrives, after_unbelieved}
 use Rattle.tcp_machine.specs.Opening.{is_acknowledgement_of_syn, after_wrong_ack, after_syn, after_arrival_in}
-use Rattle.tcp_machine.specs.Outgoing.{SendSyn, SendNext, limit_of, next_piece, is_held_by_nagle, is_last, has_octets}
-use Rattle.tcp_machine.specs.Outgoing.{is_worth_sending, ack_if, tells_something, action_pending, is_reset, is_syn_due, action}
+use Rattle.tcp_machine.specs.Outgoing.{SendNext, limit_of, next_piece, is_held_by_nagle, is_last, has_octets, action_in_opening}
+use Rattle.tcp_machine.specs.Outgoing.{is_worth_sending, ack_if, tells_something, action_pending, is_reset, action}
 use Rattle.tcp_laws.specs.Service.{HasRoomFor, MaySendOctets, IsWorthIt, WhatMayBeSentIsSent, TheEndFollows}
 use Rattle.tcp_laws.specs.Service.{SynsAreAnswered, HandshakesEnd}
 use Rattle.tcp_laws.proofs.Lists.{in_order_none}
@@ -57,7 +57,7 @@ module _ (now : ℕ) (c : Connection) (may : MaySendOctets c.state) (none : c.pe
     (worth : is_worth_sending c (next_piece c) ≡ true) where
   sends_next : action now c ≡ Some (SendNext (next_piece c))
   sends_next =
-      ap (λ b. if b && not (is_reset c.pending) then (if is_syn_due now c then Some SendSyn else None) else action_pending c.pending now c)
+      ap (λ b. if b && not (is_reset c.pending) then (action_in_opening now c) else action_pending c.pending now c)
       (opened c.state may)
       ∙ ap (λ p. action_pending p now c) none
       ∙ chosen (sends_octets c.state && is_worth_sending c (next_piece c)) (Some (SendNext (next_piece c)))
@@ -229,6 +229,9 @@ module _ (now a : ℕ) (s : Segment) (p : Piece) (c : Connection) where
       (record d { transmission = after_window p.start a (window_in b s) d.transmission }) d
       (λ _. up_window d (window_in b s) h (tells_window p.start a d.transmission)) (λ _. h)
 
+  up_waiting : (t : Transmission) (d : Connection) → Up c d → Up c (with_waiting now t d)
+  up_waiting t d h = record { state = h.state; stop = h.stop; reception = h.reception }
+
   up_end : (d : Connection) → Up c d → Up c (after_end d)
   up_end d h =
       either (Up c) (is_end_acknowledged d.transmission.sender) (record d { state = after_end_acknowledged d.state }) d
@@ -246,8 +249,8 @@ module _ (now a : ℕ) (s : Segment) (p : Piece) (c : Connection) where
       Up c (after_last (after_entering now before (after_acknowledgement now a s p d)))
   up_all before d h =
       let e = after_acked now a s p d in
-      let f = after_told a s p d e in
-      up_last (after_entering now before (after_end f)) (up_entering before (after_end f) (up_end f (up_told d e (up_acked d h))))
+      let f = with_waiting now d.transmission (after_told a s p d e) in
+      up_last (after_entering now before (after_end f)) (up_entering before (after_end f) (up_end f (up_waiting d.transmission (after_told a s p d e) (up_told d e (up_acked d h)))))
 
 -- then octets, and no end
 record UpBeforeEnd (d : Connection) : Type 0 where
@@ -305,7 +308,7 @@ handshakes_end = record {
       ∙ ap (λ t. if not (is_syn_received t) then after_position_acknowledged now true (acknowledged_in c n) s p (heard now c)
       else if n == n then after_position_acknowledged now true (Some 1) s p e else with_pending (Reset n) (heard now c)) st
       ∙ chosen (n == n) (after_position_acknowledged now true (Some 1) s p e) (with_pending (Reset n) (heard now c)) (eq_is n)
-      ∙ chosen (is_believed 1 e.transmission) (after_text now true p f) (with_pending Challenge e)
+      ∙ chosen (is_believed 1 e.transmission) (after_text now true p f) (after_unbelieved p e)
       (is_believed_at 1 e.transmission (omega (arith, una)) top) in
       let first : Up c e = record { state = ap state_after_handshake stop; stop = stop; reception = refl } in
       let is : Connection → Type 0 = λ x. x.state ≡ Established in

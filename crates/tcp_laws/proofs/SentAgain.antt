@@ -7,7 +7,7 @@ use Rattle.tcp_machine.specs.declared.state.State.{State}
 use Rattle.tcp_machine.specs.declared.state.State.TheVariants.{Closed, Listen, SynSent, SynReceived, Established, FinWait1}
 use Rattle.tcp_machine.specs.declared.state.State.TheVariants.{FinWait2, CloseWait, Closing, LastAck, TimeWait}
 use Rattle.tcp_machine.specs.declared.timers.Pending.{Pending}
-use Rattle.tcp_machine.specs.declared.timers.Pending.TheVariants.{Empty, Challenge, Resend, Probe, KeepAlive, Reset}
+use Rattle.tcp_machine.specs.declared.timers.Pending.TheVariants.{Empty, Challenge, Resend, Probe, KeepAlive, Reset, SynAgain}
 use Rattle.tcp_machine.specs.declared.timers.Owed.TheVariants.{AtOnce}
 use Rattle.tcp_machine.specs.declared.timers.Ending.{Ending}
 use Rattle.tcp_machine.specs.declared.timers.Ending.TheVariants.{Refused, TimedOut}
@@ -23,18 +23,18 @@ use Rattle.tcp_machine.specs.Segments.{Segment, window_in, acceptable_piece, ack
 use Rattle.tcp_machine.specs.Windows.{tells_window, with_window, after_window}
 use Rattle.tcp_machine.specs.Congestion as congestion
 use Rattle.tcp_machine.specs.Acknowledgements as acknowledgements
-use Rattle.tcp_machine.specs.Acknowledgements.{rank, with_pending, empty_position, is_believed, is_end_acknowledged, is_duplicate}
+use Rattle.tcp_machine.specs.Acknowledgements.{rank, with_pending, empty_position, is_believed, is_end_acknowledged, is_duplicate, with_waiting}
 use Rattle.tcp_machine.specs.Acknowledgements.{after_progress, after_duplicate, after_acked, after_told, after_end, after_acknowledgement}
-use Rattle.tcp_machine.specs.Arrivals.{is_time_wait, is_syn_received, is_closed, with_owed, ended, aborted, with_time_wait, after_entering}
+use Rattle.tcp_machine.specs.Arrivals.{is_time_wait, is_syn_received, is_closed, with_owed, ended, aborted, with_time_wait, after_entering, after_syn_once_more, is_syn_again}
 use Rattle.tcp_machine.specs.Arrivals.{after_unacceptable, why_reset, after_reset, is_own_syn_acknowledged, established}
 use Rattle.tcp_machine.specs.Arrivals.{reception_after, has_text, after_octets_of, has_ended, after_fin, after_text, after_last}
-use Rattle.tcp_machine.specs.Arrivals.{after_position_acknowledged, after_ack_field, heard, after_piece_of, after_segment_arrives}
+use Rattle.tcp_machine.specs.Arrivals.{after_position_acknowledged, after_ack_field, heard, after_piece_of, after_segment_arrives, is_answered, after_unbelieved}
 use Rattle.tcp_machine.specs.Opening.{with_syn, is_acknowledgement_of_syn, after_wrong_ack, after_syn, after_arrival_in_syn_sent}
 use Rattle.tcp_machine.specs.Opening.{after_arrival_in}
-use Rattle.tcp_machine.specs.Timers.{is_held_back, with_probe_timer, is_given_up, after_loss_of_all, is_unheard}
+use Rattle.tcp_machine.specs.Timers.{is_held_back, with_probe_timer, is_given_up, after_loss_of_all, is_unheard, after_user_timeout, gives_up_at}
 use Rattle.tcp_machine.specs.Timers.{after_probe_time, after_resend_timer, most_probes, keep_alive_at, after_keep_alive}
 use Rattle.tcp_machine.specs.Timers.{after_time_wait, after_timers}
-use Rattle.tcp_machine.specs.Outgoing.{Action, SendSyn, SendNext, SendAgain, SendProbe, first_piece, next_piece, has_octets}
+use Rattle.tcp_machine.specs.Outgoing.{Action, SendSyn, SendNext, SendAgain, SendProbe, first_piece, next_piece, has_octets, action_in_opening, is_challenge, is_syn_sent}
 use Rattle.tcp_machine.specs.Outgoing.{is_worth_sending, ack_if, tells_something}
 use Rattle.tcp_machine.specs.Outgoing.{action_pending, is_reset, is_syn_due, action}
 use Rattle.tcp_laws.specs.Retransmissions.{HasReason, RetransmissionsWait}
@@ -57,6 +57,7 @@ module _ (now : ℕ) (c : Connection) (p : Piece) where
       (ack_if (is_synchronized c.state && tells_something now c)) (λ _. λ f. cc)
       (λ _. owes_ack (is_synchronized c.state && tells_something now c))
   owes_pending Challenge e = owes_ack (is_synchronized c.state)
+  owes_pending SynAgain e = owes_ack (is_synchronized c.state)
   owes_pending KeepAlive e = λ f. cc
   owes_pending Probe e =
       either Owes (sends_octets c.state && has_octets (next_piece c)) (Some (SendNext (next_piece c)))
@@ -66,9 +67,10 @@ module _ (now : ℕ) (c : Connection) (p : Piece) where
 
   owes : Owes (action now c)
   owes =
-      either Owes (is_opening c.state && not (is_reset c.pending)) (if is_syn_due now c then Some SendSyn else None)
+      either Owes (is_opening c.state && not (is_reset c.pending)) (action_in_opening now c)
       (action_pending c.pending now c)
-      (λ _. either Owes (is_syn_due now c) (Some SendSyn) None (λ _. λ f. cc) (λ _. λ f. cc)) (λ _. owes_pending c.pending refl)
+      (λ _. either Owes (is_syn_due now c) (Some SendSyn) (ack_if (is_challenge c.pending && not (is_syn_sent c.state)))
+      (λ _. λ f. cc) (λ _. owes_ack (is_challenge c.pending && not (is_syn_sent c.state)))) (λ _. owes_pending c.pending refl)
 
 -- what arrives
 is_two : (n : ℕ) → (n == 2) ≡ true → n ≡ 2
@@ -91,6 +93,10 @@ module _ (c0 : Connection) where
   kept_challenge d h =
       either Kept (nat_lt (rank d.pending) (rank Challenge)) (record d { pending = Challenge }) d (λ _. (λ e. cc, h.1)) (λ _. h)
 
+  kept_syn_again : (d : Connection) → Kept d → Kept (with_pending SynAgain d)
+  kept_syn_again d h =
+      either Kept (nat_lt (rank d.pending) (rank SynAgain)) (record d { pending = SynAgain }) d (λ _. (λ e. cc, h.1)) (λ _. h)
+
   kept_number : (n : ℕ) (d : Connection) → Kept d → Kept (with_pending (Reset n) d)
   kept_number n d h =
       either Kept (nat_lt (rank d.pending) (rank (Reset n))) (record d { pending = Reset n }) d (λ _. (λ e. cc, h.1)) (λ _. h)
@@ -100,16 +106,22 @@ module _ (c0 : Connection) where
 
   kept_unacceptable : (now : ℕ) (s : Segment) (d : Connection) → Kept d → Kept (after_unacceptable now s d)
   kept_unacceptable now s d h =
-      either Kept s.rst d
+      either Kept (s.rst || not (is_answered s d)) d
       (if s.fin && is_time_wait d.state then with_time_wait now (with_pending Challenge d) else with_pending Challenge d) (λ _. h) (λ _.
       either Kept (s.fin && is_time_wait d.state) (with_time_wait now (with_pending Challenge d)) (with_pending Challenge d)
       (λ _. kept_challenge d h) (λ _. kept_challenge d h))
 
+  kept_unbelieved : (p : Piece) (d : Connection) → Kept d → Kept (after_unbelieved p d)
+  kept_unbelieved p d h = either Kept (has_text p) (with_pending Challenge d) d (λ _. kept_challenge d h) (λ _. h)
+
   kept_reset : (p : Piece) (d : Connection) → Kept d → Kept (after_reset p d)
   kept_reset p d h =
+      either Kept (is_time_wait d.state) d
+      (if p.start == expected d.reception.receiver then ended (Some (why_reset d)) d
+      else if is_in_window d.reception.receiver p.start then with_pending Challenge d else d) (λ _. h) (λ _.
       either Kept (p.start == expected d.reception.receiver) (ended (Some (why_reset d)) d)
       (if is_in_window d.reception.receiver p.start then with_pending Challenge d else d) (λ _. kept_ended (Some (why_reset d)) d h) (λ _.
-      either Kept (is_in_window d.reception.receiver p.start) (with_pending Challenge d) d (λ _. kept_challenge d h) (λ _. h))
+      either Kept (is_in_window d.reception.receiver p.start) (with_pending Challenge d) d (λ _. kept_challenge d h) (λ _. h)))
 
   kept_established : (d : Connection) → Kept d → Kept (established d)
   kept_established d h = (h.0, le_one_max c0.transmission.nxt d.transmission.nxt h.1)
@@ -163,7 +175,7 @@ module _ (c0 : Connection) where
 
     kept_acknowledgement : (d : Connection) → Kept d → d.congestion ≡ c0.congestion → Kept (after_acknowledgement now a s p d)
     kept_acknowledgement d h same =
-        kept_end (after_told a s p d (after_acked now a s p d)) (kept_told d (after_acked now a s p d) (kept_acked d h same))
+        kept_end (with_waiting now d.transmission (after_told a s p d (after_acked now a s p d))) (kept_told d (after_acked now a s p d) (kept_acked d h same))
 
   kept_entering : (now : ℕ) (before : State) (d : Connection) → Kept d → Kept (after_entering now before d)
   kept_entering now before d h =
@@ -189,13 +201,13 @@ module _ (c0 : Connection) where
         (λ _. kept_entering now d.state e h) (λ _. h)
 
     kept_position : (o : Option ℕ) (d : Connection) → Kept d → d.congestion ≡ c0.congestion → Kept (after_position_acknowledged now keeps o s p d)
-    kept_position None d h same = kept_challenge d h
+    kept_position None d h same = kept_unbelieved p d h
     kept_position (Some a) d h same =
         let e = after_entering now d.state (after_acknowledgement now a s p d) in
-        either Kept (is_believed a d.transmission) (after_text now keeps p (after_last e)) (with_pending Challenge d)
+        either Kept (is_believed a d.transmission) (after_text now keeps p (after_last e)) (after_unbelieved p d)
         (λ _. kept_fin (after_octets_of now keeps p (after_last e)) (kept_octets (after_last e)
         (kept_last e (kept_entering now d.state (after_acknowledgement now a s p d) (kept_acknowledgement now a s p d h same)))))
-        (λ _. kept_challenge d h)
+        (λ _. kept_unbelieved p d h)
 
     kept_field : (o : Option ℕ) (d : Connection) → Kept d → d.congestion ≡ c0.congestion → Kept (after_ack_field now keeps o s p d)
     kept_field None d h same = h
@@ -215,10 +227,12 @@ module _ (c0 : Connection) where
   kept_arrival : (now : ℕ) (keeps : Bool) (s : Segment) → Kept (after_segment_arrives now keeps s c0)
   kept_arrival now keeps s =
       either Kept (s.syn && not s.rst)
-      (if is_own_syn_acknowledged s c0 then with_owed AtOnce (established c0) else with_pending Challenge c0)
+      (after_syn_once_more s c0)
       (after_piece_of now keeps (acceptable_piece c0 s) s c0) (λ _.
-      either Kept (is_own_syn_acknowledged s c0) (with_owed AtOnce (established c0)) (with_pending Challenge c0)
-      (λ _. kept_established c0 kept_first) (λ _. kept_challenge c0 kept_first)) (λ _. kept_piece now keeps s (acceptable_piece c0 s))
+      either Kept (is_own_syn_acknowledged s c0) (with_owed AtOnce (established c0))
+      (if is_syn_again s c0 then with_pending SynAgain c0 else with_pending Challenge c0) (λ _. kept_established c0 kept_first) (λ _.
+      either Kept (is_syn_again s c0) (with_pending SynAgain c0) (with_pending Challenge c0)
+      (λ _. kept_syn_again c0 kept_first) (λ _. kept_challenge c0 kept_first))) (λ _. kept_piece now keeps s (acceptable_piece c0 s))
 
   module _ (default link now : ℕ) (s : Segment) where
     kept_syn : (b : Bool) → Kept (after_syn default link now b s c0)
@@ -289,12 +303,12 @@ module _ (c0 : Connection) (now : ℕ) where
   still_resend d h same =
       either Still (not (has_passed d.timers.resend_at now)) d
       (if is_held_back d && not (is_opening d.state) then after_probe_time now d
-      else if is_given_up now d then aborted TimedOut d else after_loss_of_all d) (λ _. h) (λ f.
+      else if is_given_up d then aborted TimedOut d else after_loss_of_all d) (λ _. h) (λ f.
       either Still (is_held_back d && not (is_opening d.state)) (after_probe_time now d)
-      (if is_given_up now d then aborted TimedOut d else after_loss_of_all d) (λ _.
-      either Still (is_unheard now d && nat_lt 0 d.timers.probes) (aborted TimedOut d) (with_pending Probe (probing d))
+      (if is_given_up d then aborted TimedOut d else after_loss_of_all d) (λ _.
+      either Still (is_unheard d) (aborted TimedOut d) (with_pending Probe (probing d))
       (λ _. still_aborted TimedOut d h) (λ _. still_probe (probing d) h)) (λ _.
-      either Still (is_given_up now d) (aborted TimedOut d) (after_loss_of_all d) (λ _. still_aborted TimedOut d h)
+      either Still (is_given_up d) (aborted TimedOut d) (after_loss_of_all d) (λ _. still_aborted TimedOut d h)
       (λ _. (h.0, λ g. absurd (passed d.timers.resend_at c0.timers.resend_at same f g)))))
 
   still_alive : (d : Connection) → Still d → Still (after_keep_alive now d)
@@ -315,11 +329,23 @@ module _ (c0 : Connection) (now : ℕ) where
   same_wait : Sameness (after_time_wait now c0)
   same_wait = either Sameness (has_passed c0.timers.ends_at now) (ended None c0) c0 (λ _. inr refl) (λ _. inl refl)
 
+  same_timeout : (d : Connection) → Sameness d → Sameness (after_user_timeout now d)
+  same_timeout d h =
+      either Sameness (has_passed (gives_up_at d) now) (aborted TimedOut d) d (λ _.
+      either Sameness (is_synchronized d.state || is_syn_received d.state)
+      (record (ended (Some TimedOut) d) { pending = Reset (number_at d.local (empty_position d.transmission)) }) (ended (Some TimedOut) d)
+      (λ _. inr refl) (λ _. inr refl)) (λ _. h)
+
+  still_timeout : (d : Connection) → Still d → Still (after_user_timeout now d)
+  still_timeout d h = either Still (has_passed (gives_up_at d) now) (aborted TimedOut d) d (λ _. still_aborted TimedOut d h) (λ _. h)
+
   still : Still (after_timers now c0)
   still =
-      let a = after_time_wait now c0 in
+      let z = after_time_wait now c0 in
+      let a = after_user_timeout now z in
       let b = after_resend_timer now a in
-      still_timer (after_keep_alive now b) (still_alive b (still_resend a (still_wait c0 (λ e. e, λ _. refl)) same_wait))
+      let w = still_wait c0 (λ e. e, λ _. refl) in
+      still_timer (after_keep_alive now b) (still_alive b (still_resend a (still_timeout z w) (same_timeout z same_wait)))
 
 less_passed : (b : Bool) (n m : ℕ) → (b ≡ false → n ≡ m) → n < m → b ≡ true
 less_passed true n m h l = refl

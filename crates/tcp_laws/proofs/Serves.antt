@@ -12,7 +12,7 @@ use Rattle.tcp_machine.specs.declared.settings.Settings.{Settings}
 use Rattle.tcp_machine.specs.declared.timers.Owed.{Owed}
 use Rattle.tcp_machine.specs.declared.timers.Owed.TheVariants.{Nothing, By, AtOnce}
 use Rattle.tcp_machine.specs.declared.timers.Pending.{Pending}
-use Rattle.tcp_machine.specs.declared.timers.Pending.TheVariants.{Empty, Challenge, Resend, Probe, KeepAlive, Reset}
+use Rattle.tcp_machine.specs.declared.timers.Pending.TheVariants.{Empty, Challenge, Resend, Probe, KeepAlive, Reset, SynAgain}
 use Rattle.tcp_machine.specs.Instants.{later}
 use Rattle.tcp_machine.specs.Positions.{number_at}
 use Rattle.tcp_machine.specs.Pieces.{IsBeginning, Piece, after_piece}
@@ -23,17 +23,16 @@ use Rattle.tcp_machine.specs.Connection.{Connection, Reception, Transmission}
 use Rattle.tcp_machine.specs.Segments.{Segment, window_in, acceptable_piece, acknowledged_in}
 use Rattle.tcp_machine.specs.Windows.{tells_window, with_window, after_window, is_update_due}
 use Rattle.tcp_machine.specs.Congestion as congestion
-use Rattle.tcp_machine.specs.Acknowledgements.{is_believed, is_end_acknowledged, is_duplicate, flight}
+use Rattle.tcp_machine.specs.Acknowledgements.{is_believed, is_end_acknowledged, is_duplicate, flight, with_waiting}
 use Rattle.tcp_machine.specs.Acknowledgements.{after_progress, after_duplicate, after_acked, after_told, after_end, after_acknowledgement, with_pending}
 use Rattle.tcp_machine.specs.Acknowledgements.{rank}
-use Rattle.tcp_machine.specs.Arrivals.{is_time_wait, is_syn_received, is_closed, with_owed, ended, with_time_wait, after_entering}
-use Rattle.tcp_machine.specs.Arrivals.{is_own_syn_acknowledged, established, sooner, is_owed_at_once}
+use Rattle.tcp_machine.specs.Arrivals.{is_time_wait, is_syn_received, is_closed, with_owed, ended, with_time_wait, after_entering, after_syn_once_more}
+use Rattle.tcp_machine.specs.Arrivals.{established, sooner, is_owed_at_once}
 use Rattle.tcp_machine.specs.Arrivals.{reception_after, has_text, after_octets_of, has_ended, after_fin, after_text, after_last}
-use Rattle.tcp_machine.specs.Arrivals.{after_reset, after_position_acknowledged, after_ack_field, heard, after_piece_of, after_segment_arrives}
-use Rattle.tcp_machine.specs.Outgoing.{Action, SendSyn, SendAck, SendNext, SendAgain, SendProbe, SendKeepAlive, next_piece, first_piece, most_again}
+use Rattle.tcp_machine.specs.Arrivals.{after_reset, after_position_acknowledged, after_ack_field, heard, after_piece_of, after_segment_arrives, after_unbelieved}
+use Rattle.tcp_machine.specs.Outgoing.{Action, SendAck, SendNext, SendAgain, SendProbe, SendKeepAlive, next_piece, first_piece, most_again, action_in_opening}
 use Rattle.tcp_machine.specs.Outgoing.{has_octets, is_worth_sending, is_owed, ack_if, tells_something, action_pending, is_reset, action}
-use Rattle.tcp_machine.specs.Outgoing.{is_syn_due}
-use Rattle.tcp_machine.specs.Timers.{keep_alive_at}
+use Rattle.tcp_machine.specs.Timers.{keep_alive_at, gives_up_at}
 use Rattle.tcp_machine.specs.Due.{least, owed_at, timer_at, lacks_timer, due_at}
 use Rattle.tcp_laws.specs.Service.{MayGet, MayWait, StandsNext, Acknowledges, TellsArrived, IsServed, OctetsAreServed, HasLeft}
 use Rattle.tcp_laws.specs.Service.{AcknowledgedOctetsLeave, IsNotBelieved, NothingAboveIsBelieved}
@@ -119,9 +118,7 @@ read_so c s h =
 pub arrives_as : (now : ℕ) (s : Segment) (c : Connection) → StandsNext c s →
     after_segment_arrives now true s c ≡ after_ack_field now true s.ack s (piece_of c s) (heard now c)
 arrives_as now s c h =
-    ap (λ b. if b && not s.rst
-    then (if is_own_syn_acknowledged s c then with_owed AtOnce (established c) else with_pending Challenge c)
-    else after_piece_of now true (acceptable_piece c s) s c) h.no_syn
+    ap (λ b. if b && not s.rst then after_syn_once_more s c else after_piece_of now true (acceptable_piece c s) s c) h.no_syn
     ∙ ap (λ o. after_piece_of now true o s c) (read_so c s h)
     ∙ ap (λ b. if b then after_reset (piece_of c s) c else after_ack_field now true s.ack s (piece_of c s) (heard now c)) h.no_reset
 
@@ -166,13 +163,15 @@ nothing_above_is_believed now a s c w h k above =
     let is : Connection → Type 0 = λ d. IsNotBelieved c d in
     let p = piece_of c s in
     let e = heard now c in
-    let same : after_segment_arrives now true s c ≡ with_pending Challenge e =
+    let same : after_segment_arrives now true s c ≡ after_unbelieved p e =
     arrives_as now s c h ∙ acknowledged_as now a s p c w k
     ∙ other (is_believed a e.transmission)
-    (after_text now true p (after_last (after_entering now e.state (after_acknowledgement now a s p e)))) (with_pending Challenge e)
+    (after_text now true p (after_last (after_entering now e.state (after_acknowledgement now a s p e)))) (after_unbelieved p e)
     (not_believed a c.transmission above) in
-    subst is (sym same) (either is (nat_lt (rank e.pending) (rank Challenge)) (record e { pending = Challenge }) e
-    (λ _. record { transmission = refl; reception = refl; state = refl }) (λ _. record { transmission = refl; reception = refl; state = refl }))
+    let kept : is e = record { transmission = refl; reception = refl; state = refl } in
+    subst is (sym same) (either is (has_text p) (with_pending Challenge e) e (λ _.
+    either is (nat_lt (rank e.pending) (rank Challenge)) (record e { pending = Challenge }) e
+    (λ _. record { transmission = refl; reception = refl; state = refl }) (λ _. kept)) (λ _. kept))
 
 -- it is believed, and what follows
 believed_as : (now a : ℕ) (s : Segment) (c : Connection) → MayWait c.state → StandsNext c s → Acknowledges c s a →
@@ -185,7 +184,7 @@ believed_as now a s c w h k low high =
     let e = heard now c in
     arrives_as now s c h ∙ acknowledged_as now a s p c w k
     ∙ chosen (is_believed a e.transmission)
-    (after_text now true p (after_last (after_entering now e.state (after_acknowledgement now a s p e)))) (with_pending Challenge e)
+    (after_text now true p (after_last (after_entering now e.state (after_acknowledgement now a s p e)))) (after_unbelieved p e)
     (is_believed_at a c.transmission low high)
 
 -- what is acknowledged leaves the ring
@@ -269,11 +268,12 @@ module _ (now a : ℕ) (s : Segment) (p : Piece) (c : Connection) (low : c.trans
   pub has_left : Left (after_text now true p (after_last (after_entering now c.state (after_acknowledgement now a s p c))))
   has_left =
       let d = after_acked now a s p c in
-      let e = after_told a s p c d in
+      let e = with_waiting now c.transmission (after_told a s p c d) in
       let f = after_end e in
       let g = after_entering now c.state f in
+      let told = left_told d left_acked in
       left_fin (after_octets_of now true p (after_last g)) (left_octets (after_last g) (left_last g (left_entering c.state f
-      (left_end e (left_told d left_acked)))))
+      (left_end e (record { una = told.una; ring = told.ring })))))
 
 pub acknowledged_octets_leave : AcknowledgedOctetsLeave
 acknowledged_octets_leave now a s c w h k low high =
@@ -392,6 +392,7 @@ gets_takes s (inr (inr e)) = rw e refl
 no_reset_owed : (p : Pending) → ((n : ℕ) → p ≡ Reset n → ⊥) → is_reset p ≡ false
 no_reset_owed Empty h = refl
 no_reset_owed Challenge h = refl
+no_reset_owed SynAgain h = refl
 no_reset_owed Resend h = refl
 no_reset_owed Probe h = refl
 no_reset_owed KeepAlive h = refl
@@ -457,10 +458,11 @@ module _ (now a : ℕ) (s : Segment) (p : Piece) (c : Connection) where
   ready : (d : Connection) → Ready c d → Ready c (after_last (after_entering now c.state (after_acknowledgement now a s p d)))
   ready d h =
       let e = after_acked now a s p d in
-      let f = after_told a s p d e in
+      let f = with_waiting now d.transmission (after_told a s p d e) in
       let g = after_end f in
+      let told = ready_told d e (ready_acked d h) in
       ready_last (after_entering now c.state g)
-      (ready_entering c.state g (ready_end f (ready_told d e (ready_acked d h))))
+      (ready_entering c.state g (ready_end f (ready_as c (after_told a s p d e) f told told.takes refl refl refl told.pending)))
 
 -- an acknowledgement is owed at an instant or before
 abbrev Soon : ℕ → Owed → Type 0
@@ -552,6 +554,7 @@ module _ (t q : ℕ) (d : Connection) (sync : is_synchronized d.state ≡ true) 
       tells_ack (is_synchronized d.state && tells_something t d) (both_are (is_synchronized d.state) (tells_something t d) sync
       (left_is (is_owed d.reception.owed t) (is_update_due d.settings.own_mss d.reception) owes)))
   tells_pending Challenge e = tells_ack (is_synchronized d.state) sync
+  tells_pending SynAgain e = tells_ack (is_synchronized d.state) sync
   tells_pending KeepAlive e = λ f. record { sent = SendKeepAlive; now = sym f; ack = refl; all = all }
   tells_pending Probe e =
       either Tells (sends_octets d.state && has_octets (next_piece d)) (Some (SendNext (next_piece d)))
@@ -562,7 +565,7 @@ module _ (t q : ℕ) (d : Connection) (sync : is_synchronized d.state ≡ true) 
 
   acts_pending : action t d ≡ action_pending d.pending t d
   acts_pending =
-      ap (λ b. if b && not (is_reset d.pending) then (if is_syn_due t d then Some SendSyn else None) else action_pending d.pending t d)
+      ap (λ b. if b && not (is_reset d.pending) then (action_in_opening t d) else action_pending d.pending t d)
       (synchronized_up d.state sync)
 
   pub tells_arrived : is_reset d.pending ≡ false → TellsArrived t q d
@@ -580,8 +583,9 @@ module _ (now l : ℕ) (d : Connection) (h : Soon l d.reception.owed)
   by_timer (inl e) f = false_true (sym f ∙ tells now (rw e refl))
   by_timer (inr k) f =
       let last : owed_at d.reception.owed ≡ Some k.0 = rw k.1 refl in
-      let one = least_below (keep_alive_at d) (owed_at d.reception.owed) k.0 l last k.2 in
-      let two = least_below (least d.timers.resend_at d.timers.ends_at) (least (keep_alive_at d) (owed_at d.reception.owed)) one.0 l one.1
+      let first = least (gives_up_at d) (keep_alive_at d) in
+      let one = least_below first (owed_at d.reception.owed) k.0 l last k.2 in
+      let two = least_below (least d.timers.resend_at d.timers.ends_at) (least first (owed_at d.reception.owed)) one.0 l one.1
       one.2 in
       let low = two.2 in (two.0, two.1, grind (arith, low))
 

@@ -8,6 +8,7 @@ a_connection_serves = record {
   behind_a_gap = refl;
   leave = refl;
   above = refl;
+  silent = refl;
   answered = refl;
   sent = refl;
   held_back = refl;

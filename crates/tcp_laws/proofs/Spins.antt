@@ -5,16 +5,16 @@ use Rattle.std.specs.Prelude.{min, max, nat_le, nat_lt, ◌*◌, ◌/◌, ◌==�
 use Rattle.std.proofs.lemmas.Bool.Decides.{nat_tests}
 use Rattle.std.proofs.lemmas.List.{length-take, length-drop}
 use Rattle.tcp_machine.specs.declared.timers.Pending.{Pending}
-use Rattle.tcp_machine.specs.declared.timers.Pending.TheVariants.{Empty, Challenge, Resend, Probe, KeepAlive, Reset}
+use Rattle.tcp_machine.specs.declared.timers.Pending.TheVariants.{Empty, Challenge, Resend, Probe, KeepAlive, Reset, SynAgain}
 use Rattle.tcp_machine.specs.States.{is_synchronized, is_opening, sends_octets}
 use Rattle.tcp_machine.specs.Receiving.{is_at, edge}
 use Rattle.tcp_machine.specs.Pieces.{Piece, after_piece}
 use Rattle.tcp_machine.specs.Connection.{Connection, Reception}
 use Rattle.tcp_machine.specs.Windows.{next_promise, window_step, is_update_due}
-use Rattle.tcp_machine.specs.Outgoing.{Action, SendReset, SendSyn, SendNext, SendAgain, SendProbe, SendAck}
+use Rattle.tcp_machine.specs.Outgoing.{Action, SendReset, SendSyn, SendNext, SendAgain, SendProbe, SendAck, is_challenge, action_in_opening, is_repeated_syn, is_syn_sent}
 use Rattle.tcp_machine.specs.Outgoing.{limit_of, next_piece, first_piece, is_worth_sending, has_octets, is_held_by_nagle, is_last}
 use Rattle.tcp_machine.specs.Outgoing.{is_owed, tells_something, ack_if, most_again, action_pending}
-use Rattle.tcp_machine.specs.Outgoing.{is_reset, is_none_pending, is_syn_due, action, told_to_peer, reception_told, syn_sent, piece_sent}
+use Rattle.tcp_machine.specs.Outgoing.{is_reset, is_syn_due, action, told_to_peer, reception_told, syn_sent, piece_sent}
 use Rattle.tcp_machine.specs.Outgoing.{after_action}
 use Rattle.tcp_laws.specs.Spinning.{after_offer, after_offers, waiting_octets, NothingSpins}
 use Rattle.tcp_laws.proofs.ReceivingSteps.{false_true, first_of_two}
@@ -32,9 +32,13 @@ abbrev end_left : Option ℕ → ℕ → ℕ
 end_left None n = 0
 end_left (Some s) n = bit (nat_le n s)
 
+abbrev is_none_pending : Pending → Bool
+is_none_pending Empty = true
+is_none_pending p = false
+
 -- how many segments may follow at this instant
 abbrev left_opening : ℕ → Connection → ℕ
-left_opening now c = bit (is_reset c.pending) + bit (is_syn_due now c)
+left_opening now c = bit (is_reset c.pending) + (bit (is_syn_due now c) + bit (is_challenge c.pending))
 
 abbrev left_stream : Connection → ℕ
 left_stream c = waiting_octets c + end_left c.transmission.sender.stop c.transmission.nxt
@@ -112,19 +116,28 @@ not_and_true : (a : Bool) → a && true ≡ false → a ≡ false
 not_and_true true h = h
 not_and_true false h = refl
 
-or_true : (a : Bool) → a || true ≡ true
-or_true true = refl
-or_true false = refl
+no_more : (a b c : Bool) → a || b || c ≡ false → a || false || false ≡ false
+no_more true b c e = e
+no_more false b c e = refl
 
 module _ (now : ℕ) (c : Connection) where
   -- before the own SYN is acknowledged
   down_syn : is_opening c.state ≡ true → is_syn_due now c ≡ true → Down now c (Some SendSyn)
   down_syn o d =
       let a : left now (syn_sent now c) ≡ 0 = left_if_opening now (syn_sent now c) o in
-      let b : left now c ≡ bit (is_reset c.pending) + bit (is_syn_due now c) = left_if_opening now c o in omega (arith, a, b, ap bit d)
+      let b : left now c ≡ left_opening now c = left_if_opening now c o in omega (arith, a, b, ap bit d)
 
-  syn_if_due : is_opening c.state ≡ true → Down now c (if is_syn_due now c then Some SendSyn else None)
-  syn_if_due o = either (Down now c) (is_syn_due now c) (Some SendSyn) None (λ d. down_syn o d) (λ _. tt)
+  down_challenge : is_opening c.state ≡ true → is_syn_due now c ≡ false → is_challenge c.pending ≡ true → Down now c (Some SendAck)
+  down_challenge o f e =
+      let due : is_syn_due now (told_to_peer c) ≡ false = no_more (c.transmission.nxt == 0) (is_owed c.reception.owed now) (is_repeated_syn c.pending) f in
+      omega (arith, left_if_opening now (told_to_peer c) o, left_if_opening now c o, ap bit due, ap bit e)
+
+  syn_if_due : is_opening c.state ≡ true → Down now c (action_in_opening now c)
+  syn_if_due o =
+      let asks = is_challenge c.pending && not (is_syn_sent c.state) in
+      either (Down now c) (is_syn_due now c) (Some SendSyn) (ack_if asks) (λ d. down_syn o d) (λ f.
+      either (Down now c) asks (Some SendAck) None
+      (λ e. down_challenge o f (first_of_two (is_challenge c.pending) (not (is_syn_sent c.state)) e)) (λ _. tt))
 
   -- after it
   down_to : (d : Connection) → is_opening c.state ≡ false → is_opening d.state ≡ false → d.pending ≡ Empty → tells_something now d ≡ false →
@@ -164,9 +177,8 @@ module _ (now : ℕ) (c : Connection) where
   down_reset : (number : ℕ) → c.pending ≡ Reset number → (b : Bool) → is_opening c.state ≡ b → Down now c (Some (SendReset number))
   down_reset number e true o =
       let d = record c { pending = Empty } in
-      let due = ap bit (ap (λ p. c.transmission.nxt == 0 || is_owed c.reception.owed now || not (is_none_pending p)) e
-      ∙ or_true (c.transmission.nxt == 0 || is_owed c.reception.owed now)) in
-      omega (arith, left_if_opening now d o, left_if_opening now c o, ap (λ p. bit (is_reset p)) e, bit_most (is_syn_due now d), due)
+      let due : is_syn_due now c ≡ is_syn_due now d = ap (λ p. c.transmission.nxt == 0 || is_owed c.reception.owed now || is_repeated_syn p) e in
+      omega (arith, left_if_opening now d o, left_if_opening now c o, ap (λ p. bit (is_reset p)) e, ap (λ p. bit (is_challenge p)) e, ap bit due)
   down_reset number e false o =
       let d = record c { pending = Empty } in
       omega (arith, left_if_open now d o, left_if_open now c o, one_pending (Reset number) e)
@@ -179,6 +191,8 @@ module _ (now : ℕ) (c : Connection) where
       (λ h. down_next f (worth (next_piece c) (last_of (sends_octets c.state) w h))) (λ _.
       either (Down now c) (is_synchronized c.state && t) (Some SendAck) None
       (λ h. down_ack f (omega (arith, ap bit (last_of (is_synchronized c.state) t h)))) (λ _. tt))
+  down_open f SynAgain e =
+      either (Down now c) (is_synchronized c.state) (Some SendAck) None (λ _. down_ack f (omega (arith, one_pending SynAgain e))) (λ _. tt)
   down_open f Challenge e =
       either (Down now c) (is_synchronized c.state) (Some SendAck) None (λ _. down_ack f (omega (arith, one_pending Challenge e))) (λ _. tt)
   down_open f KeepAlive e = down_to (told_to_peer c) f f refl quiet (omega (arith, one_pending KeepAlive e))
@@ -194,23 +208,24 @@ module _ (now : ℕ) (c : Connection) where
 
   abbrev Goal : Pending → Type 0
   Goal p =
-      Down now c (if is_opening c.state && not (is_reset p) then (if is_syn_due now c then Some SendSyn else None)
+      Down now c (if is_opening c.state && not (is_reset p) then (action_in_opening now c)
       else action_pending p now c)
 
   by_opening : (p : Pending) → is_reset p ≡ false → c.pending ≡ p → Goal p
   by_opening p r e =
-      either (Down now c) (is_opening c.state && not (is_reset p)) (if is_syn_due now c then Some SendSyn else None)
+      either (Down now c) (is_opening c.state && not (is_reset p)) (action_in_opening now c)
       (action_pending p now c) (λ h. syn_if_due (first_of_two (is_opening c.state) (not (is_reset p)) h)) (λ h.
       down_open (not_and_true (is_opening c.state) (sym (ap (λ b. is_opening c.state && not b) r) ∙ h)) p e)
 
   by_pending : (p : Pending) → c.pending ≡ p → Goal p
   by_pending Empty e = by_opening Empty refl e
   by_pending Challenge e = by_opening Challenge refl e
+  by_pending SynAgain e = by_opening SynAgain refl e
   by_pending KeepAlive e = by_opening KeepAlive refl e
   by_pending Probe e = by_opening Probe refl e
   by_pending Resend e = by_opening Resend refl e
   by_pending (Reset number) e =
-      either (Down now c) (is_opening c.state && false) (if is_syn_due now c then Some SendSyn else None) (Some (SendReset number))
+      either (Down now c) (is_opening c.state && false) (action_in_opening now c) (Some (SendReset number))
       (λ h. false_true (last_of (is_opening c.state) false h)) (λ _. down_reset number e (is_opening c.state) refl)
 
   down : Down now c (action now c)
@@ -241,7 +256,8 @@ end_most (Some s) n = bit_most (nat_le n s)
 bounded : (now : ℕ) (c : Connection) → left now c ≤ waiting_octets c + 3
 bounded now c = by (is_opening c.state) refl where
   by : (b : Bool) → is_opening c.state ≡ b → left now c ≤ waiting_octets c + 3
-  by true o = omega (arith, left_if_opening now c o, bit_most (is_reset c.pending), bit_most (is_syn_due now c))
+  by true o =
+      omega (arith, left_if_opening now c o, bit_most (is_reset c.pending), bit_most (is_syn_due now c), bit_most (is_challenge c.pending))
   by false f =
       let s = c.transmission.sender in
       omega (

@@ -7,7 +7,7 @@ use Rattle.tcp_machine.specs.declared.state.State.{State}
 use Rattle.tcp_machine.specs.declared.state.State.TheVariants.{Closed, Listen, SynSent, SynReceived, Established, FinWait1}
 use Rattle.tcp_machine.specs.declared.state.State.TheVariants.{FinWait2, CloseWait, Closing, LastAck, TimeWait}
 use Rattle.tcp_machine.specs.declared.timers.Pending.{Pending}
-use Rattle.tcp_machine.specs.declared.timers.Pending.TheVariants.{Empty, Challenge, Resend, Probe, KeepAlive, Reset}
+use Rattle.tcp_machine.specs.declared.timers.Pending.TheVariants.{Empty, Challenge, Resend, Probe, KeepAlive, Reset, SynAgain}
 use Rattle.tcp_machine.specs.declared.timers.Owed.TheVariants.{AtOnce}
 use Rattle.tcp_machine.specs.declared.timers.Ending.{Ending}
 use Rattle.tcp_machine.specs.declared.timers.Ending.TheVariants.{Refused, TimedOut, Aborted}
@@ -22,22 +22,22 @@ use Rattle.tcp_machine.specs.Connection.{Connection}
 use Rattle.tcp_machine.specs.Segments.{Segment, window_in, acceptable_piece, acknowledged_in}
 use Rattle.tcp_machine.specs.Windows.{tells_window, with_window, after_window}
 use Rattle.tcp_machine.specs.Congestion as congestion
-use Rattle.tcp_machine.specs.Acknowledgements.{rank, with_pending, empty_position, is_believed, is_end_acknowledged, is_duplicate}
+use Rattle.tcp_machine.specs.Acknowledgements.{rank, with_pending, empty_position, is_believed, is_end_acknowledged, is_duplicate, with_waiting}
 use Rattle.tcp_machine.specs.Acknowledgements.{after_measured, after_progress, after_duplicate, after_acked, after_told, after_end}
 use Rattle.tcp_machine.specs.Acknowledgements.{after_acknowledgement, flight}
-use Rattle.tcp_machine.specs.Arrivals.{is_time_wait, is_syn_received, is_closed, with_owed, ended, aborted, with_time_wait, after_entering}
+use Rattle.tcp_machine.specs.Arrivals.{is_time_wait, is_syn_received, is_closed, with_owed, ended, aborted, with_time_wait, after_entering, after_syn_once_more, is_syn_again}
 use Rattle.tcp_machine.specs.Arrivals.{after_unacceptable, why_reset, after_reset, is_own_syn_acknowledged, state_after_handshake, established}
 use Rattle.tcp_machine.specs.Arrivals.{reception_after, has_text, after_octets_of, has_ended, after_fin, after_text, after_last}
-use Rattle.tcp_machine.specs.Arrivals.{after_position_acknowledged, after_ack_field, heard, after_piece_of, after_segment_arrives}
+use Rattle.tcp_machine.specs.Arrivals.{after_position_acknowledged, after_ack_field, heard, after_piece_of, after_segment_arrives, is_answered, after_unbelieved}
 use Rattle.tcp_machine.specs.Opening.{with_syn, is_acknowledgement_of_syn, after_wrong_ack, after_syn, after_arrival_in_syn_sent}
 use Rattle.tcp_machine.specs.Opening.{after_arrival_in}
 use Rattle.tcp_machine.specs.Calls.{with_sender, closes_at_once, after_closing, after_abort}
-use Rattle.tcp_machine.specs.Timers.{has_unsent, is_held_back, with_probe_timer, is_given_up, after_loss_of_all, is_unheard}
+use Rattle.tcp_machine.specs.Timers.{has_unsent, is_held_back, with_probe_timer, is_given_up, after_loss_of_all, is_unheard, after_user_timeout, gives_up_at}
 use Rattle.tcp_machine.specs.Timers.{after_probe_time, after_resend_timer, most_probes, keep_alive_at, after_keep_alive}
 use Rattle.tcp_machine.specs.Timers.{after_time_wait, after_timers}
-use Rattle.tcp_machine.specs.Outgoing.{Action, SendSyn, SendNext, SendAgain, SendProbe}
+use Rattle.tcp_machine.specs.Outgoing.{Action, SendSyn, SendNext, SendAgain, SendProbe, action_in_opening, is_repeated_syn, is_challenge, is_syn_sent}
 use Rattle.tcp_machine.specs.Outgoing.{next_piece, first_piece, most_again, has_octets, is_worth_sending, ack_if, tells_something}
-use Rattle.tcp_machine.specs.Outgoing.{action_pending, is_reset, is_none_pending, is_owed, is_syn_due, action, after_action}
+use Rattle.tcp_machine.specs.Outgoing.{action_pending, is_reset, is_owed, is_syn_due, action, after_action}
 use Rattle.tcp_machine.specs.Due.{least, owed_at, timer_at, lacks_timer, due_at}
 use Rattle.tcp_laws.specs.Machines.{Side, unopened, Act, Opens, Accepts, Writes, Reads, Closes, Aborts, Chooses, Gets, Expires, Sends}
 use Rattle.tcp_laws.specs.Machines.{arrived, after_sending, after_act}
@@ -310,7 +310,7 @@ module _ (now a : ℕ) (s : Segment) (p : Piece) where
   timed_acknowledgement : (d : Connection) → is_opening d.state ≡ false → is_believed a d.transmission ≡ true → IsTimed d →
       IsTimed (after_acknowledgement now a s p d)
   timed_acknowledgement d o b h =
-      timed_end (after_told a s p d (after_acked now a s p d)) (timed_told d (after_acked now a s p d) (timed_acked d o b h))
+      timed_end (with_waiting now d.transmission (after_told a s p d (after_acked now a s p d))) (timed_told d (after_acked now a s p d) (timed_acked d o b h))
 
 timed_entering : (now : ℕ) (before : State) (d : Connection) → IsTimed d → IsTimed (after_entering now before d)
 timed_entering now before d h =
@@ -338,15 +338,18 @@ module _ (now : ℕ) (keeps : Bool) (s : Segment) (p : Piece) where
       (λ _. timed_entering now d.state e (moved d.state (after_peers_end d.state) d.transmission.sender.una d.transmission.sender.top
       d.transmission.nxt d.timers.resend_at (peers_end_moves d.state) h)) (λ _. h)
 
+  timed_unbelieved : (d : Connection) → IsTimed d → IsTimed (after_unbelieved p d)
+  timed_unbelieved d h = either IsTimed (has_text p) (with_pending Challenge d) d (λ _. timed_pending Challenge d h) (λ _. h)
+
   timed_position : (o : Option ℕ) (d : Connection) → is_opening d.state ≡ false → IsTimed d →
       IsTimed (after_position_acknowledged now keeps o s p d)
-  timed_position None d f h = timed_pending Challenge d h
+  timed_position None d f h = timed_unbelieved d h
   timed_position (Some a) d f h =
       let e = after_entering now d.state (after_acknowledgement now a s p d) in
-      either IsTimed (is_believed a d.transmission) (after_text now keeps p (after_last e)) (with_pending Challenge d)
+      either IsTimed (is_believed a d.transmission) (after_text now keeps p (after_last e)) (after_unbelieved p d)
       (λ b. timed_fin (after_octets_of now keeps p (after_last e)) (timed_octets (after_last e)
       (timed_last e (timed_entering now d.state (after_acknowledgement now a s p d) (timed_acknowledgement now a s p d f b h)))))
-      (λ _. timed_pending Challenge d h)
+      (λ _. timed_unbelieved d h)
 
   timed_field : (o : Option ℕ) (d : Connection) → (is_opening d.state ≡ true → is_syn_received d.state ≡ true) → IsTimed d →
       IsTimed (after_ack_field now keeps o s p d)
@@ -362,7 +365,7 @@ module _ (now : ℕ) (keeps : Bool) (s : Segment) (p : Piece) where
 module _ (c : Connection) (h : IsTimed c) where
   timed_unacceptable : (now : ℕ) (s : Segment) → IsTimed (after_unacceptable now s c)
   timed_unacceptable now s =
-      either IsTimed s.rst c
+      either IsTimed (s.rst || not (is_answered s c)) c
       (if s.fin && is_time_wait c.state then with_time_wait now (with_pending Challenge c) else with_pending Challenge c) (λ _. h) (λ _.
       either IsTimed (s.fin && is_time_wait c.state) (with_time_wait now (with_pending Challenge c)) (with_pending Challenge c)
       (λ e. waits (nat_lt (rank c.pending) (rank Challenge)) (last_of s.fin (is_time_wait c.state) e)) (λ _. timed_pending Challenge c h)) where
@@ -373,9 +376,12 @@ module _ (c : Connection) (h : IsTimed c) where
 
   timed_reset : (p : Piece) → IsTimed (after_reset p c)
   timed_reset p =
+      either IsTimed (is_time_wait c.state) c
+      (if p.start == expected c.reception.receiver then ended (Some (why_reset c)) c
+      else if is_in_window c.reception.receiver p.start then with_pending Challenge c else c) (λ _. h) (λ _.
       either IsTimed (p.start == expected c.reception.receiver) (ended (Some (why_reset c)) c)
       (if is_in_window c.reception.receiver p.start then with_pending Challenge c else c) (λ _. timed_ended (Some (why_reset c)) c h) (λ _.
-      either IsTimed (is_in_window c.reception.receiver p.start) (with_pending Challenge c) c (λ _. timed_pending Challenge c h) (λ _. h))
+      either IsTimed (is_in_window c.reception.receiver p.start) (with_pending Challenge c) c (λ _. timed_pending Challenge c h) (λ _. h)))
 
   module _ (k : is_opening c.state ≡ true → is_syn_received c.state ≡ true) (now : ℕ) (keeps : Bool) (s : Segment) where
     timed_piece : (o : Option Piece) → IsTimed (after_piece_of now keeps o s c)
@@ -389,11 +395,13 @@ module _ (c : Connection) (h : IsTimed c) where
         let a = is_at s.ack (number_at c.local 1) in
         let b = s.number == c.remote in
         either IsTimed (s.syn && not s.rst)
-        (if is_own_syn_acknowledged s c then with_owed AtOnce (established c) else with_pending Challenge c)
+        (after_syn_once_more s c)
         (after_piece_of now keeps (acceptable_piece c s) s c) (λ _.
-        either IsTimed (is_own_syn_acknowledged s c) (with_owed AtOnce (established c)) (with_pending Challenge c)
-        (λ e. timed_established c (received_opens c.state (last_of (a && b) (is_syn_received c.state) e)) h)
-        (λ _. timed_pending Challenge c h)) (λ _. timed_piece (acceptable_piece c s))
+        either IsTimed (is_own_syn_acknowledged s c) (with_owed AtOnce (established c))
+        (if is_syn_again s c then with_pending SynAgain c else with_pending Challenge c)
+        (λ e. timed_established c (received_opens c.state (last_of (a && b) (is_syn_received c.state) e)) h) (λ _.
+        either IsTimed (is_syn_again s c) (with_pending SynAgain c) (with_pending Challenge c) (λ _. timed_pending SynAgain c h)
+        (λ _. timed_pending Challenge c h))) (λ _. timed_piece (acceptable_piece c s))
 
   module _ (default link now : ℕ) (s : Segment) (o : is_opening c.state ≡ true) where
     timed_syn : (b : Bool) → IsTimed (after_syn default link now b s c)
@@ -490,12 +498,12 @@ module _ (now : ℕ) (c : Connection) (h : IsTimed c) where
   timed_resend =
       either IsTimed (not (has_passed c.timers.resend_at now)) c
       (if is_held_back c && not (is_opening c.state) then after_probe_time now c
-      else if is_given_up now c then aborted TimedOut c else after_loss_of_all c) (λ _. h) (λ _.
+      else if is_given_up c then aborted TimedOut c else after_loss_of_all c) (λ _. h) (λ _.
       either IsTimed (is_held_back c && not (is_opening c.state)) (after_probe_time now c)
-      (if is_given_up now c then aborted TimedOut c else after_loss_of_all c) (λ e.
-      either IsTimed (is_unheard now c && nat_lt 0 c.timers.probes) (aborted TimedOut c) (with_pending Probe (probing c))
+      (if is_given_up c then aborted TimedOut c else after_loss_of_all c) (λ e.
+      either IsTimed (is_unheard c) (aborted TimedOut c) (with_pending Probe (probing c))
       (λ _. timed_aborted TimedOut c h) (λ _. timed_pending Probe (probing c) (timed_probing e))) (λ _.
-      either IsTimed (is_given_up now c) (aborted TimedOut c) (after_loss_of_all c) (λ _. timed_aborted TimedOut c h)
+      either IsTimed (is_given_up c) (aborted TimedOut c) (after_loss_of_all c) (λ _. timed_aborted TimedOut c h)
       (λ _. lost_numbers (is_opening c.state) c.state c.transmission.sender.una c.transmission.sender.top c.transmission.nxt
       c.timers.resend_at refl h)))
 
@@ -513,12 +521,16 @@ module _ (now : ℕ) (c : Connection) (h : IsTimed c) where
       (λ _. running c.state c.transmission.sender.una c.transmission.sender.top c.transmission.nxt (later now c.estimator.timeout)
       c.timers.resend_at h) (λ _. h)
 
+timed_user_timeout : (now : ℕ) (c : Connection) → IsTimed c → IsTimed (after_user_timeout now c)
+timed_user_timeout now c h = either IsTimed (has_passed (gives_up_at c) now) (aborted TimedOut c) c (λ _. timed_aborted TimedOut c h) (λ _. h)
+
 timed_timers : (now : ℕ) (c : Connection) → IsTimed c → IsTimed (after_timers now c)
 timed_timers now c h =
-    let a = after_time_wait now c in
+    let z = after_time_wait now c in
+    let a = after_user_timeout now z in
     let b = after_resend_timer now a in
     let d = after_keep_alive now b in
-    timed_probe_timer now d (timed_alive now b (timed_resend now a (timed_time_wait now c h)))
+    timed_probe_timer now d (timed_alive now b (timed_resend now a (timed_user_timeout now z (timed_time_wait now c h))))
 
 -- what is sent
 still_running : (o : Option ℕ) (l : ℕ) → is_none (if is_none o then Some l else o) ≡ false
@@ -607,6 +619,7 @@ module _ (now : ℕ) (c : Connection) (h : IsTimed c) where
       (λ _. timed_sent_next (not_and_true (is_opening c.state) e) (next_piece c))
       (λ _. timed_ack (is_synchronized c.state && tells_something now c))
   timed_action_pending Challenge e = timed_ack (is_synchronized c.state)
+  timed_action_pending SynAgain e = timed_ack (is_synchronized c.state)
   timed_action_pending KeepAlive e = h
   timed_action_pending Probe e =
       either IsSentTimed (sends_octets c.state && has_octets (next_piece c)) (Some (SendNext (next_piece c)))
@@ -618,10 +631,11 @@ module _ (now : ℕ) (c : Connection) (h : IsTimed c) where
   timed_sends : IsSentTimed (action now c)
   timed_sends =
       let t = c.transmission in
-      either IsSentTimed (is_opening c.state && not (is_reset c.pending)) (if is_syn_due now c then Some SendSyn else None)
+      either IsSentTimed (is_opening c.state && not (is_reset c.pending)) (action_in_opening now c)
       (action_pending c.pending now c) (λ _.
-      either IsSentTimed (is_syn_due now c) (Some SendSyn) None
-      (λ _. syn_numbers c.state t.sender.una t.sender.top t.nxt (later now c.estimator.timeout) c.timers.resend_at h) (λ _. h))
+      either IsSentTimed (is_syn_due now c) (Some SendSyn) (ack_if (is_challenge c.pending && not (is_syn_sent c.state)))
+      (λ _. syn_numbers c.state t.sender.una t.sender.top t.nxt (later now c.estimator.timeout) c.timers.resend_at h)
+      (λ _. timed_ack (is_challenge c.pending && not (is_syn_sent c.state))))
       (λ e. timed_action_pending c.pending e)
 
 -- what a program does
@@ -728,6 +742,7 @@ module _ (now : ℕ) (c : Connection) where
       (ack_if (is_synchronized c.state && tells_something now c)) (λ _. refl)
       (λ f. false_true (sym f ∙ both_are (sends_octets c.state) (is_worth_sending c (next_piece c)) e (w refl)))
   some_pending e Challenge w = some_ack (is_synchronized c.state) (sends_synchronized c.state e)
+  some_pending e SynAgain w = some_ack (is_synchronized c.state) (sends_synchronized c.state e)
   some_pending e KeepAlive w = refl
   some_pending e Probe w =
       either IsSome (sends_octets c.state && has_octets (next_piece c)) (Some (SendNext (next_piece c)))
@@ -737,13 +752,14 @@ module _ (now : ℕ) (c : Connection) where
 
   some_action : sends_octets c.state ≡ true → is_worth_sending c (next_piece c) ≡ true → IsSome (action now c)
   some_action e w =
-      either IsSome (is_opening c.state && not (is_reset c.pending)) (if is_syn_due now c then Some SendSyn else None)
+      either IsSome (is_opening c.state && not (is_reset c.pending)) (action_in_opening now c)
       (action_pending c.pending now c)
       (λ f. false_true (sym (sends_opened c.state e) ∙ first_of_two (is_opening c.state) (not (is_reset c.pending)) f))
       (λ _. some_pending e c.pending (λ _. w))
 
   some_reset : (p : Pending) → is_opening c.state && not (is_reset p) ≡ false → is_opening c.state ≡ true → IsSome (action_pending p now c)
   some_reset Empty e o = false_true (sym (not_and_true (is_opening c.state) e) ∙ o)
+  some_reset SynAgain e o = false_true (sym (not_and_true (is_opening c.state) e) ∙ o)
   some_reset Challenge e o = false_true (sym (not_and_true (is_opening c.state) e) ∙ o)
   some_reset KeepAlive e o = false_true (sym (not_and_true (is_opening c.state) e) ∙ o)
   some_reset Probe e o = false_true (sym (not_and_true (is_opening c.state) e) ∙ o)
@@ -761,10 +777,10 @@ module _ (now : ℕ) (c : Connection) where
   some_syn o n =
       let z = c.transmission.nxt == 0 in
       let w = is_owed c.reception.owed now in
-      let p = not (is_none_pending c.pending) in
-      either IsSome (is_opening c.state && not (is_reset c.pending)) (if is_syn_due now c then Some SendSyn else None)
+      let p = is_repeated_syn c.pending in
+      either IsSome (is_opening c.state && not (is_reset c.pending)) (action_in_opening now c)
       (action_pending c.pending now c) (λ _.
-      either IsSome (is_syn_due now c) (Some SendSyn) None (λ _. refl)
+      either IsSome (is_syn_due now c) (Some SendSyn) (ack_if (is_challenge c.pending && not (is_syn_sent c.state))) (λ _. refl)
       (λ f. false_true (sym f ∙ or_left (z || w) p (or_left z w (first_is c.transmission.nxt n)))))
       (λ e. some_reset c.pending e o)
 
@@ -779,7 +795,7 @@ module _ (now : ℕ) (c : Connection) where
         by : (b : Bool) → is_none c.timers.resend_at ≡ b → is_some (action now c) ≡ false → lacks_timer c ≡ false → IsDue (timer_at c)
         by true r e f = k e f r
         by false r e f =
-            least_some (least c.timers.resend_at c.timers.ends_at) (least (keep_alive_at c) (owed_at c.reception.owed))
+            least_some (least c.timers.resend_at c.timers.ends_at) (least (least (gives_up_at c) (keep_alive_at c)) (owed_at c.reception.owed))
             (least_some c.timers.resend_at c.timers.ends_at (some_of_not_none c.timers.resend_at r))
 
   held_back : sends_octets c.state ≡ true → c.transmission.nxt ≤ c.transmission.sender.una →

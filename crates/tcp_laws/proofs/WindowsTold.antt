@@ -8,13 +8,14 @@ use Rattle.std.proofs.lemmas.Option.{none-some, slice_get_within}
 use Rattle.std.proofs.lemmas.List.{length-append, length-drop, length-replicate}
 use Rattle.std.proofs.Math.Nat.{div-mul-le_self, lt-div-mul-add, mul-le-mul_right}
 use Rattle.tcp_machine.specs.declared.state.State.{State}
-use Rattle.tcp_machine.specs.declared.state.State.TheVariants.{SynSent, SynReceived}
+use Rattle.tcp_machine.specs.declared.state.State.TheVariants.{Closed, Listen, SynSent, SynReceived, Established, FinWait1, FinWait2, CloseWait}
+use Rattle.tcp_machine.specs.declared.state.State.TheVariants.{Closing, LastAck, TimeWait}
 use Rattle.tcp_machine.specs.declared.settings.Settings.{Settings}
 use Rattle.tcp_machine.specs.declared.timers.Owed.{Owed}
 use Rattle.tcp_machine.specs.declared.timers.Owed.TheVariants.{Nothing, AtOnce}
 use Rattle.tcp_machine.specs.Pieces.{Piece}
 use Rattle.tcp_machine.specs.declared.timers.Pending.{Pending}
-use Rattle.tcp_machine.specs.declared.timers.Pending.TheVariants.{Empty, Challenge, Resend, Probe, KeepAlive, Reset}
+use Rattle.tcp_machine.specs.declared.timers.Pending.TheVariants.{Empty, Challenge, Resend, Probe, KeepAlive, Reset, SynAgain}
 use Rattle.tcp_machine.specs.Receiving.{Receiver, in_order, next, edge, expected, is_at, after_read}
 use Rattle.tcp_machine.specs.States.{is_opening, is_synchronized, sends_octets}
 use Rattle.tcp_machine.specs.Connection.{Connection, Reception}
@@ -22,7 +23,7 @@ use Rattle.tcp_machine.specs.Windows.{window_step, next_promise, window_field}
 use Rattle.tcp_machine.specs.Opening.{no_reception, own_scale_for, after_arrival}
 use Rattle.tcp_machine.specs.Calls.{last_position, readable_count, after_reading, after_closing, after_abort}
 use Rattle.tcp_machine.specs.Timers.{after_timers}
-use Rattle.tcp_machine.specs.Outgoing.{Action, SendReset, SendSyn, SendNext, SendAgain, SendProbe, SendKeepAlive, SendAck}
+use Rattle.tcp_machine.specs.Outgoing.{Action, SendReset, SendSyn, SendNext, SendAgain, SendProbe, SendKeepAlive, SendAck, is_challenge, action_in_opening, is_syn_sent}
 use Rattle.tcp_machine.specs.Outgoing.{next_piece, first_piece, most_again, has_octets, is_worth_sending, ack_if, tells_something}
 use Rattle.tcp_machine.specs.Outgoing.{action_pending, is_reset, is_syn_due, action, promise_now, reception_told, after_action}
 use Rattle.tcp_laws.specs.Machines.{Sent, sent_as, IsPlain, Side, unopened, Act, Opens, Accepts, Writes, Reads, Closes, Aborts, Chooses}
@@ -30,16 +31,15 @@ use Rattle.tcp_laws.specs.Machines.{Gets, Expires, Sends, arrived, after_sending
 use Rattle.tcp_laws.specs.Waiting.{after_acts}
 use Rattle.tcp_laws.specs.Edges.{told_edge, Begins, NoneBegins, WindowsStayTold}
 use Rattle.tcp_laws.proofs.Lists.{in_order_none, in_order_drop, in_order_short}
-use Rattle.tcp_laws.proofs.ReceivingSteps.{false_true, first_of_two, more}
+use Rattle.tcp_laws.proofs.ReceivingSteps.{false_true, more}
 use Rattle.tcp_laws.proofs.MachineArrivals.{either}
 use Rattle.tcp_laws.proofs.Onward.{Onward, onward_same, on_in, on_timers, on_closing, on_abort}
 
 -- what holds of a connection's state and reception, and of the segments that it sent
 pub record Told (st : State) (r : Reception) (log : List Sent) : Type 0 where
-  pub opening : is_opening st ≡ true → r.promised ≤ 1 + min 65535 (length r.receiver.cells)
   pub first : 1 ≤ r.receiver.base
   pub room : r.promised ≤ edge r.receiver
-  pub none : is_opening st ≡ true → (i : ℕ) (k : Sent) → slice_get log i ≡ Some k → IsPlain k.segment → ⊥
+  pub none : is_syn_sent st ≡ true → (i : ℕ) (k : Sent) → slice_get log i ≡ Some k → IsPlain k.segment → ⊥
   pub low : (i : ℕ) (k : Sent) → slice_get log i ≡ Some k → IsPlain k.segment → told_edge r.scale k ≤ max r.promised (expected r.receiver)
   pub near : (i : ℕ) (k : Sent) → slice_get log i ≡ Some k → IsPlain k.segment →
       told_edge r.scale k ≤ expected r.receiver + 65535 * 2 ^ r.scale
@@ -56,15 +56,12 @@ to_max t p e f h k = grind arith
 to_far : (t e f m : ℕ) → t ≤ e + m → e ≤ f → t ≤ f + m
 to_far t e f m h k = omega (arith, h, k)
 
-same_bound : (p q n m : ℕ) → p ≤ 1 + min 65535 n → q ≡ p → m ≡ n → q ≤ 1 + min 65535 m
-same_bound p q n m h e f = rw e (rw f h)
-
 same_room : (p q b n c m : ℕ) → p ≤ b + n → q ≡ p → b ≤ c → m ≡ n → q ≤ c + m
 same_room p q b n c m h e l f = omega (arith, h, e, l, f)
 
 -- what arrives, timers and a program
 onward : (st s : State) (r q : Reception) (log : List Sent) → Onward st r s q → Told st r log → Told s q log
-onward st s r q log o h = by (is_opening st) refl where
+onward st s r q log o h = by (is_syn_sent st) refl where
   first : 1 ≤ q.receiver.base
   first = let a = h.first in let b = o.base in omega (arith, a, b)
 
@@ -73,13 +70,8 @@ onward st s r q log o h = by (is_opening st) refl where
       same_room r.promised q.promised r.receiver.base (length r.receiver.cells) q.receiver.base (length q.receiver.cells) h.room o.promised
       o.base o.places
 
-  opening : is_opening s ≡ true → q.promised ≤ 1 + min 65535 (length q.receiver.cells)
-  opening e =
-      same_bound r.promised q.promised (length r.receiver.cells) (length q.receiver.cells) (h.opening (o.opens e)) o.promised o.places
-
-  by : (b : Bool) → is_opening st ≡ b → Told s q log
+  by : (b : Bool) → is_syn_sent st ≡ b → Told s q log
   by true e = record {
-    opening = opening;
     first = first;
     room = room;
     none = λ f. h.none e;
@@ -89,7 +81,6 @@ onward st s r q log o h = by (is_opening st) refl where
   }
   by false e =
       let scale = o.scale e in record {
-        opening = opening;
         first = first;
         room = room;
         none = λ f. h.none (o.opens f);
@@ -148,7 +139,6 @@ module _ (st : State) (r : Reception) (log : List Sent) (k : Sent) where
   -- one that isn't plain
   quiet : (IsPlain k.segment → ⊥) → Told st r log → Told st r (log ++ k ∷ [])
   quiet other h = record {
-    opening = h.opening;
     first = h.first;
     room = h.room;
     none = λ e i l g p. none e i l p (last_or log k i l g);
@@ -159,7 +149,7 @@ module _ (st : State) (r : Reception) (log : List Sent) (k : Sent) where
     not_last : {P : Type 0} (l : Sent) → k ≡ l → IsPlain l.segment → P
     not_last l e p = absurd (other (subst (λ (x : Sent). IsPlain x.segment) (sym e) p))
 
-    none : is_opening st ≡ true → (i : ℕ) (l : Sent) → IsPlain l.segment →
+    none : is_syn_sent st ≡ true → (i : ℕ) (l : Sent) → IsPlain l.segment →
         ((slice_get log i ≡ Some l) ⊎ ((i ≡ length log) × (k ≡ l))) → ⊥
     none e i l p (inl g) = h.none e i l g p
     none e i l p (inr g) = not_last l g.1 p
@@ -230,7 +220,7 @@ wider : (t p q e : ℕ) → t ≤ max p e → p ≤ q → t ≤ max q e
 wider t p q e h k = grind arith
 
 -- a segment that tells a window
-module _ (c : Connection) (log : List Sent) (k : Sent) (up : is_opening c.state ≡ false)
+module _ (c : Connection) (log : List Sent) (k : Sent) (up : is_syn_sent c.state ≡ false)
     (acknowledged : k.acknowledged ≡ expected c.reception.receiver)
     (window : k.segment.window ≡ window_field (promise_now c) c.reception) (h : IsTold c log) where
   abbrev r : Reception
@@ -253,7 +243,6 @@ module _ (c : Connection) (log : List Sent) (k : Sent) (up : is_opening c.state 
 
   pub told : Told c.state (reception_told c) (log ++ k ∷ [])
   told = record {
-    opening = λ f. false_true (sym up ∙ f);
     first = h.first;
     room = further.1;
     none = λ f. false_true (sym up ∙ f);
@@ -300,8 +289,29 @@ not_and_true : (b : Bool) → b && true ≡ false → b ≡ false
 not_and_true true e = false_true (sym e)
 not_and_true false e = refl
 
-first_promise : (n b : ℕ) → 1 ≤ b → 1 + min 65535 n ≤ b + n
-first_promise n b h = grind arith
+first_promise : (n b p : ℕ) → 1 ≤ b → p ≤ b + n → max p (1 + min 65535 n) ≤ b + n
+first_promise n b p h k = grind arith
+
+le_max_left : (a b : ℕ) → a ≤ max a b
+le_max_left a b = grind arith
+
+opened_knows : (s : State) → is_opening s ≡ false → is_syn_sent s ≡ false
+opened_knows SynSent e = e
+opened_knows Closed e = refl
+opened_knows Listen e = refl
+opened_knows SynReceived e = refl
+opened_knows Established e = refl
+opened_knows FinWait1 e = refl
+opened_knows FinWait2 e = refl
+opened_knows CloseWait e = refl
+opened_knows Closing e = refl
+opened_knows LastAck e = refl
+opened_knows TimeWait e = refl
+
+knows : (b c : Bool) → b && not c ≡ true → c ≡ false
+knows true true e = sym e
+knows true false e = refl
+knows false c e = false_true e
 
 module _ (now : ℕ) (c : Connection) (log : List Sent) (h : IsTold c log) where
   abbrev IsSentTold : Option Action → Type 0
@@ -310,20 +320,20 @@ module _ (now : ℕ) (c : Connection) (log : List Sent) (h : IsTold c log) where
   told_reset : (number : ℕ) → IsSentTold (Some (SendReset number))
   told_reset number = quiet c.state c.reception log (sent_as (SendReset number) c) (λ p. false_true (sym p.no_reset)) h
 
-  told_syn : is_opening c.state ≡ true → IsSentTold (Some SendSyn)
-  told_syn o =
+  told_syn : IsSentTold (Some SendSyn)
+  told_syn =
       let r = c.reception in
+      let p = max r.promised (1 + min 65535 (length r.receiver.cells)) in
       quiet c.state (after_action now SendSyn c).reception log (sent_as SendSyn c) (λ p. false_true (sym p.no_syn)) (record {
-        opening = λ _. omega arith;
         first = h.first;
-        room = first_promise (length r.receiver.cells) r.receiver.base h.first;
+        room = first_promise (length r.receiver.cells) r.receiver.base r.promised h.first h.room;
         none = h.none;
-        low = λ i k g p. absurd (h.none o i k g p);
-        near = λ i k g p. absurd (h.none o i k g p);
-        kept = λ i j k l n g f p x. absurd (h.none o i k g p);
+        low = λ i k g q. wider (told_edge r.scale k) r.promised p (expected r.receiver) (h.low i k g q) (le_max_left r.promised (1 + min 65535 (length r.receiver.cells)));
+        near = h.near;
+        kept = h.kept;
       })
 
-  module _ (up : is_opening c.state ≡ false) where
+  module _ (up : is_syn_sent c.state ≡ false) where
     told_ack : (b : Bool) → IsSentTold (ack_if b)
     told_ack true = told c log (sent_as SendAck c) up refl refl h
     told_ack false = h
@@ -342,25 +352,30 @@ module _ (now : ℕ) (c : Connection) (log : List Sent) (h : IsTold c log) where
 
   told_pending : (p : Pending) → is_opening c.state && not (is_reset p) ≡ false → IsSentTold (action_pending p now c)
   told_pending Empty e =
-      let up = not_and_true (is_opening c.state) e in
+      let up = opened_knows c.state (not_and_true (is_opening c.state) e) in
       either IsSentTold (sends_octets c.state && is_worth_sending c (next_piece c)) (Some (SendNext (next_piece c)))
       (ack_if (is_synchronized c.state && tells_something now c)) (λ _. told_next up (next_piece c))
       (λ _. told_ack up (is_synchronized c.state && tells_something now c))
-  told_pending Challenge e = told_ack (not_and_true (is_opening c.state) e) (is_synchronized c.state)
-  told_pending KeepAlive e = told_keep (not_and_true (is_opening c.state) e)
+  told_pending SynAgain e = told_ack (opened_knows c.state (not_and_true (is_opening c.state) e)) (is_synchronized c.state)
+  told_pending Challenge e = told_ack (opened_knows c.state (not_and_true (is_opening c.state) e)) (is_synchronized c.state)
+  told_pending KeepAlive e = told_keep (opened_knows c.state (not_and_true (is_opening c.state) e))
   told_pending Probe e =
-      let up = not_and_true (is_opening c.state) e in
+      let up = opened_knows c.state (not_and_true (is_opening c.state) e) in
       either IsSentTold (sends_octets c.state && has_octets (next_piece c)) (Some (SendNext (next_piece c)))
       (Some (SendProbe (first_piece 1 c))) (λ _. told_next up (next_piece c)) (λ _. told_probe up (first_piece 1 c))
-  told_pending Resend e = told_again (not_and_true (is_opening c.state) e) (first_piece (most_again c) c)
+  told_pending Resend e = told_again (opened_knows c.state (not_and_true (is_opening c.state) e)) (first_piece (most_again c) c)
   told_pending (Reset number) e = told_reset number
+
+  told_challenge : (b : Bool) → is_challenge c.pending && not (is_syn_sent c.state) ≡ b → IsSentTold (ack_if b)
+  told_challenge true e = told_ack (knows (is_challenge c.pending) (is_syn_sent c.state) e) true
+  told_challenge false e = h
 
   told_sends : IsSentTold (action now c)
   told_sends =
-      either IsSentTold (is_opening c.state && not (is_reset c.pending)) (if is_syn_due now c then Some SendSyn else None)
-      (action_pending c.pending now c) (λ e.
-      either IsSentTold (is_syn_due now c) (Some SendSyn) None
-      (λ _. told_syn (first_of_two (is_opening c.state) (not (is_reset c.pending)) e)) (λ _. h)) (λ e. told_pending c.pending e)
+      either IsSentTold (is_opening c.state && not (is_reset c.pending)) (action_in_opening now c)
+      (action_pending c.pending now c) (λ _.
+      either IsSentTold (is_syn_due now c) (Some SendSyn) (ack_if (is_challenge c.pending && not (is_syn_sent c.state)))
+      (λ _. told_syn) (λ _. told_challenge (is_challenge c.pending && not (is_syn_sent c.state)) refl)) (λ e. told_pending c.pending e)
 
 -- whatever a side does once it has begun
 abbrev unopened_cells : ℕ → List (Option ℕ)
@@ -412,7 +427,6 @@ told_acts iss (act ∷ acts) x n h = told_acts iss acts (after_act iss act x) n.
 at_first : (st : State) (size scale : ℕ) (o : Owed) (permitted : Bool) →
     Told st (record (no_reception size) { scale = scale; owed = o; sack_permitted = permitted }) []
 at_first st size scale o permitted = record {
-  opening = λ _. omega arith;
   first = omega arith;
   room = omega arith;
   none = λ _ i k g. absurd (none-some k g);

@@ -4,11 +4,11 @@ use Rattle.std.proofs.Common.{subst, arith, Option, Some, None}
 use Rattle.std.specs.Prelude.{◌&&◌, not, min, max, if◌then◌else◌}
 use Rattle.std.proofs.lemmas.List.{length-take}
 use Rattle.tcp_machine.specs.declared.timers.Pending.{Pending}
-use Rattle.tcp_machine.specs.declared.timers.Pending.TheVariants.{Empty, Challenge, Resend, Probe, KeepAlive, Reset}
+use Rattle.tcp_machine.specs.declared.timers.Pending.TheVariants.{Empty, Challenge, Resend, Probe, KeepAlive, Reset, SynAgain}
 use Rattle.tcp_machine.specs.Pieces.{after_octets}
 use Rattle.tcp_machine.specs.States.{is_opening, is_synchronized, sends_octets}
 use Rattle.tcp_machine.specs.Connection.{Connection}
-use Rattle.tcp_machine.specs.Outgoing.{Action, SendReset, SendSyn, SendNext, SendAgain, SendProbe, SendKeepAlive, SendAck}
+use Rattle.tcp_machine.specs.Outgoing.{Action, SendReset, SendSyn, SendNext, SendAgain, SendProbe, SendKeepAlive, SendAck, action_in_opening, is_challenge, is_syn_sent}
 use Rattle.tcp_machine.specs.Outgoing.{limit_of, next_piece, first_piece, most_again, has_octets, is_worth_sending, ack_if, tells_something}
 use Rattle.tcp_machine.specs.Outgoing.{action_pending, is_reset, is_syn_due, action}
 use Rattle.tcp_laws.specs.Edges.{NothingBeyondTheWindow}
@@ -64,6 +64,7 @@ module _ (now : ℕ) (c : Connection) where
       (ack_if (is_synchronized c.state && tells_something now c)) (λ _. within_next)
       (λ _. within_ack (is_synchronized c.state && tells_something now c))
   within_pending Challenge = within_ack (is_synchronized c.state)
+  within_pending SynAgain = within_ack (is_synchronized c.state)
   within_pending KeepAlive = tt
   within_pending Probe =
       either Within (sends_octets c.state && has_octets (next_piece c)) (Some (SendNext (next_piece c)))
@@ -73,8 +74,10 @@ module _ (now : ℕ) (c : Connection) where
 
   within : Within (action now c)
   within =
-      either Within (is_opening c.state && not (is_reset c.pending)) (if is_syn_due now c then Some SendSyn else None)
-      (action_pending c.pending now c) (λ _. either Within (is_syn_due now c) (Some SendSyn) None (λ _. tt) (λ _. tt))
+      either Within (is_opening c.state && not (is_reset c.pending)) (action_in_opening now c)
+      (action_pending c.pending now c) (λ _.
+      either Within (is_syn_due now c) (Some SendSyn) (ack_if (is_challenge c.pending && not (is_syn_sent c.state))) (λ _. tt)
+      (λ _. within_ack (is_challenge c.pending && not (is_syn_sent c.state))))
       (λ _. within_pending c.pending)
 
 pub nothing_beyond_the_window : NothingBeyondTheWindow

@@ -1,7 +1,7 @@
 -- What the two connections of the worked run do for their programs, and beside it what they don't.
 use Rattle.std.specs.Prelude.{◌≡◌, ℕ, true, false, [], ◌∷◌, Some, None}
 use Rattle.tcp_machine.specs.declared.state.State.TheVariants.{Established, SynReceived}
-use Rattle.tcp_machine.specs.declared.timers.Pending.TheVariants.{Challenge}
+use Rattle.tcp_machine.specs.declared.timers.Pending.TheVariants.{Empty, Challenge}
 use Rattle.tcp_machine.specs.Connection.{Connection}
 use Rattle.tcp_machine.specs.Segments.{Segment}
 use Rattle.tcp_machine.specs.Arrivals.{after_segment_arrives}
@@ -52,7 +52,9 @@ pub record AConnectionServes : Type 0 where
   -- two of three octets are acknowledged, and leave the ring; of five that weren't sent nothing is believed
   pub leave : (a_hears 1).transmission.sender.ring ≡ 9 ∷ []
   pub above : (a_hears 4).transmission ≡ a_sent.transmission
-  pub answered : (a_hears 4).pending ≡ Challenge
+  -- an empty segment that tells so brings nothing; one with an octet is answered
+  pub silent : (a_hears 4).pending ≡ Empty
+  pub answered : (after_segment_arrives 3 true (record (acknowledgement 4) { octets = 5 ∷ [] }) a_sent).pending ≡ Challenge
   -- A sends all three octets at once; with a window for two of them it waits
   pub sent : action 2 a_writes.connection ≡ Some (SendNext (record { start = 1; octets = 7 ∷ 8 ∷ 9 ∷ []; ends = false }))
   pub held_back : action 3 (a_with_edge 3) ≡ None

@@ -1,11 +1,11 @@
 -- What is acknowledged (RFC 9293 3.10.7.4, fifth check; RFC 5961 5; RFC 6298 5; RFC 5681 2).
-use Rattle.std.specs.Prelude.{ℕ, ◌+◌, ◌-◌, min, max, nat_lt, nat_le, ◌==◌, ◌&&◌, not, Bool, false}
+use Rattle.std.specs.Prelude.{ℕ, ◌+◌, ◌-◌, min, max, nat_lt, nat_le, ◌==◌, ◌&&◌, not, Bool, false, is_none}
 use Rattle.std.specs.Prelude.{length, Option, Some, None, if◌then◌else◌}
 use Rattle.tcp_machine.specs.Instants.{later}
 use Rattle.tcp_machine.specs.declared.timers.Timers.{Timers}
 use Rattle.tcp_machine.specs.declared.timers.Measured.{Measured}
 use Rattle.tcp_machine.specs.declared.timers.Pending.{Pending}
-use Rattle.tcp_machine.specs.declared.timers.Pending.TheVariants.{Empty, Challenge, Resend, Probe, KeepAlive, Reset}
+use Rattle.tcp_machine.specs.declared.timers.Pending.TheVariants.{Empty, Challenge, SynAgain, Resend, Probe, KeepAlive, Reset}
 use Rattle.tcp_machine.specs.Pieces.{Piece}
 use Rattle.tcp_machine.specs.Sending.{Sender, after_position}
 use Rattle.tcp_machine.specs.declared.estimator.Estimator.{Estimator}
@@ -20,10 +20,11 @@ use Rattle.tcp_machine.specs.States.{after_end_acknowledged}
 abbrev pub rank : Pending → ℕ
 rank Empty = 0
 rank Challenge = 1
-rank KeepAlive = 2
-rank Probe = 3
-rank Resend = 4
-rank (Reset number) = 5
+rank SynAgain = 2
+rank KeepAlive = 3
+rank Probe = 4
+rank Resend = 5
+rank (Reset number) = 6
 
 abbrev pub with_pending : Pending → Connection → Connection
 with_pending p c = if nat_lt (rank c.pending) (rank p) then record c { pending = p } else c
@@ -115,6 +116,24 @@ abbrev pub after_end : Connection → Connection
 after_end c =
     if is_end_acknowledged c.transmission.sender then record c { state = after_end_acknowledged c.state } else c
 
+-- Whether something that was sent, and for which the peer's window has room, waits to be acknowledged
+abbrev pub is_waited_for : Transmission → Bool
+is_waited_for t = nat_lt t.sender.una (min t.sender.top t.told_edge)
+
+-- The peer has let something wait from the first segment on that it didn't answer. An acknowledgement ends that, unless something
+-- for which the window has room stays unacknowledged; and where the window had no room before, the wait begins anew
+abbrev pub since_first : ℕ → Option ℕ → Option ℕ
+since_first now since = if is_none since then Some now else since
+
+abbrev pub waiting_after : ℕ → (before after : Transmission) → Option ℕ → Option ℕ
+waiting_after now before after since =
+    if is_waited_for after then (if is_waited_for before then since_first now since else Some now) else None
+
+abbrev pub with_waiting : ℕ → (before : Transmission) → Connection → Connection
+with_waiting now before c = record c {
+  timers = record c.timers { waiting_since = waiting_after now before c.transmission c.timers.waiting_since };
+}
+
 -- what an acknowledgement that is believed changes
 abbrev pub after_acknowledgement : (now a : ℕ) → Segment → Piece → Connection → Connection
-after_acknowledgement now a s p c = after_end (after_told a s p c (after_acked now a s p c))
+after_acknowledgement now a s p c = after_end (with_waiting now c.transmission (after_told a s p c (after_acked now a s p c)))

@@ -1,23 +1,24 @@
 -- A segment arrives at a connection whose peer's initial number is known (RFC 9293 3.10.7.4). In SYN-SENT `Opening` tells
 -- what happens; in CLOSED and LISTEN there is no connection, and the host answers.
 use Rattle.std.specs.Prelude.{ℕ, ◌+◌, ◌-◌, ◌*◌, ◌<◌, min, max, nat_lt, nat_le, ◌==◌, ◌&&◌, ◌||◌, not, Bool, true, false}
-use Rattle.std.specs.Prelude.{List, [], ◌∷◌, length, drop, Option, Some, None, if◌then◌else◌}
+use Rattle.std.specs.Prelude.{List, [], ◌∷◌, length, drop, Option, Some, None, is_none, if◌then◌else◌}
+use Rattle.std.specs.Option.{option_and_then}
 use Rattle.tcp_machine.specs.Instants.{later}
 use Rattle.tcp_machine.specs.declared.settings.Settings.{Settings}
 use Rattle.tcp_machine.specs.declared.timers.Timers.{Timers}
 use Rattle.tcp_machine.specs.declared.timers.Owed.{Owed}
 use Rattle.tcp_machine.specs.declared.timers.Owed.TheVariants.{Nothing, By, AtOnce}
-use Rattle.tcp_machine.specs.declared.timers.Pending.TheVariants.{Empty, Challenge, Reset}
+use Rattle.tcp_machine.specs.declared.timers.Pending.TheVariants.{Empty, Challenge, SynAgain, Reset}
 use Rattle.tcp_machine.specs.declared.timers.Ending.{Ending}
 use Rattle.tcp_machine.specs.declared.timers.Ending.TheVariants.{ByPeer, Refused}
 use Rattle.tcp_machine.specs.declared.state.State.{State}
 use Rattle.tcp_machine.specs.declared.state.State.TheVariants.{Closed, SynReceived, Established, FinWait1, TimeWait}
-use Rattle.tcp_machine.specs.Positions.{number_at}
+use Rattle.tcp_machine.specs.Positions.{number_at, position_near}
 use Rattle.tcp_machine.specs.Pieces.{Piece}
 use Rattle.tcp_machine.specs.Receiving.{Receiver, in_order, next, expected, is_at, with_piece, is_in_window}
 use Rattle.tcp_machine.specs.declared.estimator.Estimator.{Estimator}
 use Rattle.tcp_machine.specs.States.{is_synchronized, takes_octets, after_peers_end}
-use Rattle.tcp_machine.specs.Connection.{Connection, Reception}
+use Rattle.tcp_machine.specs.Connection.{Connection, Reception, Transmission}
 use Rattle.tcp_machine.specs.Segments.{Segment, acceptable_piece, acknowledged_in}
 use Rattle.tcp_machine.specs.Acknowledgements.{with_pending, empty_position, is_believed, after_acknowledgement}
 
@@ -56,22 +57,42 @@ with_time_wait now c = record c { timers = record (no_timers c.timers) { ends_at
 abbrev pub after_entering : ℕ → State → Connection → Connection
 after_entering now before c = if is_time_wait c.state && not (is_time_wait before) then with_time_wait now c else c
 
+-- Whether a segment that isn't taken is answered. One with octets or the end is: its sender waits. An empty one is, where it asks
+-- as a keep-alive does (RFC 9293 3.8.4): it stands before the next position, and acknowledges nothing that wasn't sent. Any other
+-- one is an answer itself, and two sides whose numbers don't fit would answer each other without end
+abbrev pub is_before : Option ℕ → ℕ → Bool
+is_before None p = true
+is_before (Some start) p = nat_lt start p
+
+abbrev pub is_of_sent : Option ℕ → Transmission → Bool
+is_of_sent None t = false
+is_of_sent (Some a) t = is_believed a t && nat_le a (empty_position t)
+
+abbrev pub asks : Segment → Connection → Bool
+asks s c =
+    is_before (position_near c.remote (next c.reception.receiver) s.number) (expected c.reception.receiver)
+    && is_of_sent (option_and_then (λ (n : ℕ). acknowledged_in c n) s.ack) c.transmission
+
+abbrev pub is_answered : Segment → Connection → Bool
+is_answered s c = nat_lt 0 (length s.octets) || s.fin || asks s c
+
 -- First: a segment isn't acceptable. It is answered by an acknowledgement, unless it is a reset. An end that comes once
 -- more restarts TIME-WAIT
 abbrev pub after_unacceptable : ℕ → Segment → Connection → Connection
 after_unacceptable now s c =
-    if s.rst then c
+    if s.rst || not (is_answered s c) then c
     else if s.fin && is_time_wait c.state then with_time_wait now (with_pending Challenge c)
     else with_pending Challenge c
 
 -- Second: a reset. Only one of exactly the next number ends the connection; another one in the window brings an
--- acknowledgement, and one outside of it nothing (RFC 5961 3.2)
+-- acknowledgement, and one outside of it nothing (RFC 5961 3.2). In TIME-WAIT none counts, since both sides have closed (RFC 1337)
 abbrev pub why_reset : Connection → Ending
 why_reset c = if c.is_active && is_syn_received c.state then Refused else ByPeer
 
 abbrev pub after_reset : Piece → Connection → Connection
 after_reset p c =
-    if p.start == expected c.reception.receiver then ended (Some (why_reset c)) c
+    if is_time_wait c.state then c
+    else if p.start == expected c.reception.receiver then ended (Some (why_reset c)) c
     else if is_in_window c.reception.receiver p.start then with_pending Challenge c
     else c
 
@@ -79,6 +100,10 @@ after_reset p c =
 -- sides opened at once (RFC 9293 3.5, figure 7)
 abbrev pub is_own_syn_acknowledged : Segment → Connection → Bool
 is_own_syn_acknowledged s c = is_at s.ack (number_at c.local 1) && (s.number == c.remote) && is_syn_received c.state
+
+-- And it may come once more alone, where the answer to it was lost
+abbrev pub is_syn_again : Segment → Connection → Bool
+is_syn_again s c = (s.number == c.remote) && is_none s.ack && is_syn_received c.state
 
 -- Fifth: an acknowledgement of the own SYN (RFC 9293 3.10.7.4); its timer is off. If it had run out, octets wait for 3 s
 -- at first (RFC 6298 5.7). What is sent next is behind it, though it was to be sent again. If the program has closed, the
@@ -171,12 +196,15 @@ after_text now keeps p c = after_fin now (after_octets_of now keeps p c)
 abbrev pub after_last : Connection → Connection
 after_last c = if is_closed c.state then ended None c else c
 
--- Fifth, in a synchronized state: an acknowledgement that isn't believed brings one, and no more of it is read
+-- Fifth, in a synchronized state: octets, or the end, with an acknowledgement that isn't believed bring one, and no more is read
+abbrev pub after_unbelieved : Piece → Connection → Connection
+after_unbelieved p c = if has_text p then with_pending Challenge c else c
+
 abbrev pub after_position_acknowledged : (now : ℕ) → (keeps : Bool) → Option ℕ → Segment → Piece → Connection → Connection
-after_position_acknowledged now keeps None s p c = with_pending Challenge c
+after_position_acknowledged now keeps None s p c = after_unbelieved p c
 after_position_acknowledged now keeps (Some a) s p c =
     if is_believed a c.transmission then after_text now keeps p (after_last (after_entering now c.state (after_acknowledgement now a s p c)))
-    else with_pending Challenge c
+    else after_unbelieved p c
 
 -- in SYN-RECEIVED: it has to be that of the own SYN, or is answered by a reset
 abbrev pub after_ack_field : (now : ℕ) → (keeps : Bool) → Option ℕ → Segment → Piece → Connection → Connection
@@ -195,9 +223,13 @@ after_piece_of now keeps None s c = after_unacceptable now s c
 after_piece_of now keeps (Some p) s c =
     if s.rst then after_reset p c else after_ack_field now keeps s.ack s p (heard now c)
 
+abbrev pub after_syn_once_more : Segment → Connection → Connection
+after_syn_once_more s c =
+    if is_own_syn_acknowledged s c then with_owed AtOnce (established c)
+    else if is_syn_again s c then with_pending SynAgain c
+    else with_pending Challenge c
+
 -- the steps in their order; SYN is asked for first, since a challenge answers it whatever its number is
 abbrev pub after_segment_arrives : (now : ℕ) → (keeps : Bool) → Segment → Connection → Connection
 after_segment_arrives now keeps s c =
-    if s.syn && not s.rst then
-    (if is_own_syn_acknowledged s c then with_owed AtOnce (established c) else with_pending Challenge c)
-    else after_piece_of now keeps (acceptable_piece c s) s c
+    if s.syn && not s.rst then after_syn_once_more s c else after_piece_of now keeps (acceptable_piece c s) s c

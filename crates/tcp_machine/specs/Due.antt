@@ -4,7 +4,7 @@ use Rattle.tcp_machine.specs.declared.timers.Owed.{Owed}
 use Rattle.tcp_machine.specs.declared.timers.Owed.TheVariants.{Nothing, By, AtOnce}
 use Rattle.tcp_machine.specs.States.{sends_octets}
 use Rattle.tcp_machine.specs.Connection.{Connection}
-use Rattle.tcp_machine.specs.Timers.{is_held_back, keep_alive_at}
+use Rattle.tcp_machine.specs.Timers.{is_held_back, keep_alive_at, gives_up_at}
 use Rattle.tcp_machine.specs.Outgoing.{action}
 
 abbrev pub least : Option ℕ → Option ℕ → Option ℕ
@@ -18,7 +18,7 @@ owed_at (By t) = Some t
 owed_at AtOnce = None
 
 abbrev pub timer_at : Connection → Option ℕ
-timer_at c = least (least c.timers.resend_at c.timers.ends_at) (least (keep_alive_at c) (owed_at c.reception.owed))
+timer_at c = least (least c.timers.resend_at c.timers.ends_at) (least (least (gives_up_at c) (keep_alive_at c)) (owed_at c.reception.owed))
 
 -- what is held back has no timer yet
 abbrev pub lacks_timer : Connection → Bool

@@ -6,7 +6,7 @@ use Rattle.tcp_machine.specs.declared.timers.Timers.{Timers}
 use Rattle.tcp_machine.specs.declared.timers.Owed.{Owed}
 use Rattle.tcp_machine.specs.declared.timers.Owed.TheVariants.{Nothing, By, AtOnce}
 use Rattle.tcp_machine.specs.declared.timers.Pending.{Pending}
-use Rattle.tcp_machine.specs.declared.timers.Pending.TheVariants.{Empty, Challenge, Resend, Probe, KeepAlive, Reset}
+use Rattle.tcp_machine.specs.declared.timers.Pending.TheVariants.{Empty, Challenge, SynAgain, Resend, Probe, KeepAlive, Reset}
 use Rattle.tcp_machine.specs.declared.state.State.{State}
 use Rattle.tcp_machine.specs.declared.state.State.TheVariants.{SynSent}
 use Rattle.tcp_machine.specs.Positions.{number_at}
@@ -15,7 +15,7 @@ use Rattle.tcp_machine.specs.Sending.{Sender, after_send}
 use Rattle.tcp_machine.specs.Receiving.{expected, is_at}
 use Rattle.tcp_machine.specs.States.{is_synchronized, is_opening, sends_octets}
 use Rattle.tcp_machine.specs.Connection.{Connection, Reception}
-use Rattle.tcp_machine.specs.Acknowledgements.{empty_position}
+use Rattle.tcp_machine.specs.Acknowledgements.{empty_position, since_first}
 use Rattle.tcp_machine.specs.Windows.{next_promise, window_field, is_update_due}
 use Rattle.tcp_machine.specs.declared.sack.SackBlock.{SackBlock}
 use Rattle.tcp_machine.specs.Sack.{Block, blocks_of}
@@ -104,6 +104,7 @@ probe_action c =
 abbrev pub action_pending : Pending → ℕ → Connection → Option Action
 action_pending Empty now c = next_action now c
 action_pending Challenge now c = if is_synchronized c.state then Some SendAck else None
+action_pending SynAgain now c = if is_synchronized c.state then Some SendAck else None
 action_pending KeepAlive now c = Some SendKeepAlive
 action_pending Probe now c = probe_action c
 action_pending Resend now c = Some (SendAgain (first_piece (most_again c) c))
@@ -113,19 +114,30 @@ abbrev pub is_reset : Pending → Bool
 is_reset (Reset number) = true
 is_reset p = false
 
-abbrev pub is_none_pending : Pending → Bool
-is_none_pending Empty = true
-is_none_pending p = false
+abbrev pub is_repeated_syn : Pending → Bool
+is_repeated_syn SynAgain = true
+is_repeated_syn p = false
 
--- before the own SYN is acknowledged, each segment is that SYN
+abbrev pub is_challenge : Pending → Bool
+is_challenge Challenge = true
+is_challenge p = false
+
+-- Before the own SYN is acknowledged, that SYN is sent: at first, when it has been unacknowledged for too long, and in answer to
+-- the peer's
 abbrev pub is_syn_due : ℕ → Connection → Bool
-is_syn_due now c = (c.transmission.nxt == 0) || is_owed c.reception.owed now || not (is_none_pending c.pending)
+is_syn_due now c = (c.transmission.nxt == 0) || is_owed c.reception.owed now || is_repeated_syn c.pending
+
+-- Anything else that isn't acceptable in SYN-RECEIVED is answered by an acknowledgement, after the own SYN (RFC 9293 3.10.7.4)
+abbrev pub is_syn_sent : State → Bool
+is_syn_sent SynSent = true
+is_syn_sent s = false
+
+abbrev pub action_in_opening : ℕ → Connection → Option Action
+action_in_opening now c = if is_syn_due now c then Some SendSyn else ack_if (is_challenge c.pending && not (is_syn_sent c.state))
 
 -- what is sent now, if anything
 abbrev pub action : ℕ → Connection → Option Action
-action now c =
-    if is_opening c.state && not (is_reset c.pending) then (if is_syn_due now c then Some SendSyn else None)
-    else action_pending c.pending now c
+action now c = if is_opening c.state && not (is_reset c.pending) then action_in_opening now c else action_pending c.pending now c
 
 -- A segment that is sent, as it stands on the wire but for ports, options and checksum
 pub record Outgoing : Type 0 where
@@ -172,10 +184,6 @@ empty_at p c = record {
 abbrev pub segment_of_piece : Piece → Connection → Outgoing
 segment_of_piece p c = record (empty_at p.start c) { blocks = []; octets = p.octets; fin = p.ends }
 
-abbrev pub is_syn_sent : State → Bool
-is_syn_sent SynSent = true
-is_syn_sent s = false
-
 -- the window of a SYN isn't scaled (RFC 7323 2.2)
 abbrev pub syn_segment : Connection → Outgoing
 syn_segment c = record (empty_at 0 c) {
@@ -215,7 +223,7 @@ abbrev pub timers_sent : (now after : ℕ) → (is_new : Bool) → Connection �
 timers_sent now after is_new c = record c.timers {
   resend_at = if is_none c.timers.resend_at then Some (later now c.estimator.timeout) else c.timers.resend_at;
   measured = if is_new && is_none c.timers.measured then Some (record { position = after; sent_at = now }) else c.timers.measured;
-  waiting_since = if is_none c.timers.waiting_since then Some now else c.timers.waiting_since;
+  waiting_since = since_first now c.timers.waiting_since;
 }
 
 abbrev pub told_to_peer : Connection → Connection
@@ -231,7 +239,10 @@ piece_sent now p nxt c = record (told_to_peer c) {
 abbrev pub probe_sent : ℕ → Piece → Connection → Connection
 probe_sent now p c = record (told_to_peer c) {
   transmission = record c.transmission { sender = after_send p c.transmission.sender };
-  timers = record c.timers { resend_at = Some (later now c.estimator.timeout) };
+  timers = record c.timers {
+    resend_at = Some (later now c.estimator.timeout);
+    waiting_since = since_first now c.timers.waiting_since;
+  };
 }
 
 -- the own SYN was sent
@@ -240,12 +251,12 @@ syn_sent now c = record (told_to_peer c) {
   transmission = record c.transmission { nxt = 1 };
   timers = record c.timers {
     resend_at = if is_none c.timers.resend_at then Some (later now c.estimator.timeout) else c.timers.resend_at;
-    waiting_since = if is_none c.timers.waiting_since then Some now else c.timers.waiting_since;
+    waiting_since = since_first now c.timers.waiting_since;
   };
   reception = record c.reception {
     owed = Nothing;
     unacknowledged = 0;
-    promised = 1 + min 65535 (length c.reception.receiver.cells);
+    promised = max c.reception.promised (1 + min 65535 (length c.reception.receiver.cells));
   };
 }
 

@@ -1,6 +1,6 @@
 -- What happens by itself when a timer has ended: retransmission (RFC 6298 5), probes of a closed window (RFC 9293 3.8.6.1),
 -- what too small a window held back (3.8.6.2.1), keep-alive (3.8.4), the user time-out (3.8.3) and TIME-WAIT (3.4.2).
-use Rattle.std.specs.Prelude.{ℕ, ◌+◌, min, nat_lt, nat_le, ◌==◌, ◌&&◌, ◌||◌, not, Bool, false}
+use Rattle.std.specs.Prelude.{ℕ, ◌+◌, min, nat_lt, nat_le, ◌==◌, ◌&&◌, not, Bool}
 use Rattle.std.specs.Prelude.{length, Option, Some, None, is_none, is_some, if◌then◌else◌}
 use Rattle.tcp_machine.specs.Instants.{later, has_passed}
 use Rattle.tcp_machine.specs.declared.timers.Timers.{Timers}
@@ -31,15 +31,21 @@ with_probe_timer now c =
     if is_none c.timers.resend_at && sends_octets c.state && is_held_back c
     then record c { timers = record c.timers { resend_at = Some (later now c.estimator.timeout) } } else c
 
-abbrev pub has_waited : ℕ → Option ℕ → Option ℕ → Bool
-has_waited now None since = false
-has_waited now (Some timeout) None = false
-has_waited now (Some timeout) (Some since) = nat_le (since + timeout) now
+-- When the program's time-out ends: the peer has let something wait for so long (RFC 9293 3.8.3)
+abbrev pub waited_until : Option ℕ → Option ℕ → Option ℕ
+waited_until None since = None
+waited_until (Some timeout) None = None
+waited_until (Some timeout) (Some since) = Some (later since timeout)
 
--- it is when what was sent has been unacknowledged for the user's time-out; without one after so many tries
-abbrev pub is_given_up : ℕ → Connection → Bool
-is_given_up now c =
-    has_waited now c.settings.timeout c.timers.waiting_since || (is_none c.settings.timeout && nat_le most_tries c.timers.tries)
+abbrev pub gives_up_at : Connection → Option ℕ
+gives_up_at c = waited_until c.settings.timeout c.timers.waiting_since
+
+abbrev pub after_user_timeout : ℕ → Connection → Connection
+after_user_timeout now c = if has_passed (gives_up_at c) now then aborted TimedOut c else c
+
+-- without such a time-out a connection is given up after so many tries
+abbrev pub is_given_up : Connection → Bool
+is_given_up c = is_none c.settings.timeout && nat_le most_tries c.timers.tries
 
 abbrev pub with_next_try : Timers → Timers
 with_next_try t = record t { resend_at = None; tries = min most_tries (t.tries + 1); measured = None }
@@ -55,15 +61,14 @@ after_loss_of_all c = record c {
   timers = with_next_try c.timers;
 }
 
--- The peer is probed. Its window may stay closed for as long as it answers (RFC 9293 3.8.6.1), so what counts is how long
--- nothing has arrived
-abbrev pub is_unheard : ℕ → Connection → Bool
-is_unheard now c =
-    has_waited now c.settings.timeout (Some c.timers.heard_at) || (is_none c.settings.timeout && nat_le most_tries c.timers.probes)
+-- The peer is probed. Its window may stay closed for as long as it answers (RFC 9293 3.8.6.1); without a time-out it is given up
+-- after so many probes that it didn't answer
+abbrev pub is_unheard : Connection → Bool
+is_unheard c = is_none c.settings.timeout && nat_le most_tries c.timers.probes
 
 abbrev pub after_probe_time : ℕ → Connection → Connection
 after_probe_time now c =
-    if is_unheard now c && nat_lt 0 c.timers.probes then aborted TimedOut c
+    if is_unheard c then aborted TimedOut c
     else with_pending Probe (record c {
       estimator = estimator.after_timeout c.estimator;
       timers = record c.timers { resend_at = None; probes = min most_tries (c.timers.probes + 1) };
@@ -73,7 +78,7 @@ abbrev pub after_resend_timer : ℕ → Connection → Connection
 after_resend_timer now c =
     if not (has_passed c.timers.resend_at now) then c
     else if is_held_back c && not (is_opening c.state) then after_probe_time now c
-    else if is_given_up now c then aborted TimedOut c
+    else if is_given_up c then aborted TimedOut c
     else after_loss_of_all c
 
 -- While nothing that was sent is unacknowledged, the peer is asked whether it is still there after each interval in which
@@ -108,4 +113,4 @@ after_time_wait now c = if has_passed c.timers.ends_at now then ended None c els
 
 -- all timers, at an instant
 abbrev pub after_timers : ℕ → Connection → Connection
-after_timers now c = with_probe_timer now (after_keep_alive now (after_resend_timer now (after_time_wait now c)))
+after_timers now c = with_probe_timer now (after_keep_alive now (after_resend_timer now (after_user_timeout now (after_time_wait now c))))

@@ -1,12 +1,12 @@
 //! Worked examples of the rules, by figures and examples of the RFCs, and beside them what must not be.
-ghost use Rattle.tcp_machine.specs.Examples.Handshakes.{BasicHandshake, BasicHandshakeAccepted, SimultaneousOpen, OldDuplicateSyn, LateHandshake, NoHandshake};
+ghost use Rattle.tcp_machine.specs.Examples.Handshakes.{BasicHandshake, BasicHandshakeAccepted, SimultaneousOpen, OldDuplicateSyn, LateHandshake, AnswersInSynReceived, OldSynAtBothSides, NoHandshake};
 ghost use Rattle.tcp_machine.specs.Examples.Closings.{NormalClose, NormalCloseOfOther, SimultaneousClose, NoClose};
 ghost use Rattle.tcp_machine.specs.Examples.Once.{EndCountsOnce, TimeWaitStays, WindowsScaled};
-ghost use Rattle.tcp_machine.specs.Examples.Resets.{HalfOpen, Abort, NoReset};
+ghost use Rattle.tcp_machine.specs.Examples.Resets.{HalfOpen, Abort, EmptySegments, NoReset};
 ghost use Rattle.tcp_machine.specs.Examples.Timeouts.{Estimates, Losses};
 ghost use Rattle.tcp_machine.specs.Examples.Transfers.{InOrder, OutOfOrder, OneCell, Nagle, Retransmission, ClosedWindow, SmallWindow, Wraps, SynOptions};
 ghost use Rattle.tcp_machine.specs.Examples.Sack.{Rfc2018, MoreSack, SackOfRing};
-ghost use Rattle.tcp_machine.specs.Examples.Silence.{KeepAlive, GivingUp, Recovery};
+ghost use Rattle.tcp_machine.specs.Examples.Silence.{KeepAlive, GivingUp, TimesOut, Recovery};
 
 /// Handshakes (RFC 9293 3.5, figures 6 to 8).
 pub fn handshakes()
@@ -15,6 +15,8 @@ pub fn handshakes()
     ensures simultaneous { SimultaneousOpen }
     ensures old_duplicate { OldDuplicateSyn }
     ensures late { LateHandshake }
+    ensures answers { AnswersInSynReceived }
+    ensures misled { OldSynAtBothSides }
     ensures none { NoHandshake }
 {}
 
@@ -32,6 +34,7 @@ pub fn closings()
 pub fn resets()
     ensures half_open { HalfOpen }
     ensures abort { Abort }
+    ensures empty { EmptySegments }
     ensures none { NoReset }
 {}
 
@@ -59,6 +62,7 @@ pub fn transfers()
 pub fn silences()
     ensures keep_alive { KeepAlive }
     ensures giving_up { GivingUp }
+    ensures times_out { TimesOut }
     ensures recovery { Recovery }
 {}
 

@@ -24,7 +24,7 @@ pub struct Timers {
     pub probes: u64,
     /// When something arrived last, or a silent peer was asked whether it is still there, whichever came later.
     pub idle_since: u64,
-    /// Since when something has been unacknowledged.
+    /// Since when the peer has let something wait that was sent.
     pub waiting_since: Option<u64>,
     /// When TIME-WAIT ends.
     pub ends_at: Option<u64>,
@@ -48,6 +48,8 @@ pub enum Pending {
     Empty,
     /// An acknowledgement in answer to a segment that may be an attacker's (RFC 5961).
     Challenge,
+    /// The own SYN once more, in answer to the peer's, which came once more (RFC 9293 3.10.7.4).
+    SynAgain,
     /// An empty segment before the next position (RFC 9293 3.8.4).
     KeepAlive,
     /// What the window has room for, or one octet beyond a closed one (RFC 9293 3.8.6.1, 3.8.6.2.1).

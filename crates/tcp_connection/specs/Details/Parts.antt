@@ -1,15 +1,14 @@
 -- Rules of the machine, by the parts of a segment that they ask for.
-use Rattle.std.specs.Prelude.{ℕ, ◌+◌, ◌==◌, ◌&&◌, not, Bool, nat_lt, Some, if◌then◌else◌}
-use Rattle.tcp_machine.specs.declared.timers.Pending.TheVariants.{Resend, Challenge, Reset}
-use Rattle.tcp_machine.specs.declared.timers.Owed.TheVariants.{AtOnce}
+use Rattle.std.specs.Prelude.{ℕ, ◌+◌, ◌==◌, ◌&&◌, not, Bool, nat_lt, Some, None, if◌then◌else◌}
+use Rattle.tcp_machine.specs.declared.timers.Pending.TheVariants.{Resend, Reset}
 use Rattle.tcp_machine.specs.Segments.{Segment}
-use Rattle.tcp_machine.specs.Arrivals.{is_own_syn_acknowledged, established, with_owed, after_position_acknowledged}
+use Rattle.tcp_machine.specs.Arrivals.{established, after_position_acknowledged}
 use Rattle.tcp_machine.specs.Pieces.{Piece}
 use Rattle.tcp_machine.specs.Positions.{number_at}
 use Rattle.tcp_machine.specs.Sending.{after_position}
 use Rattle.tcp_machine.specs.Congestion as congestion
 use Rattle.tcp_machine.specs.Connection.{Connection, Transmission}
-use Rattle.tcp_machine.specs.Acknowledgements.{flight, after_progress, with_pending}
+use Rattle.tcp_machine.specs.Acknowledgements.{flight, after_progress, with_pending, is_waited_for, since_first}
 
 -- an acknowledgement tells nothing new, if the segment is empty
 abbrev pub tells_nothing : (a window : ℕ) → (is_empty : Bool) → Transmission → Bool
@@ -30,9 +29,15 @@ after_position_of now a window len ends c =
     if nat_lt c.transmission.sender.una a then after_progress now a window c
     else after_old_position a window ((len == 0) && not ends) c
 
--- a SYN arrives at a connection whose peer's initial number is known
-abbrev pub after_syn_again : Segment → Connection → Connection
-after_syn_again s c = if is_own_syn_acknowledged s c then with_owed AtOnce (established c) else with_pending Challenge c
+-- what waits to be acknowledged, where it is known whether something did before
+abbrev pub with_waiting_from : (now : ℕ) → (was_waited_for : Bool) → Connection → Connection
+with_waiting_from now was_waited_for c = record c {
+  timers = record c.timers {
+    waiting_since =
+        if is_waited_for c.transmission
+        then (if was_waited_for then since_first now c.timers.waiting_since else Some now) else None;
+  };
+}
 
 -- an acknowledgement arrives in SYN-RECEIVED
 abbrev pub after_ack_of_syn : (now : ℕ) → (keeps : Bool) → (number : ℕ) → Segment → Piece → Connection → Connection

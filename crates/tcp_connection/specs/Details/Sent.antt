@@ -3,6 +3,7 @@ use Rattle.std.specs.Prelude.{ℕ, ◌+◌, nat_le, Bool, List, [], length, Some
 use Rattle.tcp_machine.specs.Instants.{later}
 use Rattle.tcp_machine.specs.Sending.{Sender}
 use Rattle.tcp_machine.specs.Connection.{Connection}
+use Rattle.tcp_machine.specs.Acknowledgements.{since_first}
 use Rattle.tcp_machine.specs.Outgoing as machine
 use Rattle.tcp_connection.specs.declared.transmission.Part.{Part}
 use Rattle.tcp_machine.specs.Outgoing.{octets_from}
@@ -28,7 +29,7 @@ abbrev pub with_resend_timer : ℕ → Connection → Connection
 with_resend_timer now c = record c {
   timers = record c.timers {
     resend_at = if is_none c.timers.resend_at then Some (later now c.estimator.timeout) else c.timers.resend_at;
-    waiting_since = if is_none c.timers.waiting_since then Some now else c.timers.waiting_since;
+    waiting_since = since_first now c.timers.waiting_since;
   };
 }
 

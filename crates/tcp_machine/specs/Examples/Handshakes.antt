@@ -89,6 +89,41 @@ pub record LateHandshake : Type 0 where
   pub established : opening_late.state ≡ state.Established
   pub ack : sends 1000001 opening_late ≡ Some (sent_ack 101 301)
 
+-- In SYN-RECEIVED the peer's SYN comes once more, as the answer to it was lost: the own one goes once more. Anything else that
+-- isn't acceptable is answered by an acknowledgement after the own SYN: a SYN of another number, and octets before the window
+pub record AnswersInSynReceived : Type 0 where
+  pub again : sends 1 (after_segment 1 (syn_segment 100 None) asked) ≡ Some (sent_syn 300 (Some 101))
+  pub other_syn : sends 1 (after_segment 1 (syn_segment 90 None) asked) ≡ Some (sent_ack 301 101)
+  pub before_window : sends 1 (after_segment 1 (text_segment 100 301 (7 ∷ [])) asked) ≡ Some (sent_ack 301 101)
+  pub once : sends 1 (after_sending 1 (after_segment 1 (syn_segment 90 None) asked)) ≡ None
+
+-- Both sides stand in SYN-RECEIVED with numbers that don't fit, since an old SYN 70000 came to the one that opened. What isn't
+-- acceptable is answered by an acknowledgement, the wrong number in that one by a reset, and this ends the connection
+abbrev pub misled_opener : Connection
+misled_opener = after_sending 1 (after_segment 1 (syn_segment 70000 None) opening)
+
+abbrev pub near_opener : Connection
+near_opener = after_sending 1 (after_segment 1 (syn_segment 299 None) opening)
+
+abbrev pub challenged : Connection
+challenged = after_segment 2 (syn_segment 100 (Some 70001)) asked
+
+abbrev pub told_wrong : Connection
+told_wrong = after_segment 4 (ack_segment 101 70001) (after_sending 2 challenged)
+
+pub record OldSynAtBothSides : Type 0 where
+  pub misled : misled_opener.state ≡ state.SynReceived
+  pub challenge : sends 2 challenged ≡ Some (sent_ack 301 101)
+  pub answer : sends 3 (after_segment 3 (ack_segment 301 101) misled_opener) ≡ Some (sent_ack 101 70001)
+  pub reset : sends 4 told_wrong ≡ Some (sent_reset 70001)
+  pub ends : (after_segment 5 (reset_segment 70001) misled_opener).state ≡ state.Closed
+  -- where the other side was misled, too, the two don't answer each other
+  pub no_end : sends 3 (after_segment 3 (ack_segment 301 90001) misled_opener) ≡ None
+  -- where the old number is just below the true one, the side that opened is established for once; the first segment that it sends
+  -- is answered by the reset
+  pub near : (after_segment 3 (ack_segment 301 101) near_opener).state ≡ state.Established
+  pub near_reset : sends 4 (after_segment 4 (text_segment 101 300 (7 ∷ [])) asked) ≡ Some (sent_reset 300)
+
 -- what must not be
 pub record NoHandshake : Type 0 where
   -- the acknowledgement of another number doesn't establish, at either side

@@ -4,9 +4,10 @@ use Rattle.tcp_machine.specs.declared.state.State.TheVariants as state
 use Rattle.tcp_machine.specs.Connection.{Connection}
 use Rattle.tcp_machine.specs.Opening.{accepted}
 use Rattle.tcp_machine.specs.Outgoing.{SendSyn, SendAck, segment_for}
-use Rattle.tcp_machine.specs.Examples.Ends.{settings, no_options, ack_segment, syn_segment, fin_segment, text_segment, sent_ack}
+use Rattle.tcp_machine.specs.Examples.Ends.{settings, no_options, ack_segment, syn_segment, reset_segment, fin_segment, text_segment, sent_ack}
 use Rattle.tcp_machine.specs.Examples.Ends.{sends, after_sending, after_segment}
 use Rattle.tcp_machine.specs.Due.{due_at}
+use Rattle.tcp_machine.specs.Timers.{after_timers}
 use Rattle.tcp_machine.specs.Examples.Closings.{connected, waiting}
 
 -- The peer's end comes twice, before two octets that it follows
@@ -34,6 +35,10 @@ pub record TimeWaitStays : Type 0 where
   pub ack : sends 5 waits_again ≡ Some (record (sent_ack 101 301) { window = 19 })
   pub restarted : due_at 5 (after_sending 5 waits_again) ≡ Some 60000005
   pub silent : sends 5 (after_segment 5 (ack_segment 301 101) (after_sending 3 waiting)) ≡ None
+  -- a reset is left, of the next number, too (RFC 1337)
+  pub reset : (after_segment 5 (reset_segment 301) (after_sending 3 waiting)).state ≡ state.TimeWait
+  pub as_long : due_at 5 (after_segment 5 (reset_segment 301) (after_sending 3 waiting)) ≡ Some 60000003
+  pub no_reason : (after_timers 60000003 (after_segment 5 (reset_segment 301) (after_sending 3 waiting))).ending ≡ None
 
 -- A listener whose windows are scaled by one bit, with room for twenty octets; and once it is established
 abbrev pub scaled : Connection

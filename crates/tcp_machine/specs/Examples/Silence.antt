@@ -6,7 +6,7 @@ use Rattle.tcp_machine.specs.declared.settings.Settings.{Settings}
 use Rattle.tcp_machine.specs.declared.state.State.TheVariants as state
 use Rattle.tcp_machine.specs.Connection.{Connection}
 use Rattle.tcp_machine.specs.Opening.{opened}
-use Rattle.tcp_machine.specs.Calls.{after_writing}
+use Rattle.tcp_machine.specs.Calls.{after_writing, after_closing}
 use Rattle.tcp_machine.specs.Timers.{after_timers}
 use Rattle.tcp_machine.specs.Due.{due_at}
 use Rattle.tcp_machine.specs.Examples.Ends.{settings, no_options, ack_segment, syn_segment, sends, after_sending, after_segment, sent_ack, sent_text, sent_reset}
@@ -63,6 +63,55 @@ pub record GivingUp : Type 0 where
   pub closed : (after_timers 3000000 tried_again).state ≡ state.Closed
   -- an acknowledgement in time keeps it
   pub kept : (after_timers 3000000 (after_segment 2999999 (ack_segment 300 101) tried_again)).state ≡ state.Established
+
+-- A time-out of ten seconds ends after ten seconds, whenever the timer of retransmissions would
+abbrev pub patient : Connection
+patient = after_sending 0 (after_writing (7 ∷ []) (connected (record settings { timeout = Some 10000000 })))
+
+abbrev pub again_at : ℕ → Connection → Connection
+again_at now c = after_sending now (after_timers now c)
+
+abbrev pub tried_thrice : Connection
+tried_thrice = again_at 7000000 (again_at 3000000 (again_at 1000000 patient))
+
+-- The window closes for two minutes, while each probe is answered, and opens: what is sent then has its ten seconds
+abbrev pub closes_window : ℕ → Connection → Connection
+closes_window now c = after_segment now (record (ack_segment 300 100) { window = 0 }) c
+
+abbrev pub opens_again : Connection
+opens_again =
+    after_sending 120000000 (after_segment 120000000 (record (ack_segment 300 100) { window = 1000 }) (closes_window 9000000 patient))
+
+-- The end is sent at 0 to a peer whose window is closed; or an octet waits for that window from 0 on, and is probed with after 1 s
+abbrev pub closed_at_once : Connection
+closed_at_once =
+    after_segment 0 (record (ack_segment 300 100) { window = 0 }) (connected (record settings { timeout = Some 10000000 }))
+
+abbrev pub ends_at_closed : Connection
+ends_at_closed = after_sending 0 (after_closing closed_at_once)
+
+abbrev pub probing : Connection
+probing = after_sending 1000000 (after_timers 1000000 (after_timers 0 (after_writing (7 ∷ []) closed_at_once)))
+
+abbrev pub opens_at_last : Connection
+opens_at_last = after_segment 5000000 (record (ack_segment 300 100) { window = 1000 }) probing
+
+pub record TimesOut : Type 0 where
+  pub due : due_at 9999999 tried_thrice ≡ Some 10000000
+  pub ends : (after_timers 10000000 tried_thrice).ending ≡ Some TimedOut
+  pub not_before : (after_timers 9999999 tried_thrice).ending ≡ None
+  pub while_closed : (after_timers 20000000 (closes_window 9000000 patient)).ending ≡ None
+  pub opened : (after_timers 129999999 opens_again).ending ≡ None
+  pub in_the_end : (after_timers 130000000 opens_again).ending ≡ Some TimedOut
+  -- a peer that doesn't answer the end, or a probe, is given up, too; each answer gives it ten seconds more, from what is sent next
+  pub no_answer_to_end : (after_timers 10000000 ends_at_closed).ending ≡ Some TimedOut
+  pub not_before_end : (after_timers 9999999 ends_at_closed).ending ≡ None
+  pub no_answer_to_probe : (after_timers 11000000 probing).ending ≡ Some TimedOut
+  pub not_before_probe : (after_timers 10999999 probing).ending ≡ None
+  pub answered : (after_timers 11000000 (closes_window 9000000 probing)).ending ≡ None
+  -- a window that opens begins the wait anew
+  pub anew : (after_timers 14999999 opens_at_last).ending ≡ None
+  pub ends_anew : (after_timers 15000000 opens_at_last).ending ≡ Some TimedOut
 
 -- Five segments of 100 octets, of which the second is lost. The first is acknowledged, and then thrice the same number
 abbrev pub five_sent : Connection
