@@ -1,10 +1,9 @@
 -- Leases come from agreements to what was sent last.
-use Rattle.std.proofs.Common.{◌≡◌, ℕ, ◌+◌, ◌*◌, ◌==◌, ◌&&◌, Bool, true, false, refl, sym, ap, subst, ◌∙◌, List, [], ◌∷◌, inl, inr}
+use Rattle.std.proofs.Common.{◌≡◌, ℕ, ◌+◌, ◌*◌, ◌==◌, Bool, true, false, not, get_or, refl, sym, ap, subst, ◌∙◌, List, [], ◌∷◌, inl, inr}
 use Rattle.std.specs.Prelude.{◌⊎◌, Option, Some, None, IfSome, if◌then◌else◌}
 use Rattle.std.specs.Option.{option_map, option_or}
 use Rattle.std.proofs.lemmas.Bool.{and_parts, eqb-true}
 use Rattle.ip_address.specs.declared.ipv4.Ipv4Address.{Ipv4Address}
-use Rattle.ip_address.specs.Ipv4.{is_unicast}
 use Rattle.ip_address.specs.declared.ethernet_address.EthernetAddress.{EthernetAddress}
 use Rattle.ip_address.specs.EthernetAddress.{is_same}
 use Rattle.dhcp_client.specs.declared.message.DhcpRepr.{DhcpRepr}
@@ -17,13 +16,14 @@ use Rattle.dhcp_client.specs.declared.client.DhcpPhase.{DhcpPhase}
 use Rattle.dhcp_client.specs.declared.client.DhcpPhase.TheVariants.{Discovering, Requesting, Rebooting, Bound}
 use Rattle.dhcp_client.specs.declared.lease.DhcpLease.{DhcpLease}
 use Rattle.dhcp_client.specs.declared.lease.LeaseTimes.{LeaseTimes}
-use Rattle.dhcp_client.specs.Answers.{after_receiving, after_answer, after_type, after_offer, requesting, after_ack, leased, after_nak}
-use Rattle.dhcp_client.specs.Answers.{is_answer, is_asked, is_by, is_by_asked, is_discovering}
-use Rattle.dhcp_client.specs.Lease.{lease_by, lease_of, spans_of, times_of}
-use Rattle.dhcp_client.specs.Client.{lease, lease_in, after_reset, after_giving_up, must_give_up, is_to_send}
-use Rattle.dhcp_client.specs.Messages.{after_asking, after_sending, message, message_in, numbered, is_discover, asked_server, is_rebinding}
+use Rattle.dhcp_client.specs.Answers.{after_answer, after_type, requesting, leased}
+use Rattle.dhcp_client.specs.Answers.{is_answer, is_asked, is_by, is_discovering}
+use Rattle.dhcp_client.specs.Lease.{is_usable, lease_by, lease_of, spans_of, times_of}
+use Rattle.dhcp_client.specs.Addresses.{is_mask, is_networks, is_other, mask_of, other_in, others_in, without_gaps}
+use Rattle.dhcp_client.specs.Client.{lease, after_reset, after_giving_up, must_give_up, is_to_send}
+use Rattle.dhcp_client.specs.Messages.{after_sending, message, message_in, numbered, is_discover, asked_server, is_rebinding}
 use Rattle.dhcp_client.specs.Run.{Event, Receive, Ask, Tell, Reset, Sent, History, begun, after, after_all}
-use Rattle.dhcp_client.specs.Laws.{Agrees, IsAgreed, Gives, LeasesAreAnswered, broadcast, end_of}
+use Rattle.dhcp_client.specs.Laws.{Agrees, IsAgreed, IsOther, AreOthers, IsUsable, Gives, LeasesAreAnswered, broadcast, end_of}
 use Rattle.dhcp_client.proofs.Ends.{same_lease, kept}
 
 -- What was sent last is what was asked.
@@ -50,19 +50,19 @@ module _ (hw : EthernetAddress) (last : Option Sent) where
   by_reset true c k = let is = k.hardware in record { hardware = is; asked = tt }
   by_reset false c k = k
 
-  if_unicast : (t : Bool) (address server : Ipv4Address) (c : DhcpClient) → Known hw last c →
+  if_usable : (t : Bool) (address server : Ipv4Address) (c : DhcpClient) → Known hw last c →
       Known hw last (if t then record c { phase = Requesting address server; asked = None; tries = 0; next_at = 0 } else c)
-  if_unicast true address server c k = let is = k.hardware in record { hardware = is; asked = tt }
-  if_unicast false address server c k = k
+  if_usable true address server c k = let is = k.hardware in record { hardware = is; asked = tt }
+  if_usable false address server c k = k
 
-  by_requesting : (address : Ipv4Address) (server : Option Ipv4Address) (c : DhcpClient) → Known hw last c →
-      Known hw last (requesting address server c)
-  by_requesting address None c k = k
-  by_requesting address (Some server) c k = if_unicast (is_unicast address) address server c k
+  by_requesting : (m : DhcpRepr) (server : Option Ipv4Address) (c : DhcpClient) → Known hw last c →
+      Known hw last (requesting m server c)
+  by_requesting m None c k = k
+  by_requesting m (Some server) c k = if_usable (is_usable m server) m.your_ip server c k
 
   by_offer : (t : Bool) (m : DhcpRepr) (c : DhcpClient) → Known hw last c →
-      Known hw last (if t then requesting m.your_ip m.options.server_identifier c else c)
-  by_offer true m c k = by_requesting m.your_ip m.options.server_identifier c k
+      Known hw last (if t then requesting m m.options.server_identifier c else c)
+  by_offer true m c k = by_requesting m m.options.server_identifier c k
   by_offer false m c k = k
 
   by_lease : (l : Option DhcpLease) (c : DhcpClient) → Known hw last c → Known hw last (leased l c)
@@ -144,8 +144,7 @@ got d (Some l) = l
 record IsFrom (at : ℕ) (m : DhcpRepr) (l : DhcpLease) : Type 0 where
   pub server : m.options.server_identifier ≡ Some l.server
   pub address : l.address ≡ m.your_ip
-  pub unicast : is_unicast m.your_ip ≡ true
-  pub by_unicast : is_unicast l.server ≡ true
+  pub usable : IsUsable l
   pub end : option_map (λ t. t.expires_at) l.times ≡ end_of at m.options.lease_duration
 
 if_ending : (t : Bool) (renew rebind end : ℕ) → option_map (λ (x : LeaseTimes). x.expires_at)
@@ -161,24 +160,70 @@ ending at d o =
 abbrev made : ℕ → DhcpRepr → Ipv4Address → ℕ → DhcpLease
 made at m server d = record {
   address = m.your_ip;
-  subnet_mask = m.options.subnet_mask;
-  router = m.options.router;
-  dns_servers = m.options.dns_servers;
+  subnet_mask = mask_of m.options.subnet_mask;
+  router = other_in m.your_ip m.options.router;
+  dns_servers = others_in m.your_ip m.options.dns_servers;
   server = server;
   times = times_of at d m.options;
 }
 
+not_true : (b : Bool) → not b ≡ true → b ≡ false
+not_true true e = sym e
+not_true false e = refl
+
+other_is : (own : Ipv4Address) (t : Bool) (a : Ipv4Address) → is_other own a ≡ t → IsOther own (if t then Some a else None)
+other_is own true a e =
+    let both = and_parts _ _ e in
+    (both.0, not_true (a.bits == own.bits) both.1)
+other_is own false a e = tt
+
+other_given : (own : Ipv4Address) (a : Option Ipv4Address) → IsOther own (other_in own a)
+other_given own None = tt
+other_given own (Some a) = other_is own (is_other own a) a refl
+
+no_gaps : (own : Ipv4Address) (a b c : Option Ipv4Address) → IsOther own a → IsOther own b → IsOther own c →
+    AreOthers own (without_gaps a b c)
+no_gaps own (Some a) (Some b) c ia ib ic = (ia, (ib, (ic, tt)))
+no_gaps own (Some a) None c ia ib ic = (ia, (ic, (tt, tt)))
+no_gaps own None (Some b) c ia ib ic = (ib, (ic, (tt, tt)))
+no_gaps own None None c ia ib ic = (ic, (tt, (tt, tt)))
+
+mask_is : (t : Bool) (m : Ipv4Address) → is_mask m ≡ t → IfSome (if t then Some m else None) (λ n. is_mask n ≡ true)
+mask_is true m e = e
+mask_is false m e = tt
+
+mask_given : (m : Option Ipv4Address) → IfSome (mask_of m) (λ n. is_mask n ≡ true)
+mask_given None = tt
+mask_given (Some m) = mask_is (is_mask m) m refl
+
 if_made : (t : Bool) (at : ℕ) (m : DhcpRepr) (l : DhcpLease) (server : Ipv4Address) (d : ℕ) →
-    (is_unicast m.your_ip && is_unicast server) ≡ t → m.options.server_identifier ≡ Some server → m.options.lease_duration ≡ Some d →
+    is_usable m server ≡ t → m.options.server_identifier ≡ Some server → m.options.lease_duration ≡ Some d →
     (if t then Some (made at m server d) else None) ≡ Some l → IsFrom at m l
 if_made false at m l server d u es ed e = absurd (cc)
 if_made true at m l server d u es ed e =
+    let own = m.your_ip in
+    let both = and_parts _ _ u in
+    let inside = and_parts _ _ both.1 in
+    let list = m.options.dns_servers in
     subst (λ (x : DhcpLease). IsFrom at m x) (ap (got l) e)
-    (record { server = es; address = refl; unicast = (and_parts _ _ u).0; by_unicast = (and_parts _ _ u).1; end = ending at d m.options ∙ ap (end_of at) (sym ed) })
+    (record {
+      server = es;
+      address = refl;
+      usable = record {
+        by_host = both.0;
+        host = inside.0;
+        mask = mask_given m.options.subnet_mask;
+        inside = not_true (is_networks own (mask_of m.options.subnet_mask)) inside.1;
+        router = other_given own m.options.router;
+        dns_servers = no_gaps own (other_in own (get_or list 0 None)) (other_in own (get_or list 1 None)) (other_in own (get_or list 2 None))
+            (other_given own (get_or list 0 None)) (other_given own (get_or list 1 None)) (other_given own (get_or list 2 None));
+      };
+      end = ending at d m.options ∙ ap (end_of at) (sym ed);
+    })
 
 by_options : (at : ℕ) (m : DhcpRepr) (l : DhcpLease) (server : Option Ipv4Address) (d : Option ℕ) → m.options.server_identifier ≡ server →
     m.options.lease_duration ≡ d → lease_by at m server d ≡ Some l → IsFrom at m l
-by_options at m l (Some server) (Some d) es ed e = if_made (is_unicast m.your_ip && is_unicast server) at m l server d refl es ed e
+by_options at m l (Some server) (Some d) es ed e = if_made (is_usable m server) at m l server d refl es ed e
 by_options at m l (Some server) None es ed e = absurd (cc)
 by_options at m l None (Some d) es ed e = absurd (cc)
 by_options at m l None None es ed e = absurd (cc)
@@ -221,8 +266,7 @@ agrees hw a c m s l hardware asked ea answer phase ack e =
       named = if_named a.server s.message.repr.options.server_identifier l.server asks asked.named;
       went_to = if_went a.server s.message.dst l.server asks asked.went_to;
       address = f.address;
-      unicast = f.unicast;
-      by_unicast = f.by_unicast;
+      usable = f.usable;
       end = f.end ∙ ap (λ (n : ℕ). end_of n m.options.lease_duration) asked.at;
     }
 
@@ -239,16 +283,16 @@ agreed hw (Some s) a c m l hardware asked ea answer phase ack e = agrees hw a c 
 module _ (hw : EthernetAddress) (last : Option Sent) (a : Asked) (c : DhcpClient) (m : DhcpRepr) (l : DhcpLease)
     (hardware : c.hardware_addr ≡ hw) (asked : Matches (Some a) c.transaction_id c.phase last) (ea : c.asked ≡ Some a)
     (answer : is_answer m c ≡ true) where
-  give_unicast : (t : Bool) (address server : Ipv4Address) →
+  give_usable : (t : Bool) (address server : Ipv4Address) →
       lease (if t then record c { phase = Requesting address server; asked = None; tries = 0; next_at = 0 } else c) ≡ Some l → lease c ≡ Some l
-  give_unicast true address server e = absurd (cc)
-  give_unicast false address server e = e
+  give_usable true address server e = absurd (cc)
+  give_usable false address server e = e
 
-  give_requesting : (server : Option Ipv4Address) → lease (requesting m.your_ip server c) ≡ Some l → lease c ≡ Some l
+  give_requesting : (server : Option Ipv4Address) → lease (requesting m server c) ≡ Some l → lease c ≡ Some l
   give_requesting None e = e
-  give_requesting (Some server) e = give_unicast (is_unicast m.your_ip) m.your_ip server e
+  give_requesting (Some server) e = give_usable (is_usable m server) m.your_ip server e
 
-  give_offer : (t : Bool) → lease (if t then requesting m.your_ip m.options.server_identifier c else c) ≡ Some l → lease c ≡ Some l
+  give_offer : (t : Bool) → lease (if t then requesting m m.options.server_identifier c else c) ≡ Some l → lease c ≡ Some l
   give_offer true e = give_requesting m.options.server_identifier e
   give_offer false e = e
 

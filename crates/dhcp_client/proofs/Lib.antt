@@ -5,3 +5,4 @@ pub mod Texts
 pub mod Ends
 pub mod Leases
 pub mod Spacing
+pub mod Renewals

@@ -1,7 +1,7 @@
 -- A message is read as it was written.
-use Rattle.std.proofs.Common.{◌≡◌, ℕ, ◌+◌, ◌*◌, ◌/◌, ◌%◌, ◌<◌, ◌≤◌, ◌^◌, Bool, true, false, not, nat_le, eqb, cond, List, [], ◌∷◌, ◌++◌}
-use Rattle.std.proofs.Common.{Option, ◌&&◌, length, drop, get_or, replicate, refl, sym, ap, subst, ◌∙◌, length-append, arith}
-use Rattle.std.specs.Prelude.{IsTrue, slice_range}
+use Rattle.std.proofs.Common.{◌≡◌, ℕ, ◌+◌, ◌*◌, ◌/◌, ◌%◌, ◌<◌, ◌^◌, Bool, true, false, nat_le, cond, List, [], ◌∷◌, ◌++◌}
+use Rattle.std.proofs.Common.{Option, ◌&&◌, length, drop, get_or, replicate, refl, sym, ap, subst, ◌∙◌, append-nil, arith}
+use Rattle.std.specs.Prelude.{slice_range}
 use Rattle.ip_address.proofs.SixOctets.{Six, six}
 use Rattle.ip_address.specs.declared.ipv4.Ipv4Address.{Ipv4Address}
 use Rattle.ip_address.specs.declared.ethernet_address.EthernetAddress.{EthernetAddress}
@@ -10,11 +10,11 @@ use Rattle.dhcp_client.specs.declared.message.DhcpMessageType.{DhcpMessageType}
 use Rattle.dhcp_client.specs.declared.message.DhcpMessageType.TheVariants.{Discover, Offer, Request, Decline, Ack, Nak, Release, Inform}
 use Rattle.dhcp_client.specs.declared.message.DhcpRepr.{DhcpRepr}
 use Rattle.dhcp_client.specs.declared.options.DhcpOptions.{DhcpOptions}
-use Rattle.dhcp_client.specs.Options.{options_after, are_whole, data_of, octet_in, address_data, seconds_data, size_data}
-use Rattle.dhcp_client.specs.Options.{identifier_data, list_data, later_or, hardware_address_at, address_in, seconds_in, size_in, identifier_in, listed_at, list_in, AreOptions}
-use Rattle.dhcp_client.specs.Details.Message.{number_of, type_of, operation_of, is_for_ethernet, overload_in, has_whole_options, data_in, type_number}
-use Rattle.dhcp_client.specs.Details.Message.{IsTypeNumber, IsDhcp, options_in, values_in, dhcp_in, fields_text, header_text, options_text, text, IsMessage, ReadAgain}
-use Rattle.dhcp_client.proofs.OptionsAgain.{texts, lookup, AreCodes, found, all_whole, behind, behind-is}
+use Rattle.dhcp_client.specs.Options.{options_after, are_whole, joined, in_room, octet_in, address_data, seconds_data, size_data}
+use Rattle.dhcp_client.specs.Options.{identifier_data, list_data, address_in, seconds_in, size_in, identifier_in, listed_at, list_in, AreOptions}
+use Rattle.dhcp_client.specs.Details.Message.{number_of, type_of, operation_of, is_for_ethernet, overload_in, has_whole_options, joined_in, data_in, type_number}
+use Rattle.dhcp_client.specs.Details.Message.{IsTypeNumber, options_in, fields_text, header_text, options_text, text, IsMessage, ReadAgain}
+use Rattle.dhcp_client.proofs.OptionsAgain.{lookup, AreCodes, found, all_whole}
 use Rattle.dhcp_client.proofs.OptionsAgain.{address_again, router_again, seconds_again, size_again, identifier_again, list_again}
 
 number : (n : ℕ) → n < 2 ^ 32 → n / 16777216 % 256 * 16777216 + n / 65536 % 256 * 65536 + n / 256 % 256 * 256 + n % 256 ≡ n
@@ -133,47 +133,51 @@ and_true false = refl
 
 -- no options stand in other fields
 no_overload : (m : List ℕ) → overload_in m ≡ 0 → (has_whole_options m ≡ are_whole 0 (drop 240 m))
-    × ((code : ℕ) → data_in code m ≡ data_of code (options_after 0 (drop 240 m)))
-no_overload m e = (rw e (and_true (are_whole 0 (drop 240 m))), λ code. rw e refl)
+    × ((code : ℕ) → joined_in code m ≡ joined code (options_after 0 (drop 240 m)))
+no_overload m e = (
+  rw e (and_true (are_whole 0 (drop 240 m))),
+  λ code. rw e (append-nil (joined code (options_after 0 (drop 240 m)) ++ []) ∙ append-nil (joined code (options_after 0 (drop 240 m)))),
+)
 
 -- what is read of the options, by their codes
 record Datas (r : DhcpRepr) (parameters m : List ℕ) : Type 0 where
   pub whole : has_whole_options m ≡ true
   pub type : type_number m ≡ number_of r.message_type
-  pub client_identifier : data_in 61 m ≡ identifier_data r.options.client_identifier
-  pub requested_ip : data_in 50 m ≡ address_data r.options.requested_ip
-  pub server_identifier : data_in 54 m ≡ address_data r.options.server_identifier
-  pub max_size : data_in 57 m ≡ size_data r.options.max_size
-  pub lease_duration : data_in 51 m ≡ seconds_data r.options.lease_duration
-  pub renew_duration : data_in 58 m ≡ seconds_data r.options.renew_duration
-  pub rebind_duration : data_in 59 m ≡ seconds_data r.options.rebind_duration
-  pub subnet_mask : data_in 1 m ≡ address_data r.options.subnet_mask
-  pub router : data_in 3 m ≡ address_data r.options.router
-  pub dns_servers : data_in 6 m ≡ list_data r.options.dns_servers
-  pub list : data_in 55 m ≡ parameters
+  pub client_identifier : data_in 61 m ≡ in_room (identifier_data r.options.client_identifier)
+  pub requested_ip : data_in 50 m ≡ in_room (address_data r.options.requested_ip)
+  pub server_identifier : data_in 54 m ≡ in_room (address_data r.options.server_identifier)
+  pub max_size : data_in 57 m ≡ in_room (size_data r.options.max_size)
+  pub lease_duration : data_in 51 m ≡ in_room (seconds_data r.options.lease_duration)
+  pub renew_duration : data_in 58 m ≡ in_room (seconds_data r.options.renew_duration)
+  pub rebind_duration : data_in 59 m ≡ in_room (seconds_data r.options.rebind_duration)
+  pub subnet_mask : data_in 1 m ≡ in_room (address_data r.options.subnet_mask)
+  pub router : data_in 3 m ≡ in_room (address_data r.options.router)
+  pub dns_servers : data_in 6 m ≡ in_room (list_data r.options.dns_servers)
+  pub list : joined_in 55 m ≡ parameters
 
 datas : (r : DhcpRepr) (parameters m : List ℕ) → drop 240 m ≡ options_text r parameters → Datas r parameters m
-unfolding later_or
 datas r parameters m e =
     let ps = parts_of r parameters in
-    let all : (k : ℕ) → data_of k (options_after 0 (drop 240 m)) ≡ lookup k ps =
-    λ k. ap (λ (xs : List ℕ). data_of k (options_after 0 xs)) e ∙ found k ps (codes r parameters) in
-    let none = no_overload m (ap octet_in (all 52)) in
-    let data_is : (k : ℕ) → data_in k m ≡ lookup k ps = λ k. none.1 k ∙ all k in
+    let all : (k : ℕ) → joined k (options_after 0 (drop 240 m)) ≡ lookup k ps =
+    λ k. ap (λ (xs : List ℕ). joined k (options_after 0 xs)) e ∙ found k ps (codes r parameters) in
+    let none = no_overload m (ap (λ (d : List ℕ). octet_in (in_room d)) (all 52)) in
+    let joined_is : (k : ℕ) → joined_in k m ≡ lookup k ps = λ k. none.1 k ∙ all k in
+    let data_is : (k : ℕ) (d : List ℕ) → lookup k ps ≡ d ++ [] → data_in k m ≡ in_room d =
+    λ k d is. ap in_room (joined_is k ∙ is ∙ append-nil d) in
     record {
       whole = none.0 ∙ ap (are_whole 0) e ∙ all_whole ps (codes r parameters);
-      type = ap octet_in (data_is 53);
-      client_identifier = data_is 61 ∙ behind-is 1 (identifier_data r.options.client_identifier);
-      requested_ip = data_is 50 ∙ behind-is 2 (address_data r.options.requested_ip);
-      server_identifier = data_is 54 ∙ behind-is 3 (address_data r.options.server_identifier);
-      max_size = data_is 57 ∙ behind-is 4 (size_data r.options.max_size);
-      lease_duration = data_is 51 ∙ behind-is 5 (seconds_data r.options.lease_duration);
-      renew_duration = data_is 58 ∙ behind-is 6 (seconds_data r.options.renew_duration);
-      rebind_duration = data_is 59 ∙ behind-is 7 (seconds_data r.options.rebind_duration);
-      subnet_mask = data_is 1 ∙ behind-is 8 (address_data r.options.subnet_mask);
-      router = data_is 3 ∙ behind-is 9 (address_data r.options.router);
-      dns_servers = data_is 6 ∙ behind-is 10 (list_data r.options.dns_servers);
-      list = data_is 55 ∙ behind-is 11 parameters;
+      type = ap octet_in (data_is 53 (number_of r.message_type ∷ []) refl);
+      client_identifier = data_is 61 (identifier_data r.options.client_identifier) refl;
+      requested_ip = data_is 50 (address_data r.options.requested_ip) refl;
+      server_identifier = data_is 54 (address_data r.options.server_identifier) refl;
+      max_size = data_is 57 (size_data r.options.max_size) refl;
+      lease_duration = data_is 51 (seconds_data r.options.lease_duration) refl;
+      renew_duration = data_is 58 (seconds_data r.options.renew_duration) refl;
+      rebind_duration = data_is 59 (seconds_data r.options.rebind_duration) refl;
+      subnet_mask = data_is 1 (address_data r.options.subnet_mask) refl;
+      router = data_is 3 (address_data r.options.router) refl;
+      dns_servers = data_is 6 (list_data r.options.dns_servers) refl;
+      list = joined_is 55 ∙ append-nil parameters;
     }
 
 made_options : (o : DhcpOptions) (mask router requested server : Option Ipv4Address) (servers : List (Option Ipv4Address))
@@ -228,9 +232,6 @@ made : (r : DhcpRepr) (t : DhcpMessageType) (id secs client your server relay : 
 made r t id secs client your server relay flag hardware o e1 e2 e3 e4 e5 e6 e7 e8 e9 e10 =
     rw (e1, e2, e3, e4, e5, e6, e7, e8, e9, e10) refl
 
-pair : (r : DhcpRepr) (parameters xs : List ℕ) (s : DhcpRepr) → s ≡ r → xs ≡ parameters → ◌≡◌ {A = DhcpRepr × List ℕ} (s, xs) (r, parameters)
-pair r parameters xs s es ex = rw (es, ex) refl
-
 pub read_again : ReadAgain
 read_again r parameters h =
     let m = text r parameters in
@@ -245,8 +246,7 @@ read_again r parameters h =
         type = subst IsTypeNumber (sym d.type) t.0;
         operation = f.operation ∙ sym (ap operation_of d.type);
       },
-      pair r parameters (data_in 55 m) (values_in m (type_of (type_number m)))
-          (made r _ _ _ _ _ _ _ _ _ _ (ap type_of d.type ∙ t.1) f.transaction_id f.secs f.broadcast f.client_ip f.your_ip f.server_ip
-          f.relay_agent_ip f.hardware (options_again r parameters m d h.options))
-          d.list,
+      made r _ _ _ _ _ _ _ _ _ _ (ap type_of d.type ∙ t.1) f.transaction_id f.secs f.broadcast f.client_ip f.your_ip f.server_ip
+          f.relay_agent_ip f.hardware (options_again r parameters m d h.options),
+      d.list,
     )

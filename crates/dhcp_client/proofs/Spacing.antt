@@ -1,10 +1,9 @@
 -- Messages of a type are three seconds apart.
-use Rattle.std.proofs.Common.{◌≡◌, ℕ, ◌+◌, ◌<◌, ◌≤◌, Bool, true, false, refl, sym, ap, subst, ◌∙◌, arith, List, [], ◌∷◌}
+use Rattle.std.proofs.Common.{◌≡◌, ℕ, ◌+◌, ◌≤◌, Bool, true, false, refl, sym, ap, subst, ◌∙◌, arith, List, [], ◌∷◌}
 use Rattle.std.specs.Prelude.{Option, Some, None, max, if◌then◌else◌}
 use Rattle.std.specs.Option.{option_map}
 use Rattle.std.proofs.lemmas.Bool.Decides.{nat_tests}
 use Rattle.ip_address.specs.declared.ipv4.Ipv4Address.{Ipv4Address}
-use Rattle.ip_address.specs.Ipv4.{is_unicast}
 use Rattle.dhcp_client.specs.declared.message.DhcpRepr.{DhcpRepr}
 use Rattle.dhcp_client.specs.declared.message.DhcpMessageType.{DhcpMessageType}
 use Rattle.dhcp_client.specs.declared.message.DhcpMessageType.TheVariants.{Discover, Offer, Request, Decline, Ack, Nak, Release, Inform}
@@ -14,10 +13,10 @@ use Rattle.dhcp_client.specs.declared.client.DhcpPhase.{DhcpPhase}
 use Rattle.dhcp_client.specs.declared.client.DhcpPhase.TheVariants.{Discovering, Requesting, Rebooting, Bound}
 use Rattle.dhcp_client.specs.declared.lease.DhcpLease.{DhcpLease}
 use Rattle.dhcp_client.specs.declared.lease.LeaseTimes.{LeaseTimes}
-use Rattle.dhcp_client.specs.Answers.{after_receiving, after_answer, after_type, after_offer, requesting, after_ack, leased, after_nak, is_answer, is_discovering}
-use Rattle.dhcp_client.specs.Lease.{lease_of}
-use Rattle.dhcp_client.specs.Client.{after_reset, after_giving_up, must_give_up, is_to_send, has_come, send_in, send_at, if_ending}
-use Rattle.dhcp_client.specs.Messages.{after_asking, after_sending, message_at, message, message_in, numbered, is_discover}
+use Rattle.dhcp_client.specs.Answers.{after_answer, after_type, requesting, leased, is_answer, is_discovering}
+use Rattle.dhcp_client.specs.Lease.{is_usable, lease_of}
+use Rattle.dhcp_client.specs.Client.{after_reset, after_giving_up, must_give_up, is_to_send, has_come, send_in, if_ending}
+use Rattle.dhcp_client.specs.Messages.{after_asking, after_sending, message, message_in, numbered, is_discover}
 use Rattle.dhcp_client.specs.Run.{Event, Receive, Ask, Tell, Reset, client_after, client_after_all}
 use Rattle.dhcp_client.specs.Laws.{type_at, KindsAreSpaced}
 
@@ -32,17 +31,17 @@ by_reset : (t : Bool) (c : DhcpClient) → Gates c (if t then after_reset c else
 by_reset true c = same c
 by_reset false c = same c
 
-if_unicast : (t : Bool) (address server : Ipv4Address) (c : DhcpClient) →
+if_usable : (t : Bool) (address server : Ipv4Address) (c : DhcpClient) →
     Gates c (if t then record c { phase = Requesting address server; asked = None; tries = 0; next_at = 0 } else c)
-if_unicast true address server c = same c
-if_unicast false address server c = same c
+if_usable true address server c = same c
+if_usable false address server c = same c
 
-by_requesting : (address : Ipv4Address) (server : Option Ipv4Address) (c : DhcpClient) → Gates c (requesting address server c)
-by_requesting address None c = same c
-by_requesting address (Some server) c = if_unicast (is_unicast address) address server c
+by_requesting : (m : DhcpRepr) (server : Option Ipv4Address) (c : DhcpClient) → Gates c (requesting m server c)
+by_requesting m None c = same c
+by_requesting m (Some server) c = if_usable (is_usable m server) m.your_ip server c
 
-by_offer : (t : Bool) (m : DhcpRepr) (c : DhcpClient) → Gates c (if t then requesting m.your_ip m.options.server_identifier c else c)
-by_offer true m c = by_requesting m.your_ip m.options.server_identifier c
+by_offer : (t : Bool) (m : DhcpRepr) (c : DhcpClient) → Gates c (if t then requesting m m.options.server_identifier c else c)
+by_offer true m c = by_requesting m m.options.server_identifier c
 by_offer false m c = same c
 
 by_lease : (l : Option DhcpLease) (c : DhcpClient) → Gates c (leased l c)

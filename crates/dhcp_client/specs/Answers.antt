@@ -1,19 +1,17 @@
 -- What a client makes of the messages that it receives (RFC 2131 4.4.1 to 4.4.5).
 use Rattle.std.specs.Prelude.{ℕ, ◌==◌, ◌&&◌, Bool, true, false, Option, Some, None, if◌then◌else◌}
 use Rattle.ip_address.specs.declared.ipv4.Ipv4Address.{Ipv4Address}
-use Rattle.ip_address.specs.Ipv4.{is_unicast}
 use Rattle.ip_address.specs.EthernetAddress.{is_same}
 use Rattle.dhcp_client.specs.declared.message.DhcpRepr.{DhcpRepr}
 use Rattle.dhcp_client.specs.declared.message.DhcpMessageType.{DhcpMessageType}
 use Rattle.dhcp_client.specs.declared.message.DhcpMessageType.TheVariants.{Discover, Offer, Request, Decline, Ack, Nak, Release, Inform}
 use Rattle.dhcp_client.specs.declared.client.Asked.{Asked}
 use Rattle.dhcp_client.specs.declared.client.DhcpClient.{DhcpClient}
-use Rattle.dhcp_client.specs.declared.client.DhcpPhase.{DhcpPhase}
-use Rattle.dhcp_client.specs.declared.client.DhcpPhase.TheVariants.{Discovering, Requesting, Rebooting, Bound}
+use Rattle.dhcp_client.specs.declared.client.DhcpPhase.TheVariants.{Requesting, Bound}
 use Rattle.dhcp_client.specs.declared.lease.DhcpLease.{DhcpLease}
 use Rattle.dhcp_client.specs.declared.lease.LeaseTimes.{LeaseTimes}
 use Rattle.dhcp_client.specs.Client.{after_reset}
-use Rattle.dhcp_client.specs.Lease.{lease_of}
+use Rattle.dhcp_client.specs.Lease.{is_usable, lease_of}
 use Rattle.dhcp_client.specs.Messages.{is_discover}
 
 -- a server answers what this one, or any, was asked
@@ -35,14 +33,14 @@ is_answer m c = (m.transaction_id == c.transaction_id) && is_same m.client_hardw
 abbrev pub is_discovering : DhcpClient → Bool
 is_discovering c = is_discover c.phase
 
--- an offer of a unicast address is taken, by a client that asks for offers
-abbrev pub requesting : Ipv4Address → Option Ipv4Address → DhcpClient → DhcpClient
-requesting address None c = c
-requesting address (Some server) c = if is_unicast address
-    then record c { phase = Requesting address server; asked = None; tries = 0; next_at = 0 } else c
+-- an offer that can be used is taken, by a client that asks for offers
+abbrev pub requesting : DhcpRepr → Option Ipv4Address → DhcpClient → DhcpClient
+requesting m None c = c
+requesting m (Some server) c = if is_usable m server
+    then record c { phase = Requesting m.your_ip server; asked = None; tries = 0; next_at = 0 } else c
 
 abbrev pub after_offer : DhcpRepr → DhcpClient → DhcpClient
-after_offer m c = if is_discovering c then requesting m.your_ip m.options.server_identifier c else c
+after_offer m c = if is_discovering c then requesting m m.options.server_identifier c else c
 
 -- an agreement gives a lease, to a client that has asked for one
 abbrev pub renewed_at : Option LeaseTimes → ℕ

@@ -1,5 +1,5 @@
 -- The state of a client (RFC 2131 4.4), and when it does something. Instants are in microseconds.
-use Rattle.std.specs.Prelude.{ℕ, ◌+◌, ◌^◌, ◌&&◌, nat_le, min, max, Bool, true, false, Option, Some, None, if◌then◌else◌}
+use Rattle.std.specs.Prelude.{ℕ, ◌&&◌, nat_le, min, max, Bool, true, false, Option, Some, None, if◌then◌else◌}
 use Rattle.ip_address.specs.declared.ipv4.Ipv4Address.{Ipv4Address}
 use Rattle.ip_address.specs.declared.ethernet_address.EthernetAddress.{EthernetAddress}
 use Rattle.dhcp_client.specs.declared.client.DhcpClient.{DhcpClient}
@@ -63,9 +63,10 @@ after_reset c = record c {
   has_changed = has_changed_by (lease c) c.has_changed;
 }
 
--- a request isn't sent more than five times
+-- a request is sent four times, after 4, 8 and 16 seconds, and its last answer is waited for during 32: a minute in all (RFC 2131
+-- 3.1 (5), 4.1)
 abbrev pub is_exhausted : ℕ → DhcpClient → Bool
-is_exhausted now c = nat_le 5 c.tries && nat_le c.next_at now
+is_exhausted now c = nat_le 4 c.tries && nat_le c.next_at now
 
 -- the lease has ended, or a request wasn't answered
 abbrev pub must_give_up_in : DhcpPhase → ℕ → DhcpClient → Bool
@@ -107,7 +108,7 @@ ends_or None at = None
 ends_or (Some times) at = Some (min times.expires_at at)
 
 abbrev pub request_due : DhcpClient → ℕ
-request_due c = if nat_le 5 c.tries then c.next_at else max c.next_at c.request_after
+request_due c = if nat_le 4 c.tries then c.next_at else max c.next_at c.request_after
 
 abbrev pub due_in : DhcpPhase → DhcpClient → Option ℕ
 due_in Discovering c = Some (max c.next_at c.discover_after)

@@ -1,8 +1,7 @@
 -- What a client promises, whatever happens to it.
-use Rattle.std.specs.Prelude.{◌≡◌, ℕ, ◌+◌, ◌*◌, ◌==◌, ◌≤◌, ◌<◌, ◌^◌, ◌⊎◌, Bool, true, false, List, Option, Some, None, IfSome, if◌then◌else◌}
+use Rattle.std.specs.Prelude.{◌≡◌, ℕ, ◌+◌, ◌*◌, ◌==◌, ◌≤◌, ◌<◌, ◌⊎◌, nat_le, true, false, List, [], ◌∷◌, Option, Some, None, IfSome, if◌then◌else◌}
 use Rattle.std.specs.Option.{option_map}
 use Rattle.ip_address.specs.declared.ipv4.Ipv4Address.{Ipv4Address}
-use Rattle.ip_address.specs.Ipv4.{is_unicast}
 use Rattle.ip_address.specs.declared.ethernet_address.EthernetAddress.{EthernetAddress}
 use Rattle.ip_address.specs.EthernetAddress.{is_same}
 use Rattle.dhcp_client.specs.declared.message.DhcpRepr.{DhcpRepr}
@@ -12,10 +11,12 @@ use Rattle.dhcp_client.specs.declared.client.DhcpClient.{DhcpClient}
 use Rattle.dhcp_client.specs.declared.lease.DhcpLease.{DhcpLease}
 use Rattle.dhcp_client.specs.declared.lease.LeaseTimes.{LeaseTimes}
 use Rattle.dhcp_client.specs.declared.messages.DhcpMessage.{DhcpMessage}
+use Rattle.dhcp_client.specs.Addresses.{is_host_address, is_mask, is_networks}
 use Rattle.dhcp_client.specs.Answers.{after_receiving}
 use Rattle.dhcp_client.specs.Client.{lease, poll_at}
+use Rattle.dhcp_client.specs.Lease.{is_usable}
 use Rattle.dhcp_client.specs.Messages.{after_asking, message_at}
-use Rattle.dhcp_client.specs.Run.{Event, Receive, Ask, Tell, Reset, Sent, History, begun, after, after_all, client_after_all}
+use Rattle.dhcp_client.specs.Run.{Event, Receive, Ask, Tell, Reset, Sent, begun, after, after_all, client_after_all}
 
 abbrev pub broadcast : Ipv4Address
 broadcast = record { bits = 0xffff_ffff }
@@ -24,6 +25,25 @@ broadcast = record { bits = 0xffff_ffff }
 abbrev pub end_of : ℕ → Option ℕ → Option ℕ
 end_of from None = None
 end_of from (Some seconds) = if seconds == 0xffff_ffff then None else Some (from + seconds * 1000000)
+
+-- another host's address
+abbrev pub IsOther : Ipv4Address → Option Ipv4Address → Type 0
+IsOther own None = Unit
+IsOther own (Some a) = (is_host_address a ≡ true) × ((a.bits == own.bits) ≡ false)
+
+abbrev pub AreOthers : Ipv4Address → List (Option Ipv4Address) → Type 0
+AreOthers own [] = Unit
+AreOthers own (a ∷ more) = IsOther own a × AreOthers own more
+
+-- a host can use a lease: the client has an address that a host of its network can have, the server one of a host, and the
+-- router and the servers of names those of other hosts
+pub record IsUsable (l : DhcpLease) : Type 0 where
+  pub by_host : is_host_address l.server ≡ true
+  pub host : is_host_address l.address ≡ true
+  pub mask : IfSome l.subnet_mask (λ m. is_mask m ≡ true)
+  pub inside : is_networks l.address l.subnet_mask ≡ false
+  pub router : IsOther l.address l.router
+  pub dns_servers : AreOthers l.address l.dns_servers
 
 -- a message agrees to a request that was sent, and gives this lease
 pub record Agrees (hardware_addr : EthernetAddress) (sent : Sent) (m : DhcpRepr) (l : DhcpLease) : Type 0 where
@@ -35,8 +55,7 @@ pub record Agrees (hardware_addr : EthernetAddress) (sent : Sent) (m : DhcpRepr)
   pub named : IfSome sent.message.repr.options.server_identifier (λ s. s ≡ l.server)
   pub went_to : (sent.message.dst ≡ broadcast) ⊎ (sent.message.dst ≡ l.server)
   pub address : l.address ≡ m.your_ip
-  pub unicast : is_unicast m.your_ip ≡ true
-  pub by_unicast : is_unicast l.server ≡ true
+  pub usable : IsUsable l
   pub end : option_map (λ t. t.expires_at) l.times ≡ end_of sent.at m.options.lease_duration
 
 abbrev pub IsAgreed : EthernetAddress → Option Sent → DhcpRepr → DhcpLease → Type 0
@@ -119,13 +138,38 @@ RenewalsAreAsked =
     (now random at : ℕ) (c : DhcpClient) (l : DhcpLease) → now < 0xffff_ffff_ffff_ffff → lease c ≡ Some l → poll_at c ≡ Some at → at ≤ now →
     IsBefore now l.times → IsRenewal (message_at now random c) l
 
+-- a message asks for a lease by its address: before T2 its server, from then on all of them (RFC 2131 4.4.5)
+abbrev pub AsksFor : ℕ → DhcpLease → LeaseTimes → Option DhcpMessage → Type 0
+AsksFor now l t None = ⊥
+AsksFor now l t (Some m) =
+    (m.repr.message_type ≡ Request) × (m.repr.client_ip ≡ l.address) × (m.dst ≡ (if nat_le t.rebind_at now then broadcast else l.server))
+
+-- one of the instants at which a lease is to be asked for again
+abbrev pub IsDue : LeaseTimes → ℕ → Type 0
+IsDue t due = (due ≡ t.renew_at) ⊎ (due ≡ t.rebind_at)
+
+-- T1 has come, or T2, and what the client sent last it sent before: then it asks, but for three seconds after that message
+abbrev pub RenewalsAreInTime : Type 0
+RenewalsAreInTime =
+    (hardware_addr : EthernetAddress) (known : Option Ipv4Address) (es : List Event) (now random due : ℕ) (l : DhcpLease) (t : LeaseTimes)
+    (s : Sent) → lease (after_all es (begun hardware_addr known)).client ≡ Some l → l.times ≡ Some t →
+    (after_all es (begun hardware_addr known)).last ≡ Some s → IsDue t due → s.at < due → due ≤ now → s.at + 3000000 ≤ now →
+    now < t.expires_at → AsksFor now l t (message_at now random (after_all es (begun hardware_addr known)).client)
+
+-- before T1 a client with a lease sends nothing
+abbrev pub RenewalsWait : Type 0
+RenewalsWait =
+    (hardware_addr : EthernetAddress) (known : Option Ipv4Address) (es : List Event) (now random : ℕ) (l : DhcpLease) (t : LeaseTimes) →
+    lease (after_all es (begun hardware_addr known)).client ≡ Some l → l.times ≡ Some t → now < t.renew_at → now < t.expires_at →
+    message_at now random (after_all es (begun hardware_addr known)).client ≡ None
+
 -- a message of a server answers one that was sent
 pub record Answers (sent : DhcpMessage) (type : DhcpMessageType) (server : Ipv4Address) (m : DhcpRepr) : Type 0 where
   pub is_type : m.message_type ≡ type
   pub number : m.transaction_id ≡ sent.repr.transaction_id
   pub hardware : is_same m.client_hardware_address sent.repr.client_hardware_address ≡ true
   pub by : m.options.server_identifier ≡ Some server
-  pub unicast : is_unicast m.your_ip ≡ true
+  pub usable : is_usable m server ≡ true
 
 -- a message asks for what was offered
 abbrev pub IsRequestOf : Option DhcpMessage → DhcpRepr → Type 0
@@ -152,6 +196,5 @@ abbrev pub AgreementsAreTaken : Type 0
 AgreementsAreTaken =
     (now random seconds : ℕ) (c : DhcpClient) (sent : DhcpMessage) (server : Ipv4Address) (m : DhcpRepr) →
     message_at now random c ≡ Some sent → sent.repr.message_type ≡ Request → Answers sent Ack server m →
-    m.options.lease_duration ≡ Some seconds → is_unicast server ≡ true →
-    IfSome (lease c) (λ l. l.server ≡ server) → IfSome sent.repr.options.server_identifier (λ s. s ≡ server) →
+    m.options.lease_duration ≡ Some seconds → IfSome (lease c) (λ l. l.server ≡ server) → IfSome sent.repr.options.server_identifier (λ s. s ≡ server) →
     IsFor (lease (after_receiving m (after_asking now random c))) m.your_ip

@@ -1,3 +1,4 @@
+pub mod Addresses
 pub mod Options
 pub mod Answers
 pub mod Client

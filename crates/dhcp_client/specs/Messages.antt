@@ -1,12 +1,11 @@
 -- What a client sends (RFC 2131 4.1, 4.4, table 5).
-use Rattle.std.specs.Prelude.{ℕ, ◌+◌, ◌-◌, ◌*◌, ◌/◌, ◌%◌, ◌==◌, nat_le, min, max, Bool, true, false, Option, Some, None, [], ◌∷◌, if◌then◌else◌}
+use Rattle.std.specs.Prelude.{ℕ, ◌+◌, ◌-◌, ◌*◌, ◌/◌, ◌%◌, ◌==◌, nat_le, min, max, Bool, true, false, Option, Some, None, if◌then◌else◌}
 use Rattle.ip_address.specs.declared.ipv4.Ipv4Address.{Ipv4Address}
 use Rattle.dhcp_client.specs.declared.message.DhcpRepr.{DhcpRepr}
 use Rattle.dhcp_client.specs.declared.message.DhcpMessageType.{DhcpMessageType}
 use Rattle.dhcp_client.specs.declared.message.DhcpMessageType.TheVariants.{Discover, Request}
 use Rattle.dhcp_client.specs.declared.options.DhcpOptions.{DhcpOptions}
 use Rattle.dhcp_client.specs.Options.{no_options}
-use Rattle.dhcp_client.specs.declared.client.Asked.{Asked}
 use Rattle.dhcp_client.specs.declared.client.DhcpClient.{DhcpClient}
 use Rattle.dhcp_client.specs.declared.client.DhcpPhase.{DhcpPhase}
 use Rattle.dhcp_client.specs.declared.client.DhcpPhase.TheVariants.{Discovering, Requesting, Rebooting, Bound}

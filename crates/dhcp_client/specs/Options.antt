@@ -1,7 +1,7 @@
 -- The options of DHCP (RFC 2131 3, RFC 2132). An option is a code, a length, and as many octets of data; of codes 0 and 255
 -- there is the code alone.
-use Rattle.std.specs.Prelude.{◌≡◌, ℕ, zero, suc, ◌+◌, ◌-◌, ◌<◌, ◌≤◌, ◌^◌, ◌%◌, ◌==◌, ◌&&◌, Bool, true, not, nat_le}
-use Rattle.std.specs.Prelude.{Option, Some, None, IsNone, List, [], ◌∷◌, ◌++◌, length, take, drop, get_or, slice_index, slice_range, if◌then◌else◌}
+use Rattle.std.specs.Prelude.{◌≡◌, ℕ, zero, suc, ◌+◌, ◌-◌, ◌<◌, ◌^◌, ◌%◌, ◌==◌, ◌&&◌, Bool, true, not, nat_le}
+use Rattle.std.specs.Prelude.{Option, Some, None, List, [], ◌∷◌, ◌++◌, length, take, drop, get_or, slice_index, slice_range, if◌then◌else◌}
 use Rattle.std.specs.Int.{w16, w32, to_be_bytes}
 use Rattle.ip_wire.specs.Octets.{u16_at, u32_at}
 use Rattle.ip_address.specs.declared.ipv4.Ipv4Address.{Ipv4Address}
@@ -32,19 +32,19 @@ are_whole skip [] = true
 are_whole (suc skip) (x ∷ xs) = are_whole skip xs
 are_whole zero (x ∷ xs) = if begins_option (x ∷ xs) then are_whole (option_len (x ∷ xs) - 1) xs else x == 255
 
--- the later of two data, if it has some
-unfoldable pub later_or : List ℕ → List ℕ → List ℕ
-later_or [] earlier = earlier
-later_or (x ∷ xs) earlier = x ∷ xs
-
 -- the data of an option, if it has this code
 abbrev pub data_if : ℕ → List ℕ → List ℕ
 data_if code option = if slice_index option 0 == code then drop 2 option else []
 
--- the data of the last option of a code that has some; none where there is none
-unfoldable pub data_of : ℕ → List (List ℕ) → List ℕ
-data_of code [] = []
-data_of code (o ∷ os) = later_or (data_of code os) (data_if code o)
+-- the data of all options of a code, put together in their order (RFC 3396 7): of code 6, where 5 octets 10 0 0 1 10 and 3 octets
+-- 0 0 2 stand, with an option of another code in between, 10 0 0 1 10 0 0 2, and not the last three alone
+unfoldable pub joined : ℕ → List (List ℕ) → List ℕ
+joined code [] = []
+joined code (o ∷ os) = data_if code o ++ joined code os
+
+-- there is room for 256 octets: of more the first ones count
+abbrev pub in_room : List ℕ → List ℕ
+in_room d = take 256 d
 
 -- Values: data of another length count as none.
 

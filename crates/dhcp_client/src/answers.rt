@@ -3,15 +3,16 @@ ghost use Rattle.std.specs.Prelude.{◌≡◌};
 ghost use Rattle.dhcp_client.specs.Answers as spec;
 
 use crate::client::{DhcpClient, DhcpPhase};
-use crate::lease::DhcpLease;
+use crate::lease::{DhcpLease, is_usable};
 use crate::{DhcpMessageType, DhcpRepr};
 
 impl DhcpClient {
     /// Receives a message. It counts only if it has the number of the exchange, the client's hardware address, a server's
     /// identifier, and, once a server was chosen, that of this server; otherwise nothing changes.
     ///
-    /// The first offer of a unicast address is taken. An agreement (ACK) to a request gives the lease that it describes, if
-    /// it says how long that lasts; a refusal (NAK) lets the client begin anew, without its lease. Other messages change
+    /// The first offer is taken that can be used: it is by a server at a host's address, and of an address that a host of its
+    /// network can have. An agreement (ACK) to a request gives the lease that it describes, if that can be used too, and it
+    /// says how long that lasts; a refusal (NAK) lets the client begin anew, without its lease. Other messages change
     /// nothing.
     pub fn receive(&mut self, message: &DhcpRepr)
         ensures { self.new ≡ spec.after_receiving message.now self.old }
@@ -60,7 +61,7 @@ impl DhcpClient {
         let phase = self.phase;
         let server = offer.options.server_identifier;
         if let (DhcpPhase::Discovering, Some(server)) = (phase, server) {
-            if offer.your_ip.is_unicast() {
+            if is_usable(offer, &server) {
                 self.phase = DhcpPhase::Requesting {
                     address: offer.your_ip,
                     server,

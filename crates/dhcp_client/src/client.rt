@@ -8,8 +8,9 @@ use ip_address::{EthernetAddress, Ipv4Address};
 /// How long a message of a kind isn't repeated, in microseconds.
 pub(crate) const SILENCE: u128 = 3_000_000;
 
-/// How often a request is sent before the client begins anew (RFC 2131 3.1: as often as retransmission takes a minute).
-const MAX_TRIES: u8 = 5;
+/// How often a request is sent before the client begins anew. The waits of 4, 8, 16 and 32 seconds (RFC 2131 4.1) are a minute
+/// together (RFC 2131 3.1 (5)).
+const MAX_TRIES: u8 = 4;
 
 /// What a client does (RFC 2131 4.4, figure 5).
 #[derive(Clone, Copy, Debug, PartialEq, Eq)]

@@ -37,7 +37,7 @@ pub fn receive_datagram(client: &mut DhcpClient, port: u16, payload: &[u8])
     ensures { spec.ReceivesDatagram port payload.now client.old client.new }
 {
     if port == SERVER_PORT {
-        if let Some((message, _)) = DhcpRepr::parse(payload) {
+        if let Some(message) = DhcpRepr::parse(payload) {
             client.receive(&message);
         }
     }

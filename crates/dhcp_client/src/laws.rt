@@ -1,10 +1,12 @@
 //! What a client promises, whatever messages come and whenever it is asked, each law as the contract of an empty function.
 ghost use Rattle.dhcp_client.specs.Laws.{AgreementsAreTaken, DiscoveryGoesOn, KindsAreSpaced, LeasesAreAnswered, LeasesEnd};
 ghost use Rattle.dhcp_client.specs.Laws.{LeasesStay, NeverStuck, OffersAreTaken, PollAtIsExact, RenewalsAreAsked};
+ghost use Rattle.dhcp_client.specs.Laws.{RenewalsAreInTime, RenewalsWait};
 
 /// A lease comes only from an agreement (ACK) to the request that was sent last: with its number, the client's hardware
-/// address, a unicast address, and the identifier of a server, which is the one that the request named, or went to. It
-/// ends as many seconds after the request as the agreement says.
+/// address, and the identifier of a server, which is the one that the request named, or went to. It ends as many seconds
+/// after the request as the agreement says. A host can use it: its address is one that a host of its network can have, and
+/// its router and its servers of names are other hosts.
 pub fn leases_are_answered()
     ensures { LeasesAreAnswered }
 {}
@@ -46,12 +48,25 @@ pub fn renewals_are_asked()
     ensures { RenewalsAreAsked }
 {}
 
-/// An offer that answers a DISCOVER is asked for, as soon as something is due: by its number and address, of its server.
+/// A lease is asked for again at T1 and at T2: whatever happened, where the client is asked for its next message then or
+/// later, and sent the last one before, it sends a REQUEST from the address of the lease, before T2 to its server and from
+/// then on to all. The one exception are the three seconds after the message before.
+pub fn renewals_are_in_time()
+    ensures { RenewalsAreInTime }
+{}
+
+/// Before T1 a client with a lease sends nothing.
+pub fn renewals_wait()
+    ensures { RenewalsWait }
+{}
+
+/// An offer that answers a DISCOVER and can be used is asked for, as soon as something is due: by its number and address, of
+/// its server.
 pub fn offers_are_taken()
     ensures { OffersAreTaken }
 {}
 
-/// An agreement that answers a REQUEST gives a lease of its address.
+/// An agreement that answers a REQUEST and can be used gives a lease of its address.
 pub fn agreements_are_taken()
     ensures { AgreementsAreTaken }
 {}

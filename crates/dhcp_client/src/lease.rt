@@ -1,7 +1,8 @@
 //! What a server leases to a client (RFC 2131 4.4.1, 4.4.5).
-ghost use Rattle.std.specs.Prelude.{◌≡◌, ◌+◌, ◌*◌, ◌<◌, ◌^◌};
+ghost use Rattle.std.specs.Prelude.{◌≡◌, ◌+◌, ◌*◌, ◌<◌, ◌≤◌, ◌^◌};
 ghost use Rattle.dhcp_client.specs.Lease as spec;
 
+use crate::addresses::{is_host_address, is_leasable, mask_of, other_in, others_in};
 use crate::{DhcpOptions, DhcpRepr};
 use ip_address::Ipv4Address;
 
@@ -23,8 +24,9 @@ pub struct LeaseTimes {
 #[derive(Clone, Copy, Debug, PartialEq, Eq)]
 pub struct DhcpLease {
     pub address: Ipv4Address,
-    /// The mask of the network, as the server gave it.
+    /// The mask of the network: ones, and then zeros. `None` if the server gave none.
     pub subnet_mask: Option<Ipv4Address>,
+    /// The address of another host, as each of the servers of names.
     pub router: Option<Ipv4Address>,
     /// Up to three servers of names, from the first place on.
     pub dns_servers: [Option<Ipv4Address>; 3],
@@ -45,7 +47,7 @@ pub enum DhcpEvent {
 
 impl DhcpLease {
     /// The lease that an agreement gives, for a request that was sent at an instant, in microseconds. `None` exactly if the
-    /// agreement doesn't say how long it lasts, a unicast address, or by which server it is, by a unicast address.
+    /// agreement doesn't say how long it lasts, or by which server it is, or if it can't be used.
     pub(crate) fn of(sent_at: u64, ack: &DhcpRepr) -> Option<DhcpLease>
         ensures { result ≡ spec.lease_of sent_at ack.now }
     {
@@ -55,14 +57,15 @@ impl DhcpLease {
         ) else {
             return None;
         };
-        if !(ack.your_ip.is_unicast() && server.is_unicast()) {
+        if !is_usable(ack, &server) {
             return None;
         }
+        let own = ack.your_ip;
         Some(DhcpLease {
-            address: ack.your_ip,
-            subnet_mask: ack.options.subnet_mask,
-            router: ack.options.router,
-            dns_servers: ack.options.dns_servers,
+            address: own,
+            subnet_mask: mask_of(&ack.options.subnet_mask),
+            router: other_in(&own, &ack.options.router),
+            dns_servers: others_in(&own, &ack.options.dns_servers),
             server,
             times: times_of(sent_at, duration, &ack.options),
         })
@@ -95,15 +98,45 @@ fn times_of(sent_at: u64, duration: u32, options: &DhcpOptions) -> Option<LeaseT
     })
 }
 
-/// T1 and T2 of a lease of so many seconds, in microseconds: as the server gave them, if they are in order. Otherwise half
-/// of the duration, and seven eighths.
+/// Whether what a message gives can be used: an address that a host of its network can have, by a server at a host's address.
+pub(crate) fn is_usable(message: &DhcpRepr, server: &Ipv4Address) -> bool
+    ensures { result ≡ spec.is_usable message.now server.now }
+{
+    is_host_address(server) && is_leasable(&message.your_ip, &message.options.subnet_mask)
+}
+
+/// T1 and T2 of a lease of so many seconds, in microseconds: as the server gave them, as far as they are in order. Otherwise
+/// half of the duration, and seven eighths.
 fn spans_of(duration: u32, renew: Option<u32>, rebind: Option<u32>) -> (u64, u64)
     ensures { result ≡ spec.spans_of duration renew rebind }
 {
-    match (renew, rebind) {
-        (Some(renew), Some(rebind)) if renew < rebind && rebind < duration => {
-            (u64::from(renew) * 1_000_000, u64::from(rebind) * 1_000_000)
+    let rebind = rebind_span(duration, rebind);
+    let renew = renew_span(duration, renew, rebind);
+    if renew < rebind {
+        (renew, rebind)
+    } else {
+        (u64::from(duration) * 500_000, u64::from(duration) * 875_000)
+    }
+}
+
+/// T2 in microseconds: the server's, if that is before the end.
+fn rebind_span(duration: u32, rebind: Option<u32>) -> u64
+    ensures { result ≡ spec.rebind_span duration rebind }
+{
+    match rebind {
+        Some(rebind) if rebind < duration => u64::from(rebind) * 1_000_000,
+        _ => u64::from(duration) * 875_000,
+    }
+}
+
+/// T1 in microseconds: the server's, if that is before T2 and isn't 0.
+fn renew_span(duration: u32, renew: Option<u32>, rebind: u64) -> u64
+    ensures { result ≡ spec.renew_span duration renew rebind }
+{
+    match renew {
+        Some(renew) if 0 < renew && u64::from(renew) * 1_000_000 < rebind => {
+            u64::from(renew) * 1_000_000
         }
-        _ => (u64::from(duration) * 500_000, u64::from(duration) * 875_000),
+        _ => u64::from(duration) * 500_000,
     }
 }

@@ -1,6 +1,7 @@
 //! DHCP for IPv4: messages, a client, and the same over sockets.
 #![tactic(auto)]
 
+pub mod addresses;
 pub mod answers;
 pub mod client;
 pub mod datagrams;
@@ -16,5 +17,5 @@ pub use datagrams::{receive, receive_datagram, send_by_raw, send_by_udp, server_
 pub use lease::{DhcpEvent, DhcpLease, LeaseTimes};
 pub use message::{DhcpMessageType, DhcpRepr};
 pub use messages::DhcpMessage;
-pub use options::DhcpOptions;
+pub use options::{DhcpOptions, OptionData};
 pub use packets::DhcpRoom;

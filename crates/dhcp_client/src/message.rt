@@ -1,13 +1,13 @@
 //! DHCP messages (RFC 2131 2), with an Ethernet address as the client's.
 ghost use Rattle.std.specs.Prelude.{◌≡◌, ◌+◌, ◌<◌, ◌≤◌, ◌++◌, ◌||◌, ◌==◌, ◌&&◌, not, length};
-ghost use Rattle.std.specs.Option.{SomeIff, option_map};
-ghost use Rattle.dhcp_client.specs.Options.{data_of, options_after, later_or, option_text};
+ghost use Rattle.std.specs.Option.{SomeIff};
+ghost use Rattle.dhcp_client.specs.Options as options;
 ghost use Rattle.dhcp_client.specs.Details.Message as spec;
 
 use crate::options::{
-    DhcpOptions, address_in, append_address, append_identifier, append_list, append_option,
-    append_seconds, append_size, are_whole, data_of, hardware_address_at, identifier_in, listed_at,
-    octet_in, seconds_in, size_in,
+    DhcpOptions, OptionData, address_in, append_address, append_identifier, append_list,
+    append_option, append_seconds, append_size, are_whole, hardware_address_at, identifier_in,
+    join, listed_at, octet_in, seconds_in, size_in,
 };
 use ip_address::{EthernetAddress, Ipv4Address};
 use ip_wire::emit::FrameBuffer;
@@ -107,12 +107,12 @@ pub struct DhcpRepr {
 }
 
 impl DhcpRepr {
-    /// Parses a message into its values, and the list of parameters that it asks for (RFC 2132 9.8), which is empty if
-    /// there is none.
+    /// Parses a message into its values.
     ///
     /// Options stand behind the header, and where option 52 says so in the fields for the boot file's name and the
-    /// server's name too (RFC 2132 9.3), in this order (RFC 2131 4.1). Of each code the last one with data counts. Codes
-    /// that aren't known, and data of another length than the code's, count as absent.
+    /// server's name too (RFC 2132 9.3), in this order (RFC 2131 4.1). The data of the options of one code are put together
+    /// (RFC 3396); of more than 256 octets the first ones count. Codes that aren't known, and data of another length than the
+    /// code's, count as absent.
     ///
     /// `None` exactly in these cases:
     ///
@@ -120,18 +120,26 @@ impl DhcpRepr {
     /// - the hardware type isn't Ethernet's, 1, or the length of its addresses isn't 6;
     /// - an option's length runs out of the field that it stands in;
     /// - there is no message type of RFC 2132 9.6, or the operation isn't that type's.
-    pub fn parse(message: &[u8]) -> Option<(DhcpRepr, &[u8])>
-        ensures { SomeIff (option_map spec.parts result) (spec.IsDhcp message.now) (spec.dhcp_in message.now) }
+    pub fn parse(message: &[u8]) -> Option<DhcpRepr>
+        ensures { SomeIff result (spec.IsDhcp message.now) (spec.dhcp_in message.now) }
     {
         if message.len() < HEADER_LEN || !is_for_ethernet(message) || !has_whole_options(message) {
             return None;
         }
-        let number = octet_in(data_in(message, 53));
-        let message_type = DhcpMessageType::from_number(number)?;
+        let message_type = DhcpMessageType::from_number(octet_of(message, 53))?;
         if message[0] != message_type.operation() {
             return None;
         }
-        Some((values_in(message, message_type), data_in(message, 55)))
+        Some(values_in(message, message_type))
+    }
+
+    /// The list of parameters that a message of at least 240 octets asks for (RFC 2132 9.8), at most 256. It is empty if there
+    /// is none.
+    pub fn parameters_in(message: &[u8]) -> OptionData
+        requires { 240 ≤ length message.now }
+        ensures { result.items ≡ spec.data_in 55 message.now }
+    {
+        data_in(message, 55)
     }
 
     /// Appends a message with these values and a list of parameters that it asks for, of at most 255 octets; an empty list
@@ -173,7 +181,9 @@ fn overload_in(message: &[u8]) -> u8
     requires { 240 ≤ length message.now }
     ensures { result ≡ spec.overload_in message.now }
 {
-    octet_in(data_of(&message[HEADER_LEN..], 52, &[]))
+    let mut data = OptionData::new();
+    join(&message[HEADER_LEN..], 52, &mut data);
+    octet_in(data.as_slice())
 }
 
 /// Whether the options of a message are whole, in each field that has some.
@@ -189,7 +199,7 @@ fn has_whole_options(message: &[u8]) -> bool
 
 /// Whether options before a field are whole, and those of the field too, if it has some.
 fn are_whole_too(before: bool, has_options: bool, field: &[u8]) -> bool
-    ensures { result ≡ (before && (not has_options || Rattle.dhcp_client.specs.Options.are_whole 0 field.now)) }
+    ensures { result ≡ (before && (not has_options || options.are_whole 0 field.now)) }
 {
     before && (!has_options || are_whole(field))
 }
@@ -208,26 +218,82 @@ const fn is_in_name(overload: u8) -> bool
     overload == 2 || overload == 3
 }
 
-/// The data of a message's last option of a code that has some.
-fn data_in(message: &[u8], code: u8) -> &[u8]
+/// The data of a message's options of a code.
+fn data_in(message: &[u8], code: u8) -> OptionData
     requires { 240 ≤ length message.now }
-    ensures { result.now ≡ spec.data_in code message.now }
+    ensures { result.items ≡ spec.data_in code message.now }
 {
     let overload = overload_in(message);
-    let own = data_of(&message[HEADER_LEN..], code, &[]);
-    let file = data_if(is_in_file(overload), &message[108..236], code, own);
-    data_if(is_in_name(overload), &message[44..108], code, file)
+    let mut data = OptionData::new();
+    join(&message[HEADER_LEN..], code, &mut data);
+    join_if(is_in_file(overload), &message[108..236], code, &mut data);
+    join_if(is_in_name(overload), &message[44..108], code, &mut data);
+    data
 }
 
-/// The data of a field's last option of a code that has some, if there are options in the field. Otherwise `before`.
-fn data_if<'a>(has_options: bool, field: &'a [u8], code: u8, before: &'a [u8]) -> &'a [u8]
-    ensures { result.now ≡ spec.data_or has_options code field.now before.now }
+/// Appends the data of a field's options of a code, if there are options in the field.
+fn join_if(has_options: bool, field: &[u8], code: u8, data: &mut OptionData)
+    requires { length data.old.items ≤ 256 }
+    ensures items { data.new.items ≡ options.in_room (data.old.items ++ spec.joined_if has_options code field.now) }
+    ensures len { length data.new.items ≤ 256 }
 {
     if has_options {
-        data_of(field, code, before)
-    } else {
-        before
+        join(field, code, data);
     }
+}
+
+/// The number of one octet that a message's options of a code are; 0 for other data.
+#[inline(never)]
+fn octet_of(message: &[u8], code: u8) -> u8
+    requires { 240 ≤ length message.now }
+    ensures { result ≡ options.octet_in (spec.data_in code message.now) }
+{
+    octet_in(data_in(message, code).as_slice())
+}
+
+/// The address that a message's options of a code are.
+#[inline(never)]
+fn address_of(message: &[u8], code: u8) -> Option<Ipv4Address>
+    requires { 240 ≤ length message.now }
+    ensures { result ≡ options.address_in (spec.data_in code message.now) }
+{
+    address_in(data_in(message, code).as_slice())
+}
+
+/// The number of seconds that a message's options of a code are.
+#[inline(never)]
+fn seconds_of(message: &[u8], code: u8) -> Option<u32>
+    requires { 240 ≤ length message.now }
+    ensures { result ≡ options.seconds_in (spec.data_in code message.now) }
+{
+    seconds_in(data_in(message, code).as_slice())
+}
+
+/// The longest message that a message's sender takes.
+#[inline(never)]
+fn size_of(message: &[u8]) -> Option<u16>
+    requires { 240 ≤ length message.now }
+    ensures { result ≡ options.size_in (spec.data_in 57 message.now) }
+{
+    size_in(data_in(message, 57).as_slice())
+}
+
+/// The Ethernet address by which a message's sender is known.
+#[inline(never)]
+fn identifier_of(message: &[u8]) -> Option<EthernetAddress>
+    requires { 240 ≤ length message.now }
+    ensures { result ≡ options.identifier_in (spec.data_in 61 message.now) }
+{
+    identifier_in(data_in(message, 61).as_slice())
+}
+
+/// The first three addresses of the list that a message's options of a code are.
+#[inline(never)]
+fn list_of(message: &[u8], code: u8) -> [Option<Ipv4Address>; 3]
+    requires { 240 ≤ length message.now }
+    ensures { result ≡ options.list_in (spec.data_in code message.now) }
+{
+    servers_in(data_in(message, code).as_slice())
 }
 
 /// The values of a message of a type.
@@ -254,24 +320,25 @@ fn options_in(message: &[u8]) -> DhcpOptions
     requires { 240 ≤ length message.now }
     ensures { result ≡ spec.options_in message.now }
 {
+    let [router, _, _] = list_of(message, 3);
     DhcpOptions {
-        subnet_mask: address_in(data_in(message, 1)),
-        router: listed_at(data_in(message, 3), 0),
-        dns_servers: servers_in(data_in(message, 6)),
-        requested_ip: address_in(data_in(message, 50)),
-        lease_duration: seconds_in(data_in(message, 51)),
-        server_identifier: address_in(data_in(message, 54)),
-        max_size: size_in(data_in(message, 57)),
-        renew_duration: seconds_in(data_in(message, 58)),
-        rebind_duration: seconds_in(data_in(message, 59)),
-        client_identifier: identifier_in(data_in(message, 61)),
+        subnet_mask: address_of(message, 1),
+        router,
+        dns_servers: list_of(message, 6),
+        requested_ip: address_of(message, 50),
+        lease_duration: seconds_of(message, 51),
+        server_identifier: address_of(message, 54),
+        max_size: size_of(message),
+        renew_duration: seconds_of(message, 58),
+        rebind_duration: seconds_of(message, 59),
+        client_identifier: identifier_of(message),
     }
 }
 
 /// The first three addresses of a list.
 #[inline(always)]
 fn servers_in(octets: &[u8]) -> [Option<Ipv4Address>; 3]
-    ensures { result ≡ Rattle.dhcp_client.specs.Options.list_in octets.now }
+    ensures { result ≡ options.list_in octets.now }
 {
     [
         listed_at(octets, 0),
@@ -331,7 +398,7 @@ fn fields_of(repr: &DhcpRepr) -> [u8; 28]
     ]
 }
 
-/// A message that is emitted is parsed back as its values, and its list of parameters.
+/// A message that is emitted is parsed back as its values, and its list of parameters stands there.
 pub fn read_again()
     ensures { spec.ReadAgain }
 {}

@@ -1,8 +1,9 @@
 //! The options of DHCP messages (RFC 2131 3, RFC 2132).
-ghost use Rattle.std.specs.Prelude.{◌≡◌, ◌+◌, ◌<◌, ◌≤◌, ◌++◌, length, slice_index, IsTrue};
+ghost use Rattle.std.specs.Prelude.{◌≡◌, ◌+◌, ◌<◌, ◌≤◌, ◌++◌, length, slice_index, IsTrue, [], min};
 ghost use Rattle.std.specs.Option.{SomeIff};
 ghost use Rattle.dhcp_client.specs.Options as spec;
 
+use arrayvec::ArrayVec;
 use ip_address::{EthernetAddress, Ipv4Address};
 use ip_wire::emit::FrameBuffer;
 use ip_wire::octets::{u16_at, u32_at};
@@ -86,31 +87,51 @@ pub(crate) fn are_whole(octets: &[u8]) -> bool
     rest.is_empty() || rest[0] == END
 }
 
-/// The data of the last option of a code that has some. `before` if there is none.
-pub(crate) fn data_of<'a>(octets: &'a [u8], code: u8, before: &'a [u8]) -> &'a [u8]
-    ensures { result.now ≡ spec.later_or (spec.data_of code (spec.options_after 0 octets.now)) before.now }
+/// The data of all options of a code, one after another (RFC 3396); of more than 256 octets the first ones.
+pub type OptionData = ArrayVec<u8, 256>;
+
+/// Appends the data of the options of a code, as far as there is room.
+pub(crate) fn join(octets: &[u8], code: u8, found: &mut OptionData)
+    requires { length found.old.items ≤ 256 }
+    ensures items { found.new.items ≡ spec.in_room (found.old.items ++ spec.joined code (spec.options_after 0 octets.now)) }
+    ensures len { length found.new.items ≤ 256 }
 {
-    let mut found = before;
     let mut rest = octets;
     while let Some(len) = option_len(rest) {
-        found = data_if(&rest[..len], code, found);
+        join_if(&rest[..len], code, found);
         rest = &rest[len..];
     }
-    found
 }
 
-/// The data of an option, if it has this code, and some. Otherwise `before`.
+/// Appends the data of an option, if it has this code, as far as there is room.
 #[inline(always)]
-#[tactic(auto, using(crate::proofs::Reading::later))]
-fn data_if<'a>(option: &'a [u8], code: u8, before: &'a [u8]) -> &'a [u8]
-    requires { 1 ≤ length option.now }
-    ensures { result.now ≡ spec.later_or (spec.data_if code option.now) before.now }
+fn join_if(option: &[u8], code: u8, found: &mut OptionData)
+    requires option { 1 ≤ length option.now }
+    requires room { length found.old.items ≤ 256 }
+    ensures items { found.new.items ≡ spec.in_room (found.old.items ++ spec.data_if code option.now) }
+    ensures len { length found.new.items ≤ 256 }
 {
     if option[0] == code && option.len() > 2 {
-        &option[2..]
-    } else {
-        before
+        append_data(&option[2..], found);
     }
+}
+
+/// Appends octets, as far as there is room.
+fn append_data(octets: &[u8], found: &mut OptionData)
+    requires { length found.old.items ≤ 256 }
+    ensures items { found.new.items ≡ spec.in_room (found.old.items ++ octets.now) }
+    ensures len { length found.new.items ≤ 256 }
+{
+    let len = octets.len().min(found.remaining_capacity());
+    append_all(&octets[..len], found);
+}
+
+/// Appends octets, for which there is room.
+fn append_all(octets: &[u8], found: &mut OptionData)
+    requires { length found.old.items + length octets.now ≤ 256 }
+    ensures { found.new.items ≡ found.old.items ++ octets.now }
+{
+    let _ = found.try_extend_from_slice(octets);
 }
 
 /// The address that is all of the data.

@@ -12,8 +12,8 @@ use Rattle.dns_client.specs.declared.message.DnsType.{DnsType}
 use Rattle.dns_client.specs.Run as query
 use Rattle.dns_client.specs.declared.query.DnsQuery.{DnsQuery}
 use Rattle.dns_client.specs.DnsResolver.Places.{Named, Place, Queries}
-use Rattle.dns_client.specs.DnsResolver.Resolver.{at, free_in, is_free, is_whole, named_after_asking, named_after_receiving}
-use Rattle.dns_client.specs.DnsResolver.Laws.{Event, Start, Cancel, Receive, Ask, after, after_all, cancels, own_event, own_events, with_event, with_query}
+use Rattle.dns_client.specs.DnsResolver.Resolver.{at, free_in, is_free, is_whole, named_after_asking, named_after_failure, named_after_receiving}
+use Rattle.dns_client.specs.DnsResolver.Laws.{Event, Start, Cancel, Answer, Receive, Fail, Ask, after, after_all, cancels, own_event, own_events, with_event, with_query}
 use Rattle.dns_client.specs.DnsResolver.Laws.{EachGoesAlone}
 
 -- where a query is, its place is one of the list
@@ -75,9 +75,12 @@ step : (place : ℕ) (n : Named) (e : Event) (r : Queries) → at r place ≡ So
     at (after e r) place ≡ Some (changed r.servers (own_event place e) n)
 step place n (Start now name type) r h kept = started now name type r place n (is_whole name) h
 step place n (Cancel other) r h kept = get_or-set_other r.places other place None None (other_place other place kept) ∙ h
+step place n (Answer other result) r h kept = get_or-set_other r.places other place _ None (other_place other place kept) ∙ h
 step place n (Receive other from from_port to_port octets) r h kept =
     step_at r.servers (named_after_receiving r.servers from from_port to_port octets) (query.Receive from from_port to_port octets) (λ m. refl)
     r.places other place n (eqb other place) refl h
+step place n (Fail other server) r h kept =
+    step_at r.servers (named_after_failure r.servers server) (query.Fail server) (λ m. refl) r.places other place n (eqb other place) refl h
 step place n (Ask other now) r h kept =
     step_at r.servers (named_after_asking r.servers now) (query.Ask now) (λ m. refl) r.places other place n (eqb other place) refl h
 
@@ -92,7 +95,9 @@ same_servers (Start now name type) r = by (is_whole name) where
   by true = with_servers now name type (free_in r.places) r
   by false = refl
 same_servers (Cancel place) r = refl
+same_servers (Answer place result) r = refl
 same_servers (Receive place from from_port to_port octets) r = refl
+same_servers (Fail place server) r = refl
 same_servers (Ask place now) r = refl
 
 first_then : (name : List ℕ) (servers : List IpAddress) (o : Option query.Event) (es : List query.Event) (q : DnsQuery) →

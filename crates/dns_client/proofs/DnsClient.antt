@@ -4,3 +4,4 @@ pub mod Reading
 pub mod Spacing
 pub mod Standing
 pub mod Taking
+pub mod Telling

@@ -3,11 +3,13 @@ use Rattle.std.proofs.Common.{◌≡◌, ◌<◌, ◌≤◌, ◌+◌, ◌-◌, �
 use Rattle.sockets.specs.declared.endpoint.IpEndpoint.{IpEndpoint}
 use Rattle.dns_client.specs.DnsResolver.Places.{Queries}
 use Rattle.dns_client.specs.Details.Datagrams.{after_receiving}
+use Rattle.dns_client.specs.DnsResolver.Resolver.{after_failure}
+use Rattle.ip_address.specs.declared.ip.IpAddress.{IpAddress}
 use Rattle.iface_host.specs.declared.host.IfaceHost.{IfaceHost}
 use Rattle.iface_dns.specs.Dns as dns
 use Rattle.iface_dns.specs.Dns.{ClosesAt, ClosesFrom}
 use Rattle.iface_dns.specs.Hear as hear
-use Rattle.iface_dns.specs.Hear.{Hears, HearsAll, handed}
+use Rattle.iface_dns.specs.Hear.{Hears, HearsAll, failed, handed}
 use Rattle.iface_dns.specs.Poll as poll
 use Rattle.iface_dns.specs.Poll.{PollsAt, PollsFrom}
 use Rattle.iface_dns.specs.declared.dns.Dns.{Dns}
@@ -42,6 +44,18 @@ pub handed_all : (from : IpEndpoint) (port : ℕ) (octets : List ℕ) (count at 
 unfolding handed
 handed_all from port octets count at r le =
     subst (λ (k : ℕ). r ≡ handed from port octets k at r) (none_left count at le) refl
+
+pub failed_one : (server : IpAddress) (count at : ℕ) (r : Queries) → at < count →
+    failed server (count - (at + 1)) (at + 1) (after_failure at server r) ≡ failed server (count - at) at r
+unfolding failed
+failed_one server count at r lt =
+    let next : failed server (suc (count - (at + 1))) at r ≡ failed server (count - (at + 1)) (at + 1) (after_failure at server r) = refl in
+    subst (λ (k : ℕ). failed server (count - (at + 1)) (at + 1) (after_failure at server r) ≡ failed server k at r) (one_less count at lt)
+    (sym next)
+
+pub failed_all : (server : IpAddress) (count at : ℕ) (r : Queries) → count ≤ at → r ≡ failed server (count - at) at r
+unfolding failed
+failed_all server count at r le = subst (λ (k : ℕ). r ≡ failed server k at r) (none_left count at le) refl
 
 pub polled_one : (now count at : ℕ) (d between d' : Dns) (old mid new : IfaceHost) → at < count → PollsAt now at d between old mid →
     PollsFrom now (count - (at + 1)) (at + 1) between d' mid new → PollsFrom now (count - at) at d d' old new

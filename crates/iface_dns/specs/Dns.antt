@@ -1,6 +1,8 @@
 -- A client of DNS for a host: how it is made, and how its sockets go.
-use Rattle.std.specs.Prelude.{ℕ, zero, suc, ℤ, ◌≡◌, ◌+◌, pos, min, List, length, slice_set, slice_index_or, replicate, Option, Some, None}
+use Rattle.std.specs.Prelude.{ℕ, zero, suc, ℤ, ◌≡◌, ◌+◌, pos, min, List, length, slice_set, slice_index_or, replicate, Option, Some, None, if◌then◌else◌}
+use Rattle.std.specs.List.{list_all}
 use Rattle.std.specs.Option.{option_map}
+use Rattle.ip_address.specs.Ip.{is_unicast}
 use Rattle.ip_address.specs.declared.ip.IpAddress.{IpAddress}
 use Rattle.tcp_host.specs.declared.sip_hash.SipKey.{SipKey}
 use Rattle.dns_client.specs.DnsResolver.Places.{Queries}
@@ -10,6 +12,7 @@ use Rattle.iface_host.specs.Refusals.{close_refusal}
 use Rattle.iface_host.specs.Sockets as sockets
 use Rattle.iface_host.specs.declared.host.IfaceHost.{IfaceHost}
 use Rattle.iface_host.specs.declared.refusal.Refusal.{Refusal}
+use Rattle.iface_host.specs.declared.refusal.Refusal.TheVariants.{NotUnicast}
 use Rattle.iface_dns.specs.declared.dns.Dns.{Dns}
 
 -- at first there are no queries, and no sockets
@@ -20,7 +23,11 @@ abbrev pub with_resolver : Queries → Dns → Dns
 with_resolver r d = record d { resolver = r }
 
 abbrev pub with_servers : List IpAddress → Dns → Dns
-with_servers servers d = with_resolver (record d.resolver { servers = servers }) d
+with_servers servers d = with_resolver (resolver.with_servers servers d.resolver) d
+
+-- a server's address is unicast
+abbrev pub servers_refusal : List IpAddress → Option Refusal
+servers_refusal servers = if list_all is_unicast servers then None else Some NotUnicast
 
 -- the socket of a place, if it has one
 abbrev pub socket_at : Dns → ℕ → Option ℕ

@@ -3,6 +3,8 @@ use Rattle.std.specs.Prelude.{ℕ, zero, suc, ◌≡◌, ◌≢◌, ◌+◌, Lis
 use Rattle.sockets.specs.declared.endpoint.IpEndpoint.{IpEndpoint}
 use Rattle.dns_client.specs.DnsResolver.Places.{Queries}
 use Rattle.dns_client.specs.Details.Datagrams.{after_receiving, port_at}
+use Rattle.dns_client.specs.DnsResolver.Resolver.{after_failure}
+use Rattle.ip_address.specs.declared.ip.IpAddress.{IpAddress}
 use Rattle.iface_host.specs.Queues.{fills_at}
 use Rattle.iface_host.specs.Refusals.{udp_unreceived}
 use Rattle.iface_host.specs.Sockets.{ReceivesUdp}
@@ -57,3 +59,11 @@ HearsBy (Some n) (Some port) d d' old new = HearsSocket n port d d' old new
 
 abbrev pub HearsAt : ℕ → Dns → Dns → IfaceHost → IfaceHost → Type 0
 HearsAt place d = HearsBy (socket_at d place) (port_at d.resolver place) d
+
+-- queries of so many places from one on learn that a server can't be reached, one after another
+unfoldable pub failed : IpAddress → ℕ → ℕ → Queries → Queries
+failed server zero place r = r
+failed server (suc k) place r = failed server k (place + 1) (after_failure place server r)
+
+abbrev pub after_failing : IpAddress → Dns → Dns
+after_failing server d = with_resolver (failed server (length d.resolver.places) 0 d.resolver) d

@@ -3,3 +3,4 @@ pub mod Hear
 pub mod Ask
 pub mod Poll
 pub mod Start
+pub mod Texts

@@ -15,6 +15,7 @@ use Rattle.iface_host.specs.declared.opening.Rooms.{Rooms}
 use Rattle.iface_host.specs.declared.refusal.Refusal.{Refusal}
 use Rattle.iface_host.specs.declared.refusal.Refusal.TheVariants.{TableFull}
 use Rattle.iface_dns.specs.Dns.{with_resolver, with_socket}
+use Rattle.iface_dns.specs.Texts.{AnswersText}
 use Rattle.iface_dns.specs.declared.dns.Dns.{Dns}
 use Rattle.iface_dns.specs.declared.start.StartRefusal as refusal
 use Rattle.iface_dns.specs.declared.start.StartRefusal.TheVariants.{Refused, BadName, NoServer}
@@ -67,7 +68,7 @@ pub record Reads (now : ℤ) (text : List ℕ) (d : Dns) (micros : ℕ) (name : 
   pub place : is_some (free_in d.resolver.places) ≡ true
 
 -- a query is started in the first free place, and has a socket at its port
-pub record Starts (now : ℤ) (text : List ℕ) (type : DnsType) (place : ℕ) (d d' : Dns) (old new : IfaceHost) : Type 0 where
+pub record StartsAsking (now : ℤ) (text : List ℕ) (type : DnsType) (place : ℕ) (d d' : Dns) (old new : IfaceHost) : Type 0 where
   pub micros : ℕ
   pub name : List ℕ
   pub number : ℕ
@@ -77,3 +78,9 @@ pub record Starts (now : ℤ) (text : List ℕ) (type : DnsType) (place : ℕ) (
   pub opens : OpensNext d number old new
   pub starts : resolver.Starts micros name type place d.resolver queries
   pub after : d' ≡ with_socket place (Some number) (with_resolver queries d)
+
+-- and where its name is an address in text it has that at once
+pub record Starts (now : ℤ) (text : List ℕ) (type : DnsType) (place : ℕ) (d d' : Dns) (old new : IfaceHost) : Type 0 where
+  pub asking : Dns
+  pub starts : StartsAsking now text type place d asking old new
+  pub answers : AnswersText text type place asking d'

@@ -1,7 +1,10 @@
 //! The client, and how it is made.
-ghost use Rattle.std.specs.Prelude.{◌≡◌, IfOk, IfErr, OnOk, OnErr, is_ok, is_some, length};
+ghost use Rattle.std.specs.Prelude.{◌≡◌, IfOk, IfErr, OnOk, OnErr, is_ok, is_some, length, Some, None};
+ghost use Rattle.std.specs.List.{list_all};
+ghost use Rattle.std.specs.Result.{IsErrOf};
 ghost use Rattle.dns_client.specs.DnsResolver.Resolver as resolver;
 ghost use Rattle.iface_dns.specs.Dns as spec;
+ghost use Rattle.ip_address.specs.Ip.{is_unicast};
 ghost use Rattle.iface_host.specs.declared.refusal.Refusal.{Refusal};
 
 use crate::open_sockets::OpenSockets;
@@ -23,7 +26,7 @@ pub struct Dns {
 
 impl Dns {
     /// A client without queries, for so many at once, that asks these servers. The key is to be secret and random, as
-    /// [`Resolver::new`] says. It fails with `NoMemory` exactly if memory is refused.
+    /// [`Resolver::new`] says. `NotUnicast` if a server's address isn't unicast, else `NoMemory` if memory is refused.
     pub fn new(
         alloc: Global,
         servers: &[IpAddress],
@@ -31,8 +34,12 @@ impl Dns {
         key: SipKey,
     ) -> Result<Box<Dns>, Refusal>
         ensures made { IfOk result (λ dns. dns.value ≡ spec.new_dns servers.now queries key) }
-        ensures memory { IfErr result (λ e. e ≡ Refusal.NoMemory) }
+        ensures why { (e : Refusal) → spec.servers_refusal servers.now ≡ Some e → IsErrOf result e }
+        ensures memory { spec.servers_refusal servers.now ≡ None → IfErr result (λ e. e ≡ Refusal.NoMemory) }
     {
+        if !are_unicast(servers) {
+            return Err(Refusal::NotUnicast);
+        }
         let dns = Dns {
             resolver: Resolver::new(alloc, servers, queries, key)?,
             sockets: OpenSockets::new(alloc, queries)?,
@@ -43,13 +50,17 @@ impl Dns {
         }
     }
 
-    /// Sets the servers, as [`Resolver::set_servers`] does. It fails with `NoMemory` exactly if memory is refused; then nothing
-    /// changes.
+    /// Sets the servers, as [`Resolver::set_servers`] does. `NotUnicast` if a server's address isn't unicast, else `NoMemory` if
+    /// memory is refused; then nothing changes.
     pub fn set_servers(&mut self, alloc: Global, servers: &[IpAddress]) -> Result<(), Refusal>
         ensures set { OnOk result (self.new ≡ spec.with_servers servers.now self.old) }
-        ensures memory { IfErr result (λ e. e ≡ Refusal.NoMemory) }
+        ensures why { (e : Refusal) → spec.servers_refusal servers.now ≡ Some e → IsErrOf result e }
+        ensures memory { spec.servers_refusal servers.now ≡ None → IfErr result (λ e. e ≡ Refusal.NoMemory) }
         ensures refused { OnErr result (self.new ≡ self.old) }
     {
+        if !are_unicast(servers) {
+            return Err(Refusal::NotUnicast);
+        }
         Ok(self.resolver.set_servers(alloc, servers)?)
     }
 
@@ -105,6 +116,13 @@ impl Dns {
             self.sockets.set(place, None);
         }
     }
+}
+
+/// Whether the address of each of these servers is unicast.
+fn are_unicast(servers: &[IpAddress]) -> bool
+    ensures { result ≡ list_all is_unicast servers.now }
+{
+    servers.iter().all(|server| server.is_unicast())
 }
 
 /// Closes a socket of a host, if it is open.

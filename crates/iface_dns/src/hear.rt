@@ -7,6 +7,7 @@ use crate::dns::Dns;
 use dns_client::dns_resolver::{QueryHandle, Resolver};
 use dns_client::port_of;
 use iface_host::IfaceHost;
+use ip_wire::IpAddress;
 use sockets::IpEndpoint;
 
 /// The most octets that wait at a query's socket: as many as two messages of the greatest length have (RFC 1035 4.2.1).
@@ -25,6 +26,24 @@ impl Dns {
         };
         let count = waiting_at(host, number);
         hear_all(&mut self.resolver, host, number, port, count);
+    }
+
+    /// Tells the queries that a server can't be reached, as its port is closed, or its neighbour absent: each that waits for an
+    /// answer of it asks the next one at the next poll, as where it refuses.
+    pub fn server_failed(&mut self, server: IpAddress)
+        ensures { self.new ≡ spec.after_failing server self.old }
+    {
+        tell_each(&mut self.resolver, server);
+    }
+}
+
+/// Tells each query that a server can't be reached, one after another.
+fn tell_each(resolver: &mut Resolver, server: IpAddress)
+    ensures { resolver.new ≡ spec.failed server (length resolver.old.places) 0 resolver.old }
+{
+    let places = resolver.places();
+    for place in 0..places {
+        resolver.server_failed(QueryHandle { place }, server);
     }
 }
 

@@ -1,4 +1,4 @@
-use crate::dhcp::servers::{HARDWARE, SECOND, SERVER, nak, offer};
+use crate::dhcp::servers::{ADDRESS, HARDWARE, SECOND, SERVER, nak, offer};
 use dhcp_client::{DhcpClient, DhcpMessage, DhcpMessageType};
 
 /// Whether a message is of this type.
@@ -51,8 +51,8 @@ fn nobody_answers(rt: HostRuntime) {
     assert!(rt; is_right && asks_late(&mut DhcpClient::new(HARDWARE, None)));
 }
 
-/// The seconds at which a request is sent again.
-const REQUESTS: [u32; 5] = [0, 4, 12, 28, 60];
+/// The seconds at which a request is sent: after 4, 8 and 16 of them again (RFC 2131 4.1).
+const REQUESTS: [u32; 4] = [0, 4, 12, 28];
 
 fn requests_at_all(client: &mut DhcpClient) -> bool {
     for time in &REQUESTS {
@@ -73,19 +73,30 @@ fn discovered(message: Option<DhcpMessage>) -> Option<u32> {
     }
 }
 
-/// A server that falls silent after its offer: the request is sent five times, and then the client begins anew.
+/// RFC 2131 3.1 (5): the request is sent four times, and a minute after the first one the client begins anew.
 fn begins_anew(client: &mut DhcpClient) -> bool {
+    requests_at_all(client)
+        && client.poll_at() == Some(60 * SECOND)
+        && client.next_message(60 * SECOND - 1, 77).is_none()
+        && discovered(client.next_message(60 * SECOND, 77)) == Some(77)
+}
+
+/// A server that falls silent after its offer.
+fn is_given_up(client: &mut DhcpClient) -> bool {
     let message = client.next_message(0, 1_000_000);
     client.receive(&offer(1_000_000, SERVER));
-    is_of(message, DhcpMessageType::Discover)
-        && requests_at_all(client)
-        && client.poll_at() == Some(124 * SECOND)
-        && discovered(client.next_message(124 * SECOND, 77)) == Some(77)
+    is_of(message, DhcpMessageType::Discover) && begins_anew(client)
 }
 
 #[test]
 fn the_request_is_lost(rt: HostRuntime) {
-    assert!(rt; begins_anew(&mut DhcpClient::new(HARDWARE, None)));
+    assert!(rt; is_given_up(&mut DhcpClient::new(HARDWARE, None)));
+}
+
+/// RFC 2131 3.2 (3): nobody confirms the address that a client knows.
+#[test]
+fn nobody_confirms(rt: HostRuntime) {
+    assert!(rt; begins_anew(&mut DhcpClient::new(HARDWARE, Some(ADDRESS))));
 }
 
 /// Refuses what a client sends at an instant, and returns how many messages that were.

@@ -73,7 +73,7 @@ fn refused() -> DhcpOptions {
 
 /// Whether a server's message is parsed as these values.
 fn is_parsed(octets: &FrameBuffer, values: &DhcpRepr) -> bool {
-    DhcpRepr::parse(octets.as_slice()) == Some((*values, [].as_slice()))
+    DhcpRepr::parse(octets.as_slice()) == Some(*values)
 }
 
 fn is_offer_parsed() -> bool {
@@ -102,6 +102,12 @@ fn servers_messages_are_parsed(rt: HostRuntime) {
     assert!(rt; is_offer_parsed() && is_ack_parsed() && is_nak_parsed());
 }
 
+/// Whether a message asks for the client's parameters.
+fn is_asking(out: &FrameBuffer) -> bool {
+    let message = out.as_slice();
+    message.len() >= 240 && DhcpRepr::parameters_in(message).as_slice() == PARAMETERS.as_slice()
+}
+
 /// Whether a client's message is emitted so, and parsed again.
 fn is_emitted(
     octets: &FrameBuffer,
@@ -113,7 +119,8 @@ fn is_emitted(
     let mut out = FrameBuffer::new();
     values.emit(&PARAMETERS, &mut out);
     out.as_slice() == octets.as_slice()
-        && DhcpRepr::parse(out.as_slice()) == Some((values, PARAMETERS.as_slice()))
+        && DhcpRepr::parse(out.as_slice()) == Some(values)
+        && is_asking(&out)
 }
 
 fn is_discover_emitted() -> bool {

@@ -131,7 +131,7 @@ fn is_overloaded(case: &Overload) -> bool {
 
 /// The lease that a message offers.
 fn lease_of(message: &FrameBuffer) -> Option<u32> {
-    let (repr, _) = DhcpRepr::parse(message.as_slice())?;
+    let repr = DhcpRepr::parse(message.as_slice())?;
     repr.options.lease_duration
 }
 

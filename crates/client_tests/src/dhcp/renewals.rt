@@ -148,18 +148,32 @@ fn is_endless(client: &mut DhcpClient) -> bool {
         && client.poll_at() == Some(3 * SECOND)
 }
 
-/// RFC 2132 9.11: T1 and T2 as the server says, if they are in order: what it says, and what counts.
-type Durations = (u32, u32, u128, u128);
+/// RFC 2131 4.4.5, RFC 2132 9.11 and 9.12, for a lease of 100 seconds: T1 and T2 as the server says them, and as they count.
+type Durations = (Option<u32>, Option<u32>, u128, u128);
 
-const DURATIONS: [Durations; 3] = [(40, 60, 40, 60), (60, 40, 50, 87), (40, 100, 50, 87)];
+const DURATIONS: [Durations; 10] = [
+    (None, None, 50, 87),
+    (Some(40), Some(60), 40, 60),
+    // each alone
+    (Some(40), None, 40, 87),
+    (None, Some(60), 50, 60),
+    // T1 behind T2, T2 behind the end, T1 behind the T2 that counts, and a T1 of no time
+    (Some(70), Some(60), 50, 60),
+    (Some(40), Some(100), 40, 87),
+    (Some(90), None, 50, 87),
+    (Some(0), Some(60), 50, 60),
+    // a T2 that leaves no T1 before it
+    (Some(60), Some(40), 50, 87),
+    (None, Some(50), 50, 87),
+];
 
 fn count(case: &Durations) -> bool {
     let (renew, rebind, renew_at, rebind_at) = case;
     let mut client = DhcpClient::new(HARDWARE, Some(ADDRESS));
     let _ = client.next_message(0, 7);
     let mut agreement = ack(7, SERVER, 100);
-    agreement.options.renew_duration = Some(*renew);
-    agreement.options.rebind_duration = Some(*rebind);
+    agreement.options.renew_duration = *renew;
+    agreement.options.rebind_duration = *rebind;
     client.receive(&agreement);
     is_leased(client.lease(), SERVER, [*renew_at, *rebind_at, 100])
 }

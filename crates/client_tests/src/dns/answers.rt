@@ -12,7 +12,7 @@ const WWW: &[u8] = b"\x03www\x07example\x03com\x00";
 
 /// A query with a number, from port 49153, that the first server was asked.
 fn asked(query_type: DnsType, number: u16) -> DnsQuery {
-    let mut query = DnsQuery::new(0, query_type, 0x1_0000 + u32::from(number));
+    let mut query = DnsQuery::new(0, query_type, 0x1_0000 + u32::from(number), 0);
     query.next_server(0, 2);
     query
 }
@@ -96,20 +96,112 @@ fn addresses(rt: HostRuntime) {
     assert_each(&rt, &ANSWERS, is_found);
 }
 
-/// A place in the answer, another octet there, and why there are no addresses: RCODE 2 and 5, TC, and the address of
-/// example.com alone.
-type Failure = (usize, u8, DnsFailure);
+/// The address of example.com alone.
+fn has_no_address() -> bool {
+    let octets = changed(&A_ANSWER, 34, 16);
+    result(WWW, DnsType::A, 0x1234, &octets) == DnsResult::Failed(DnsFailure::NoAddress)
+}
 
-const FAILURES: [Failure; 4] = [
-    (3, 0x82, DnsFailure::ServerFailure),
-    (3, 0x85, DnsFailure::ServerFailure),
-    (2, 0x87, DnsFailure::Truncated),
-    (34, 16, DnsFailure::NoAddress),
+/// How many octets of an answer that was cut (TC) are there, another octet in its record's name, and what becomes of the query:
+/// it has the address, there is none, and the record isn't whole.
+type Cut = (usize, u8, DnsResult);
+
+const CUTS: [Cut; 3] = [
+    (
+        49,
+        12,
+        DnsResult::TruncatedAddresses([SEVENTH, None, None, None]),
+    ),
+    (49, 16, DnsResult::Failed(DnsFailure::Truncated)),
+    (48, 12, DnsResult::Failed(DnsFailure::Truncated)),
 ];
 
-fn has_failed(case: &Failure) -> bool {
-    let octets = changed(&A_ANSWER, case.0, case.1);
-    result(WWW, DnsType::A, 0x1234, &octets) == DnsResult::Failed(case.2)
+fn is_cut(case: &Cut) -> bool {
+    let (len, name, end) = case;
+    let octets = changed(&changed(&A_ANSWER, 2, 0x87), 34, *name);
+    match octets.get(..*len) {
+        Some(octets) => result(WWW, DnsType::A, 0x1234, octets) == *end,
+        None => false,
+    }
+}
+
+#[test]
+fn answers_that_were_cut(rt: HostRuntime) {
+    assert_each(&rt, &CUTS, is_cut);
+}
+
+/// FORMERR without a question.
+const NO_QUESTION: [u8; 12] = [0x12, 0x34, 0x81, 0x81, 0, 0, 0, 0, 0, 0, 0, 0];
+
+/// What a server says of a query.
+fn says(query: &mut DnsQuery, server: usize, octets: &[u8]) {
+    if let Some(server) = SERVERS.get(server) {
+        query.receive(WWW, &SERVERS, *server, 53, 49_153, octets);
+    }
+}
+
+/// RFC 1034 5.3.3: a server that refuses isn't waited for, and the query fails with the last one.
+fn moves_on(octets: &[u8]) -> bool {
+    let mut query = asked(DnsType::A, 0x1234);
+    says(&mut query, 0, octets);
+    let waits = query.result == DnsResult::Pending && query.poll_at(2) == Some(0);
+    let next = query.next_server(1, 2);
+    says(&mut query, 1, octets);
+    waits && next == Some(1) && query.result == DnsResult::Failed(DnsFailure::ServerFailure)
+}
+
+/// RCODE 1, 2, 4 and 5: FORMERR, SERVFAIL, NOTIMP and REFUSED.
+const REFUSALS: [u8; 4] = [0x81, 0x82, 0x84, 0x85];
+
+fn moves_on_by(code: &u8) -> bool {
+    moves_on(&changed(&A_ANSWER, 3, *code))
+}
+
+#[test]
+fn refusals(rt: HostRuntime) {
+    assert!(&rt; moves_on(&NO_QUESTION));
+    assert_each(&rt, &REFUSALS, moves_on_by);
+}
+
+/// The second server refuses, and the first one was silent: that is asked again two seconds after the second was.
+fn goes_round(query: &mut DnsQuery) -> bool {
+    let second = query.next_server(2_000_000, 2);
+    says(query, 1, &NO_QUESTION);
+    second == Some(1)
+        && query.result == DnsResult::Pending
+        && query.poll_at(2) == Some(4_000_000)
+        && query.next_server(3_999_999, 2).is_none()
+        && query.next_server(4_000_000, 2) == Some(0)
+}
+
+/// A server that can't be reached isn't waited for; what another one is counts for nothing.
+fn is_unreached() -> bool {
+    let before = asked(DnsType::A, 0x1234);
+    let mut query = before;
+    query.server_failed(&SERVERS, SERVERS[1]);
+    let is_same = query == before;
+    query.server_failed(&SERVERS, SERVERS[0]);
+    is_same && query.result == DnsResult::Pending && query.next_server(1, 2) == Some(1)
+}
+
+#[test]
+fn a_server_out_of_reach(rt: HostRuntime) {
+    assert!(rt; is_unreached());
+}
+
+/// A refusal of a server that wasn't asked, of another number, and no error without a question.
+fn is_no_refusal() -> bool {
+    let before = asked(DnsType::A, 0x1234);
+    let mut query = before;
+    says(&mut query, 1, &NO_QUESTION);
+    says(&mut query, 0, &changed(&NO_QUESTION, 1, 0x35));
+    says(&mut query, 0, &changed(&NO_QUESTION, 3, 0x80));
+    query == before
+}
+
+#[test]
+fn refusals_of_some(rt: HostRuntime) {
+    assert!(rt; is_no_refusal() && goes_round(&mut asked(DnsType::A, 0x1234)));
 }
 
 fn is_no_name() -> bool {
@@ -119,8 +211,7 @@ fn is_no_name() -> bool {
 
 #[test]
 fn failures(rt: HostRuntime) {
-    assert!(&rt; is_no_name());
-    assert_each(&rt, &FAILURES, has_failed);
+    assert!(rt; is_no_name() && has_no_address());
 }
 
 /// A query's name, the number of a server, the ports from which and to which its answer goes, and how many octets of that
@@ -185,7 +276,7 @@ fn result_of(query: &mut DnsQuery, server: IpAddress) -> DnsResult {
 fn are_of_the_last_server() -> bool {
     let mut query = asked(DnsType::A, 0x1234);
     query.next_server(10_000_000, 2);
-    let mut silent = DnsQuery::new(0, DnsType::A, 0x1_1234);
+    let mut silent = DnsQuery::new(0, DnsType::A, 0x1_1234, 0);
     let found = DnsResult::Addresses([SEVENTH, None, None, None]);
     result_of(&mut query, SERVERS[0]) == DnsResult::Pending
         && result_of(&mut query, SERVERS[1]) == found

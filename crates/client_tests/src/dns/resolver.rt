@@ -87,7 +87,7 @@ fn are_answered(
     hears(resolver, none.0, none.1, failure)
         && has_come_to(resolver, none.0, DnsResult::Failed(DnsFailure::NoSuchName))
         && has_come_to(resolver, www.0, DnsResult::Pending)
-        && resolver.poll_at() == Some(1_000_000)
+        && resolver.poll_at() == Some(2_000_000)
         && hears(resolver, www.0, www.1, answer)
         && has_come_to(resolver, www.0, FOUND)
         && resolver.poll_at().is_none()
@@ -168,4 +168,66 @@ fn copy_number(query: &FrameBuffer, answer: &mut [u8]) {
         answer[0] = query.as_slice()[0];
         answer[1] = query.as_slice()[1];
     }
+}
+
+const TWO_SERVERS: [IpAddress; 2] = [
+    IpAddress::Ipv4(Ipv4Address { bits: 0x0a00_0001 }),
+    IpAddress::Ipv4(Ipv4Address { bits: 0x0a00_0002 }),
+];
+
+/// The server that a query asks then.
+fn asks(
+    resolver: &mut Resolver,
+    handle: QueryHandle,
+    now: u64,
+    out: &mut FrameBuffer,
+) -> Option<IpAddress> {
+    match resolver.next_message(handle, now, out) {
+        Ok(Some(message)) => Some(message.server),
+        _ => None,
+    }
+}
+
+/// The first server is dead: the second one answers, two seconds later.
+fn is_answered_late(resolver: &mut Resolver, out: &mut FrameBuffer) -> bool {
+    let handle = start(resolver, WWW);
+    let first = asks(resolver, handle, 0, out);
+    let second = asks(resolver, handle, 2_000_000, out);
+    let mut answer = A_ANSWER;
+    copy_number(out, &mut answer);
+    let port = port_at(resolver, handle);
+    let is_there = resolver
+        .receive(handle, TWO_SERVERS[1], 53, port, &answer)
+        .is_ok();
+    first == Some(TWO_SERVERS[0])
+        && second == Some(TWO_SERVERS[1])
+        && is_there
+        && has_come_to(resolver, handle, FOUND)
+}
+
+/// The port of a query.
+fn port_at(resolver: &Resolver, handle: QueryHandle) -> u16 {
+    match resolver.query(handle) {
+        Some(named) => named.query().source_port,
+        None => 0,
+    }
+}
+
+/// Whether the next query asks this server first.
+fn asks_first(resolver: &mut Resolver, server: IpAddress, out: &mut FrameBuffer) -> bool {
+    let handle = start(resolver, WWW);
+    let first = asks(resolver, handle, 3_000_000, out);
+    resolver.cancel(handle) == Ok(()) && first == Some(server)
+}
+
+#[test]
+fn who_answered_last(rt: HostRuntime) {
+    let alloc = rt.alloc();
+    let mut resolver = Resolver::new(alloc, &TWO_SERVERS, 2, KEY).expect(&rt, "memory");
+    let mut out = FrameBuffer::new();
+    let is_second = is_answered_late(&mut resolver, &mut out)
+        && asks_first(&mut resolver, TWO_SERVERS[1], &mut out);
+    let is_set = resolver.set_servers(alloc, &TWO_SERVERS).is_ok();
+    let is_first = asks_first(&mut resolver, TWO_SERVERS[0], &mut out);
+    assert!(rt; is_second && is_set && is_first);
 }

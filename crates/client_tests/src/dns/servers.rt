@@ -19,36 +19,54 @@ const FIRST: Option<usize> = Some(0);
 const SECOND_ONE: Option<usize> = Some(1);
 
 /// The servers that are asked in the first ten seconds, and in the ten after them.
-const OF_THE_FIRST: [Option<usize>; 9] = [
-    FIRST, None, FIRST, None, FIRST, None, FIRST, None, SECOND_ONE,
+const AT_FIRST: [Option<usize>; 9] = [
+    FIRST, None, SECOND_ONE, None, FIRST, None, SECOND_ONE, None, FIRST,
 ];
 
-const OF_THE_SECOND: [Option<usize>; 9] = [
-    None, SECOND_ONE, None, SECOND_ONE, None, SECOND_ONE, None, None, None,
-];
+const LATER: [Option<usize>; 9] = [None, None, SECOND_ONE, None, None, None, None, None, None];
 
-/// RFC 1035 4.2.1, 7.2: each server is asked after 0, 1, 3 and 7 seconds; after ten of them it is the next one's turn.
+/// RFC 1035 4.2.1: one server is tried behind the other, after two seconds, and again after three, and after five.
 fn are_asked_in_turn(query: &mut DnsQuery) -> bool {
-    query.poll_at() == Some(0)
-        && asked(query, &[0, 9, 10, 29, 30, 69, 70, 99, 100]) == OF_THE_FIRST
-        && query.poll_at() == Some(11 * SECOND)
-        && asked(query, &[109, 110, 129, 130, 169, 170, 171, 199, 200]) == OF_THE_SECOND
-        && query.poll_at().is_none()
+    query.poll_at(2) == Some(0)
+        && asked(query, &[0, 19, 20, 39, 40, 69, 70, 99, 100]) == AT_FIRST
+        && query.poll_at(2) == Some(15 * SECOND)
+        && asked(query, &[101, 149, 150, 151, 170, 180, 199, 200, 201]) == LATER
+        && query.poll_at(2).is_none()
         && query.result == DnsResult::Failed(DnsFailure::TimedOut)
 }
 
 #[test]
 fn lost_answers(rt: HostRuntime) {
-    assert!(rt; are_asked_in_turn(&mut DnsQuery::new(0, DnsType::A, 0x1_1234)));
+    assert!(rt; are_asked_in_turn(&mut DnsQuery::new(0, DnsType::A, 0x1_1234, 0)));
 }
 
-/// The servers that are asked by an owner that comes late, who gets no two queries within a second.
+/// The servers that are asked by an owner that comes late: each has its time from then on.
 const LATE: [Option<usize>; 9] = [
-    FIRST, None, None, None, None, SECOND_ONE, None, SECOND_ONE, None,
+    FIRST, None, None, SECOND_ONE, None, FIRST, None, SECOND_ONE, None,
 ];
 
 fn are_asked_late(query: &mut DnsQuery) -> bool {
-    asked(query, &[98, 99, 100, 104, 107, 108, 117, 118, 119]) == LATE
+    asked(query, &[98, 99, 117, 118, 137, 138, 167, 168, 169]) == LATE
+}
+
+/// The servers that are asked if the second one is to be asked first, and if one is that isn't there.
+const FROM_THE_SECOND: [Option<usize>; 9] = [
+    SECOND_ONE, FIRST, SECOND_ONE, FIRST, None, None, None, None, None,
+];
+
+const FROM_THE_FIRST: [Option<usize>; 9] = [
+    FIRST, SECOND_ONE, FIRST, SECOND_ONE, None, None, None, None, None,
+];
+
+/// Whether a query that is to ask this server first asks these.
+fn begins_with(first: usize, servers: &[Option<usize>; 9]) -> bool {
+    let mut query = DnsQuery::new(0, DnsType::A, 0x1_1234, first);
+    asked(&mut query, &[0, 20, 40, 70, 71, 72, 73, 74, 75]) == *servers
+}
+
+#[test]
+fn another_first(rt: HostRuntime) {
+    assert!(rt; begins_with(1, &FROM_THE_SECOND) && begins_with(2, &FROM_THE_FIRST));
 }
 
 /// Without a server a query fails at once.
@@ -58,15 +76,15 @@ fn fails_alone(query: &mut DnsQuery) -> bool {
 
 #[test]
 fn a_late_owner(rt: HostRuntime) {
-    let is_late = are_asked_late(&mut DnsQuery::new(0, DnsType::A, 0x1_1234));
-    assert!(rt; is_late && fails_alone(&mut DnsQuery::new(5, DnsType::A, 0x1_1234)));
+    let is_late = are_asked_late(&mut DnsQuery::new(0, DnsType::A, 0x1_1234, 0));
+    assert!(rt; is_late && fails_alone(&mut DnsQuery::new(5, DnsType::A, 0x1_1234, 0)));
 }
 
 /// A random number, and the number and the port that a query makes of it.
 const NUMBERS: [(u32, u16, u16); 2] = [(0x1_1234, 0x1234, 49_153), (0xffff_ffff, 0xffff, 65_535)];
 
 fn is_numbered(case: &(u32, u16, u16)) -> bool {
-    let query = DnsQuery::new(0, DnsType::A, case.0);
+    let query = DnsQuery::new(0, DnsType::A, case.0, 0);
     query.transaction_id == case.1 && query.source_port == case.2
 }
 

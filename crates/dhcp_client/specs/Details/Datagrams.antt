@@ -13,7 +13,7 @@ IsServers port payload = (port ≡ 67) × IsDhcp payload
 
 -- a server's message is received, and anything else changes nothing
 pub record ReceivesDatagram (port : ℕ) (payload : List ℕ) (c c' : DhcpClient) : Type 0 where
-  pub received : IsServers port payload → c' ≡ after_receiving (dhcp_in payload).0 c
+  pub received : IsServers port payload → c' ≡ after_receiving (dhcp_in payload) c
   pub ignored : (IsServers port payload → ⊥) → c' ≡ c
 
 abbrev pub Receives : Option (IpEndpoint × List ℕ) → DhcpClient → DhcpClient → Type 0

@@ -1,7 +1,6 @@
 -- DHCP messages (RFC 2131 2), with an Ethernet address as the client's.
-use Rattle.std.specs.Prelude.{◌≡◌, ℕ, ◌+◌, ◌<◌, ◌≤◌, ◌^◌, ◌==◌, ◌&&◌, ◌||◌, Bool, true, false, not, nat_le}
+use Rattle.std.specs.Prelude.{◌≡◌, ℕ, ◌<◌, ◌≤◌, ◌^◌, ◌==◌, ◌&&◌, ◌||◌, Bool, not, nat_le}
 use Rattle.std.specs.Prelude.{IsTrue, List, [], ◌∷◌, ◌++◌, length, drop, replicate, slice_index, slice_range, if◌then◌else◌}
-use Rattle.std.specs.Borrow.{Bor}
 use Rattle.std.specs.Int.{w16, w32, to_be_bytes}
 use Rattle.ip_wire.specs.Octets.{u16_at, u32_at}
 use Rattle.ip_address.specs.declared.ipv4.Ipv4Address.{Ipv4Address}
@@ -9,7 +8,7 @@ use Rattle.dhcp_client.specs.declared.message.DhcpMessageType.{DhcpMessageType}
 use Rattle.dhcp_client.specs.declared.message.DhcpMessageType.TheVariants.{Discover, Offer, Request, Decline, Ack, Nak, Release, Inform}
 use Rattle.dhcp_client.specs.declared.message.DhcpRepr.{DhcpRepr}
 use Rattle.dhcp_client.specs.declared.options.DhcpOptions.{DhcpOptions}
-use Rattle.dhcp_client.specs.Options.{options_after, are_whole, data_of, later_or, octet_in, address_in, seconds_in, size_in, identifier_in}
+use Rattle.dhcp_client.specs.Options.{options_after, are_whole, joined, in_room, octet_in, address_in, seconds_in, size_in, identifier_in}
 use Rattle.dhcp_client.specs.Options.{hardware_address_at, listed_at, list_in, option_text, address_data, seconds_data, size_data}
 use Rattle.dhcp_client.specs.Options.{identifier_data, list_data, AreOptions}
 
@@ -53,7 +52,7 @@ name_field message = slice_range message 44 108
 
 -- option 52 says which of the latter two have some: 1, 2, or 3 for both (RFC 2132 9.3)
 abbrev pub overload_in : List ℕ → ℕ
-overload_in message = octet_in (data_of 52 (options_after 0 (options_field message)))
+overload_in message = octet_in (in_room (joined 52 (options_after 0 (options_field message))))
 
 abbrev pub is_in_file : ℕ → Bool
 is_in_file overload = (overload == 1) || (overload == 3)
@@ -68,17 +67,19 @@ has_whole_options message =
     && (not (is_in_file (overload_in message)) || are_whole 0 (file_field message))
     && (not (is_in_name (overload_in message)) || are_whole 0 (name_field message))
 
--- the data of the last option of a code in a field that may have options, or those from before it
-abbrev pub data_or : Bool → ℕ → List ℕ → List ℕ → List ℕ
-data_or has_options code field before =
-    if has_options then later_or (data_of code (options_after 0 field)) before else before
+-- the data of a code in a field that may have options
+abbrev pub joined_if : Bool → ℕ → List ℕ → List ℕ
+joined_if has_options code field = if has_options then joined code (options_after 0 field) else []
 
--- the data of a message's last option of a code, in the order of RFC 2131 4.1: options, file, sname
+-- the data of a code in a message, in the order of RFC 2131 4.1 and RFC 3396 5: options, file, sname
+abbrev pub joined_in : ℕ → List ℕ → List ℕ
+joined_in code message =
+    joined code (options_after 0 (options_field message))
+    ++ joined_if (is_in_file (overload_in message)) code (file_field message)
+    ++ joined_if (is_in_name (overload_in message)) code (name_field message)
+
 abbrev pub data_in : ℕ → List ℕ → List ℕ
-data_in code message =
-    data_or (is_in_name (overload_in message)) code (name_field message)
-    (data_or (is_in_file (overload_in message)) code (file_field message)
-    (data_of code (options_after 0 (options_field message))))
+data_in code message = in_room (joined_in code message)
 
 -- the number of the message's type (RFC 2132 9.6)
 abbrev pub type_number : List ℕ → ℕ
@@ -123,13 +124,8 @@ values_in message type = record {
   options = options_in message;
 }
 
--- the values of a message, and the list of parameters that it asks for (RFC 2132 9.8)
-abbrev pub dhcp_in : List ℕ → DhcpRepr × List ℕ
-dhcp_in message = (values_in message (type_of (type_number message)), data_in 55 message)
-
--- values and a list, apart from where that is in memory
-abbrev pub parts : DhcpRepr × Bor (List ℕ) → DhcpRepr × List ℕ
-parts p = (p.0, p.1.now)
+abbrev pub dhcp_in : List ℕ → DhcpRepr
+dhcp_in message = values_in message (type_of (type_number message))
 
 -- Writing.
 
@@ -178,7 +174,7 @@ pub record IsMessage (r : DhcpRepr) : Type 0 where
   pub hardware_address : length r.client_hardware_address.0 ≡ 6
   pub options : AreOptions r.options
 
--- a text is parsed back as its values, and its list of parameters
+-- a text is parsed back as its values, and its list of parameters (RFC 2132 9.8)
 abbrev pub ReadAgain : Type 0
 ReadAgain = (r : DhcpRepr) (parameters : List ℕ) → IsMessage r
-    → IsDhcp (text r parameters) × (dhcp_in (text r parameters) ≡ (r, parameters))
+    → IsDhcp (text r parameters) × (dhcp_in (text r parameters) ≡ r) × (joined_in 55 (text r parameters) ≡ parameters)

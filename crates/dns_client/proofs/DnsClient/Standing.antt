@@ -1,6 +1,6 @@
 -- Addresses of a result stand in the message.
-use Rattle.std.proofs.Common.{◌≡◌, ℕ, zero, suc, ◌+◌, Bool, true, false, refl, sym, ap, subst, ◌∙◌, List, [], ◌∷◌, inl, inr, get_or, set}
-use Rattle.std.specs.Prelude.{◌⊎◌, not, Option, Some, None, nat_lt, ◌==◌, ◌&&◌, if◌then◌else◌}
+use Rattle.std.proofs.Common.{◌≡◌, ℕ, zero, suc, ◌+◌, Bool, true, false, refl, sym, ap, subst, ◌∙◌, List, [], ◌∷◌, inl, inr, get_or, set, length}
+use Rattle.std.specs.Prelude.{◌⊎◌, not, Option, Some, None, nat_le, nat_lt, ◌==◌, ◌&&◌, if◌then◌else◌}
 use Rattle.ip_address.specs.declared.ip.IpAddress.{IpAddress}
 use Rattle.ip_address.specs.declared.ip.IpAddress.TheVariants.{Ipv4, Ipv6}
 use Rattle.dns_client.specs.declared.message.DnsType.{DnsType}
@@ -13,11 +13,11 @@ use Rattle.dns_client.specs.declared.found.Found.{Found}
 use Rattle.dns_client.specs.declared.query.DnsFailure.TheVariants.{NoSuchName, ServerFailure, Truncated, NoAddress, TooManyAliases}
 use Rattle.dns_client.specs.declared.query.DnsQuery.{DnsQuery}
 use Rattle.dns_client.specs.declared.query.DnsResult.{DnsResult}
-use Rattle.dns_client.specs.declared.query.DnsResult.TheVariants.{Pending, Addresses, Failed}
-use Rattle.dns_client.specs.Answers.{with_result, result_in, is_by_asked, is_answer}
-use Rattle.dns_client.specs.Found.{nothing_at, with_address, with_alias, is_for_v4, with_data, after_record, found_from, result_if}
-use Rattle.dns_client.specs.Query.{is_pending, waits}
-use Rattle.dns_client.specs.Laws.{Leads, Itself, ByAlias, Stands, address_of, AddressesStand}
+use Rattle.dns_client.specs.declared.query.DnsResult.TheVariants.{Pending, Addresses, TruncatedAddresses, Failed}
+use Rattle.dns_client.specs.Answers.{with_result, result_in, is_by_asked, is_answer, is_failure, is_refusal, truncated}
+use Rattle.dns_client.specs.Found.{nothing_at, with_address, with_alias, is_for_v4, with_data, after_record, found_from, result_if, result_of}
+use Rattle.dns_client.specs.Query.{after_refusal, is_pending, waits}
+use Rattle.dns_client.specs.Laws.{Leads, Itself, ByAlias, IsOf, Stands, address_of, AddressesStand}
 
 -- what is in a list after one place of it is set
 set_place : (xs : List (Option IpAddress)) (n i : ℕ) (v : Option IpAddress) (a : IpAddress) → get_or (set xs n v) i None ≡ Some a →
@@ -103,54 +103,117 @@ module _ (t : DnsType) (octets : List ℕ) where
       (λ whole rest. by_records count (record_in octets at).end (after_record t octets at f) g (by_record at f whole good) rest) e
 
   -- what comes of all records
-  abbrev listed : List (Option IpAddress) → Option DnsResult → List (Option IpAddress)
-  listed list None = list
-  listed list (Some Pending) = list
-  listed list (Some (Failed reason)) = list
-  listed list (Some (Addresses l)) = l
+  abbrev list_of : DnsResult → List (Option IpAddress)
+  list_of Pending = []
+  list_of (Addresses list) = list
+  list_of (TruncatedAddresses list) = list
+  list_of (Failed reason) = []
 
   by_count : (many none : Bool) (g : Found) (list : List (Option IpAddress)) →
-      Some (if many then Failed TooManyAliases else if none then Failed NoAddress else Addresses g.addresses) ≡ Some (Addresses list) →
-      g.addresses ≡ list
+      (if many then Failed TooManyAliases else if none then Failed NoAddress else Addresses g.addresses) ≡ Addresses list → g.addresses ≡ list
   by_count true none g list e = absurd (cc)
   by_count false true g list e = absurd (cc)
-  by_count false false g list e = ap (listed list) e
+  by_count false false g list e = ap list_of e
 
-  by_found : (found : Option Found) (count at : ℕ) (list : List (Option IpAddress)) → found_from count t octets at (nothing_at 12) ≡ found →
-      result_if found ≡ Some (Addresses list) → (i : ℕ) (a : IpAddress) → get_or list i None ≡ Some a → Stands octets 12 a
-  by_found None count at list f e = absurd (cc)
-  by_found (Some g) count at list f e = λ i a h.
+  by_found : (count at : ℕ) (g : Found) (list : List (Option IpAddress)) → found_from count t octets at (nothing_at 12) ≡ Some g →
+      result_of g ≡ Addresses list → (i : ℕ) (a : IpAddress) → get_or list i None ≡ Some a → Stands octets 12 a
+  by_found count at g list f e = λ i a h.
       let good = by_records count at (nothing_at 12) g begun f in
       let same = by_count (nat_lt 8 g.aliases) (g.count == 0) g list e in
       good.stand i a (ap (λ (l : List (Option IpAddress)). get_or l i None) same ∙ h)
 
-by_errors : (truncated unknown fine : Bool) (r : Option DnsResult) (list : List (Option IpAddress)) →
-    (if truncated then Some (Failed Truncated) else if unknown then Some (Failed NoSuchName) else if fine then Some (Failed ServerFailure) else r)
-    ≡ Some (Addresses list) → r ≡ Some (Addresses list)
-by_errors true unknown fine r list e = absurd (cc)
-by_errors false true fine r list e = absurd (cc)
-by_errors false false true r list e = absurd (cc)
-by_errors false false false r list e = e
+-- where addresses are told, some were found
+abbrev Found_as : List (Option IpAddress) → Option Found → Type 0
+Found_as list None = ⊥
+Found_as list (Some g) = result_of g ≡ Addresses list
 
-not_before : (q : DnsQuery) (list : List (Option IpAddress)) → is_pending q ≡ true → q.result ≡ Addresses list → ⊥
-not_before q list p e = let waited : false ≡ true = ap waits (sym e) ∙ p in absurd (cc)
+never : (many none : Bool) (l list : List (Option IpAddress)) →
+    (if many then Failed TooManyAliases else if none then Failed NoAddress else Addresses l) ≡ TruncatedAddresses list → ⊥
+never true none l list e = absurd (cc)
+never false true l list e = absurd (cc)
+never false false l list e = absurd (cc)
+
+-- of an answer that was cut
+cut : (r : Option DnsResult) (list : List (Option IpAddress)) → IsOf list (truncated r) → r ≡ Some (Addresses list)
+cut None list (inl e) = absurd (cc)
+cut None list (inr e) = absurd (cc)
+cut (Some Pending) list (inl e) = absurd (cc)
+cut (Some Pending) list (inr e) = absurd (cc)
+cut (Some (Addresses l)) list (inl e) = absurd (cc)
+cut (Some (Addresses l)) list (inr e) = ap (λ (x : List (Option IpAddress)). Some (Addresses x)) (ap list_in e) where
+  list_in : DnsResult → List (Option IpAddress)
+  list_in Pending = []
+  list_in (Addresses x) = x
+  list_in (TruncatedAddresses x) = x
+  list_in (Failed reason) = []
+cut (Some (TruncatedAddresses l)) list (inl e) = absurd (cc)
+cut (Some (TruncatedAddresses l)) list (inr e) = absurd (cc)
+cut (Some (Failed reason)) list (inl e) = absurd (cc)
+cut (Some (Failed reason)) list (inr e) = absurd (cc)
+
+abbrev got_result : DnsResult → Option DnsResult → DnsResult
+got_result d None = d
+got_result d (Some r) = r
+
+whole : (found : Option Found) (list : List (Option IpAddress)) (r : DnsResult) → result_if found ≡ Some r → IsOf list r → Found_as list found
+whole None list r e is = absurd (cc)
+whole (Some g) list r e (inl is) = ap (got_result r) e ∙ is
+whole (Some g) list r e (inr is) = absurd (never (nat_lt 8 g.aliases) (g.count == 0) g.addresses list (ap (got_result r) e ∙ is))
+
+found_whole : (found : Option Found) (list : List (Option IpAddress)) → result_if found ≡ Some (Addresses list) → Found_as list found
+found_whole found list e = whole found list (Addresses list) e (inl refl)
+
+by_kind : (unknown is_cut : Bool) (found : Option Found) (list : List (Option IpAddress)) (r : DnsResult) →
+    (if unknown then Some (Failed NoSuchName) else if is_cut then Some (truncated (result_if found)) else result_if found) ≡ Some r →
+    IsOf list r → Found_as list found
+by_kind true is_cut found list r e is = absurd (none list r (ap (got_result r) e) is) where
+  none : (list : List (Option IpAddress)) (r : DnsResult) → Failed NoSuchName ≡ r → IsOf list r → ⊥
+  none list r e (inl is) = let bad : Failed NoSuchName ≡ Addresses list = e ∙ is in absurd (cc)
+  none list r e (inr is) = let bad : Failed NoSuchName ≡ TruncatedAddresses list = e ∙ is in absurd (cc)
+by_kind false true found list r e is =
+    found_whole found list (cut (result_if found) list (subst (IsOf list) (sym (ap (got_result r) e)) is))
+by_kind false false found list r e is = whole found list r e is
+
+not_before : (r : DnsResult) (list : List (Option IpAddress)) → waits r ≡ true → IsOf list r → ⊥
+not_before r list p (inl e) = let waited : false ≡ true = ap waits (sym e) ∙ p in absurd (cc)
+not_before r list p (inr e) = let waited : false ≡ true = ap waits (sym e) ∙ p in absurd (cc)
+
+abbrev Told : List (Option IpAddress) → Option DnsResult → Type 0
+Told list None = ⊥
+Told list (Some r) = IsOf list r
 
 with_it : (r : Option DnsResult) (q : DnsQuery) (list : List (Option IpAddress)) → is_pending q ≡ true →
-    (with_result r q).result ≡ Addresses list → r ≡ Some (Addresses list)
-with_it None q list p e = absurd (not_before q list p e)
-with_it (Some r) q list p e = ap (λ (x : DnsResult). Some x) e
+    IsOf list (with_result r q).result → Told list r
+with_it None q list p e = absurd (not_before q.result list p e)
+with_it (Some r) q list p e = e
 
-by_answer : (b : Bool) (r : Option DnsResult) (q : DnsQuery) (list : List (Option IpAddress)) → is_pending q ≡ true →
-    (if b then with_result r q else q).result ≡ Addresses list → r ≡ Some (Addresses list)
-by_answer true r q list p e = with_it r q list p e
-by_answer false r q list p e = absurd (not_before q list p e)
+by_refusal : (b : Bool) (q : DnsQuery) (list : List (Option IpAddress)) → is_pending q ≡ true →
+    IsOf list (if b then record q { result = Failed ServerFailure } else record q { has_refused = true; next_at = q.round_at }).result → ⊥
+by_refusal true q list p (inl e) = absurd (cc)
+by_refusal true q list p (inr e) = absurd (cc)
+by_refusal false q list p e = not_before q.result list p e
+
+by_answer : (by refuses answers : Bool) (n : ℕ) (r : Option DnsResult) (q : DnsQuery) (list : List (Option IpAddress)) → is_pending q ≡ true →
+    IsOf list (if by then (if refuses then after_refusal n q else if answers then with_result r q else q) else q).result → Told list r
+by_answer true true answers n r q list p e = absurd (by_refusal (q.all_refused && nat_le n q.asked) q list p e)
+by_answer true false true n r q list p e = with_it r q list p e
+by_answer true false false n r q list p e = absurd (not_before q.result list p e)
+by_answer false refuses answers n r q list p e = absurd (not_before q.result list p e)
+
+told_some : (r : Option DnsResult) (list : List (Option IpAddress)) → Told list r → (x : DnsResult) × (r ≡ Some x) × IsOf list x
+told_some None list t = absurd t
+told_some (Some x) list t = (x, refl, t)
 
 pub addresses_stand : AddressesStand
 addresses_stand name servers from from_port to_port i octets q list a p e h =
     let h' = header_in octets in
-    let count = h'.answer_count in
     let at = (question_in octets 12).end in
-    let found = found_from count q.query_type octets at (nothing_at 12) in
-    let told = by_answer (is_by_asked servers from from_port to_port q && is_answer name octets q) (result_in octets q) q list p e in
-    let is = by_errors h'.is_truncated (h'.response_code == 3) (not (h'.response_code == 0)) (result_if found) list told in
-    by_found q.query_type octets found count at list refl is i a h
+    let told = by_answer (is_by_asked servers from from_port to_port q) (is_refusal name octets q) (is_answer name octets q && not (is_failure octets))
+    (length servers) (result_in octets q) q list p e in
+    let some = told_some (result_in octets q) list told in
+    let found = by_kind (h'.response_code == 3) h'.is_truncated (found_from h'.answer_count q.query_type octets at (nothing_at 12)) list some.0 some.1 some.2 in
+    of (found_from h'.answer_count q.query_type octets at (nothing_at 12)) refl found where
+      of : (f : Option Found) → found_from (header_in octets).answer_count q.query_type octets (question_in octets 12).end (nothing_at 12) ≡ f →
+          Found_as list f → Stands octets 12 a
+      of None is found = absurd found
+      of (Some g) is found = by_found q.query_type octets (header_in octets).answer_count (question_in octets 12).end g list is found i a h

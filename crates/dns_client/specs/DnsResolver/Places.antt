@@ -12,9 +12,11 @@ pub record Named : Type 0 where
 abbrev pub Place : Type 0
 Place = Option Named
 
--- whom queries go to, what makes their numbers unknown to others, how many were started, and those that there are
+-- whom queries go to, and which of them first, what makes their numbers unknown to others, how many were started, and those that
+-- there are
 pub record Queries : Type 0 where
   pub servers : List IpAddress
+  pub preferred : ℕ
   pub key : SipKey
   pub started : ℕ
   pub places : List Place

@@ -9,9 +9,11 @@ use Rattle.dns_client.specs.Message.{is_whole_name, query_text}
 use Rattle.dns_client.specs.declared.message.DnsType.{DnsType}
 use Rattle.dns_client.specs.Answers as answers
 use Rattle.dns_client.specs.Query as query
-use Rattle.dns_client.specs.Query.{asked_at, new_query}
+use Rattle.dns_client.specs.Query.{asked_at, asked_last, is_pending, new_query}
 use Rattle.dns_client.specs.declared.query.DnsQuery.{DnsQuery}
+use Rattle.dns_client.specs.declared.query.DnsFailure.TheVariants.{NoSuchName, ServerFailure, Truncated, NoAddress, TooManyAliases, TimedOut}
 use Rattle.dns_client.specs.declared.query.DnsResult.{DnsResult}
+use Rattle.dns_client.specs.declared.query.DnsResult.TheVariants.{Pending, Addresses, TruncatedAddresses, Failed}
 use Rattle.tcp_host.specs.SipHash.{sip_hash}
 use Rattle.tcp_host.specs.declared.sip_hash.SipKey.{SipKey}
 use Rattle.dns_client.specs.DnsResolver.Places.{Named, Place, Queries}
@@ -22,7 +24,7 @@ use Rattle.dns_client.specs.declared.dns_resolver.resolver.StartQueryError.TheVa
 
 -- at first no place has a query
 abbrev pub first : List IpAddress → ℕ → SipKey → Queries
-first servers places key = record { servers = servers; key = key; started = 0; places = replicate places None }
+first servers places key = record { servers = servers; preferred = 0; key = key; started = 0; places = replicate places None }
 
 -- what is lent of a query
 abbrev pub lent : Option (Bor Named) → Place
@@ -69,7 +71,7 @@ pub record Starts (now : ℕ) (name : List ℕ) (type : DnsType) (place : ℕ) (
   pub free : free_in old.places ≡ Some place
   pub after : new ≡ record old {
     started = (old.started + 1) % 2 ^ 64;
-    places = slice_set old.places place (Some (record { query = new_query now type (drawn old.key old.started); name = name }));
+    places = slice_set old.places place (Some (record { query = new_query now type (drawn old.key old.started) old.preferred; name = name }));
   }
 
 -- what has become of the query at a place
@@ -80,14 +82,52 @@ result_of (Some named) = Ok named.query.result
 abbrev pub result_at : Queries → ℕ → Result DnsResult NoSuchQuery
 result_at r place = result_of (at r place)
 
+-- other servers, of which the first is asked first
+abbrev pub with_servers : List IpAddress → Queries → Queries
+with_servers servers r = record r { servers = servers; preferred = 0 }
+
 -- a query receives a message
 abbrev pub named_after_receiving : List IpAddress → IpAddress → ℕ → ℕ → List ℕ → Named → Named
 named_after_receiving servers from from_port to_port octets n =
     record n { query = answers.after_receiving n.name servers from from_port to_port octets n.query }
 
+-- a query learns that a server can't be reached
+abbrev pub named_after_failure : List IpAddress → IpAddress → Named → Named
+named_after_failure servers server n = record n { query = answers.after_failure servers server n.query }
+
+abbrev pub after_failure : ℕ → IpAddress → Queries → Queries
+after_failure place server r = with_place place (option_map (named_after_failure r.servers server) (at r place)) r
+
+-- the server that answered it, if a query that waited has a result that a server gave
+abbrev pub is_given : DnsResult → Bool
+is_given Pending = false
+is_given (Addresses list) = true
+is_given (TruncatedAddresses list) = true
+is_given (Failed NoSuchName) = true
+is_given (Failed ServerFailure) = false
+is_given (Failed Truncated) = true
+is_given (Failed NoAddress) = true
+is_given (Failed TooManyAliases) = true
+is_given (Failed TimedOut) = false
+
+abbrev pub answered_by : ℕ → DnsQuery → DnsQuery → Option ℕ
+answered_by servers old new = if is_pending old && is_given new.result then Some (asked_last servers new) else None
+
+abbrev pub answered_in : List IpAddress → IpAddress → ℕ → ℕ → List ℕ → Place → Option ℕ
+answered_in servers from from_port to_port octets None = None
+answered_in servers from from_port to_port octets (Some n) =
+    answered_by (length servers) n.query (named_after_receiving servers from from_port to_port octets n).query
+
+-- this one is asked first from then on
+abbrev pub preferred_after : Option ℕ → ℕ → ℕ
+preferred_after None before = before
+preferred_after (Some server) before = server
+
 abbrev pub after_receiving : ℕ → IpAddress → ℕ → ℕ → List ℕ → Queries → Queries
-after_receiving place from from_port to_port octets r =
-    with_place place (option_map (named_after_receiving r.servers from from_port to_port octets) (at r place)) r
+after_receiving place from from_port to_port octets r = record r {
+  places = slice_set r.places place (option_map (named_after_receiving r.servers from from_port to_port octets) (at r place));
+  preferred = preferred_after (answered_in r.servers from from_port to_port octets (at r place)) r.preferred;
+}
 
 -- a query is asked what is due
 abbrev pub named_after_asking : List IpAddress → ℕ → Named → Named
@@ -95,6 +135,13 @@ named_after_asking servers now n = record n { query = query.after_asking now (le
 
 abbrev pub after_asking : ℕ → ℕ → Queries → Queries
 after_asking place now r = with_place place (option_map (named_after_asking r.servers now) (at r place)) r
+
+-- a query has a result without asking, as where its name is an address in text
+abbrev pub named_with_result : DnsResult → Named → Named
+named_with_result result n = record n { query = record n.query { result = result } }
+
+abbrev pub after_answer : ℕ → DnsResult → Queries → Queries
+after_answer place result r = with_place place (option_map (named_with_result result) (at r place)) r
 
 -- the message that goes to a server, from a query's port
 abbrev pub to_server : ℕ → Option IpAddress → Option DnsMessage
@@ -128,18 +175,18 @@ text_in m None before = before
 text_in m (Some n) before = text_after m n before
 
 -- when something is due at a place, and the earliest of such instants and another one
-abbrev pub due : Place → Option ℕ
-due None = None
-due (Some n) = query.poll_at n.query
+abbrev pub due : ℕ → Place → Option ℕ
+due servers None = None
+due servers (Some n) = query.poll_at servers n.query
 
 abbrev pub earlier : Option ℕ → Option ℕ → Option ℕ
 earlier None other = other
 earlier (Some one) None = Some one
 earlier (Some one) (Some other) = Some (min one other)
 
-abbrev pub earliest : Option ℕ → List Place → Option ℕ
-earliest least [] = least
-earliest least (p ∷ ps) = earliest (earlier least (due p)) ps
+abbrev pub earliest : ℕ → Option ℕ → List Place → Option ℕ
+earliest servers least [] = least
+earliest servers least (p ∷ ps) = earliest servers (earlier least (due servers p)) ps
 
 abbrev pub poll_at : Queries → Option ℕ
-poll_at r = earliest None r.places
+poll_at r = earliest (length r.servers) None r.places

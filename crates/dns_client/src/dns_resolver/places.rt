@@ -30,23 +30,23 @@ pub(crate) fn set_place(places: &mut [Option<NamedQuery>], place: usize, named: 
     }
 }
 
-/// The earliest instant at which something is due for one of these queries.
-pub(crate) fn earliest(places: &[Option<NamedQuery>]) -> Option<u64>
-    ensures { result ≡ spec.earliest None places.now }
+/// The earliest instant at which something is due for one of these queries to so many servers.
+pub(crate) fn earliest(places: &[Option<NamedQuery>], servers: usize) -> Option<u64>
+    ensures { result ≡ spec.earliest servers None places.now }
 {
     let mut least = None;
     for place in places {
-        least = earlier(least, due(place));
+        least = earlier(least, due(place, servers));
     }
     least
 }
 
 /// When something is due at a place.
-fn due(place: &Option<NamedQuery>) -> Option<u64>
-    ensures { result ≡ spec.due place.now }
+fn due(place: &Option<NamedQuery>, servers: usize) -> Option<u64>
+    ensures { result ≡ spec.due servers place.now }
 {
     match place {
-        Some(named) => named.query().poll_at(),
+        Some(named) => named.query().poll_at(servers),
         None => None,
     }
 }

@@ -6,7 +6,7 @@ ghost use Rattle.dns_client.specs.DnsResolver.Resolver as spec;
 
 use crate::dns_resolver::places::{earliest, free_place, query_at, set_place};
 use crate::message::{emit_query, is_whole_name};
-use crate::{DnsQuery, DnsResult, DnsType};
+use crate::{DnsFailure, DnsQuery, DnsResult, DnsType};
 use arrayvec::ArrayVec;
 use ip_address::IpAddress;
 use ip_wire::emit::FrameBuffer;
@@ -59,7 +59,7 @@ impl NamedQuery {
         self.name.as_slice()
     }
 
-    /// Receives a message, as [`DnsQuery::receive`] does.
+    /// Receives a message, as [`DnsQuery::receive`] does. Returns which server gave it its result, if one did.
     fn receive(
         &mut self,
         servers: &[IpAddress],
@@ -67,12 +67,26 @@ impl NamedQuery {
         from_port: u16,
         to_port: u16,
         octets: &[u8],
-    )
-        ensures { self.new ≡ spec.named_after_receiving servers.now from from_port to_port octets.now self.old }
+    ) -> Option<usize>
+        ensures query { self.new ≡ spec.named_after_receiving servers.now from from_port to_port octets.now self.old }
+        ensures server { result ≡ spec.answered_by (length servers.now) self.old.query self.new.query }
     {
+        let waited = self.query.is_pending();
         let name = self.name.as_slice();
         self.query
             .receive(name, servers, from, from_port, to_port, octets);
+        if waited && is_given(&self.query.result) {
+            Some(self.query.asked_last(servers.len()))
+        } else {
+            None
+        }
+    }
+
+    /// Learns that a server can't be reached, as [`DnsQuery::server_failed`] does.
+    fn server_failed(&mut self, servers: &[IpAddress], server: IpAddress)
+        ensures { self.new ≡ spec.named_after_failure servers.now server self.old }
+    {
+        self.query.server_failed(servers, server);
     }
 
     /// Does what is due, and writes the message that is sent now, if there is one.
@@ -132,6 +146,7 @@ pub struct DnsMessage {
 #[derive(Drop)]
 pub struct Resolver {
     servers: Vec<IpAddress>,
+    preferred: usize,
     key: SipKey,
     started: u64,
     places: Vec<Option<NamedQuery>>,
@@ -144,6 +159,7 @@ impl Model for Resolver {
 
     ghost view = { λ r. record {
       servers = r.servers.items;
+      preferred = r.preferred;
       key = r.key;
       started = r.started;
       places = r.places.items;
@@ -168,19 +184,21 @@ impl Resolver {
         }
         Ok(Resolver {
             servers,
+            preferred: 0,
             key,
             started: 0,
             places: free,
         })
     }
 
-    /// Sets the servers. Queries that wait go on with these: each asks the one whose turn it is, and no answer of another counts.
-    /// It fails exactly if memory is refused; then nothing changes.
+    /// Sets the servers, of which the first is asked first. Queries that wait go on with these: each asks the one whose turn it
+    /// is, and no answer of another counts. It fails exactly if memory is refused; then nothing changes.
     pub fn set_servers(&mut self, alloc: Global, servers: &[IpAddress]) -> Result<(), AllocError>
-        ensures set { OnOk result (self.new ≡ record self.old { servers = servers.now }) }
+        ensures set { OnOk result (self.new ≡ spec.with_servers servers.now self.old) }
         ensures refused { OnErr result (self.new ≡ self.old) }
     {
         self.servers = Vec::from_slice(alloc, servers)?;
+        self.preferred = 0;
         Ok(())
     }
 
@@ -203,12 +221,13 @@ impl Resolver {
         ensures port { result ≡ spec.next_port self.now }
         ensures dynamic { 49152 ≤ result }
     {
-        // Which moment it begins at, and what it asks for, doesn't matter.
-        DnsQuery::new(0, DnsType::A, drawn(&self.key, self.started)).source_port
+        // Which moment it begins at, what it asks for, and whom first, doesn't matter.
+        DnsQuery::new(0, DnsType::A, drawn(&self.key, self.started), 0).source_port
     }
 
     /// Starts a query of a name's addresses at an instant, in the first free place. `InvalidName` if the octets aren't a whole
-    /// name by its labels, else `NoFreePlace`; then nothing changes. The query stays until it is cancelled.
+    /// name by its labels, else `NoFreePlace`; then nothing changes. The query stays until it is cancelled. It asks the server
+    /// first that answered last.
     pub fn start_query(
         &mut self,
         now: u64,
@@ -225,7 +244,8 @@ impl Resolver {
         let Some(place) = free_place(&self.places) else {
             return Err(StartQueryError::NoFreePlace);
         };
-        let query = DnsQuery::new(now, query_type, drawn(&self.key, self.started));
+        let random = drawn(&self.key, self.started);
+        let query = DnsQuery::new(now, query_type, random, self.preferred);
         self.started = self.started.wrapping_add(1);
         set_place(&mut self.places, place, Some(NamedQuery { query, name }));
         Ok(QueryHandle { place })
@@ -262,6 +282,15 @@ impl Resolver {
         Ok(())
     }
 
+    /// Gives a query a result without asking, as where its name is an address in text. If the handle names none nothing changes.
+    pub fn answer(&mut self, handle: QueryHandle, given: DnsResult)
+        ensures { self.new ≡ spec.after_answer handle.place given self.old }
+    {
+        if let Some(there) = self.places.get_mut(handle.place) {
+            answer_at(there, given);
+        }
+    }
+
     /// Hands a query a message that came: from where, to which port, and its octets. It counts as [`DnsQuery::receive`] says;
     /// otherwise nothing changes. `NoSuchQuery` if the handle names none; then nothing changes.
     pub fn receive(
@@ -281,10 +310,25 @@ impl Resolver {
             return Err(NoSuchQuery);
         }
         let servers = self.servers.as_slice();
+        let mut answered = None;
         if let Some(place) = self.places.get_mut(handle.place) {
-            receive_at(place, servers, from, from_port, to_port, octets);
+            answered = receive_at(place, servers, from, from_port, to_port, octets);
+        }
+        if let Some(server) = answered {
+            self.preferred = server;
         }
         Ok(())
+    }
+
+    /// Tells a query that a server can't be reached, as its port is closed, or its neighbour absent. It counts as
+    /// [`DnsQuery::server_failed`] says; otherwise nothing changes, nor if the handle names no query.
+    pub fn server_failed(&mut self, handle: QueryHandle, server: IpAddress)
+        ensures { self.new ≡ spec.after_failure handle.place server self.old }
+    {
+        let servers = self.servers.as_slice();
+        if let Some(there) = self.places.get_mut(handle.place) {
+            fail_at(there, servers, server);
+        }
     }
 
     /// Does what is due for a query at an instant, and writes the message that it sends now, if there is one, in place of what
@@ -325,11 +369,11 @@ impl Resolver {
     pub fn poll_at(&self) -> Option<u64>
         ensures { result ≡ spec.poll_at self.now }
     {
-        earliest(&self.places)
+        earliest(&self.places, self.servers.len())
     }
 }
 
-/// Lets the query at a place receive a message, if there is one.
+/// Lets the query at a place receive a message, if there is one. Returns which server gave it its result, if one did.
 fn receive_at(
     place: &mut Option<NamedQuery>,
     servers: &[IpAddress],
@@ -337,11 +381,43 @@ fn receive_at(
     from_port: u16,
     to_port: u16,
     octets: &[u8],
-)
-    ensures { place.new ≡ option_map (spec.named_after_receiving servers.now from from_port to_port octets.now) place.old }
+) -> Option<usize>
+    ensures query { place.new ≡ option_map (spec.named_after_receiving servers.now from from_port to_port octets.now) place.old }
+    ensures server { result ≡ spec.answered_in servers.now from from_port to_port octets.now place.old }
+{
+    match place {
+        Some(named) => named.receive(servers, from, from_port, to_port, octets),
+        None => None,
+    }
+}
+
+/// Tells the query at a place that a server can't be reached, if there is one.
+fn fail_at(place: &mut Option<NamedQuery>, servers: &[IpAddress], server: IpAddress)
+    ensures { place.new ≡ option_map (spec.named_after_failure servers.now server) place.old }
 {
     if let Some(named) = place {
-        named.receive(servers, from, from_port, to_port, octets);
+        named.server_failed(servers, server);
+    }
+}
+
+/// Gives the query at a place a result, if there is one.
+fn answer_at(place: &mut Option<NamedQuery>, given: DnsResult)
+    ensures { place.new ≡ option_map (spec.named_with_result given) place.old }
+{
+    if let Some(named) = place {
+        named.query.result = given;
+    }
+}
+
+/// Whether a server gave a result.
+const fn is_given(there: &DnsResult) -> bool
+    ensures { result ≡ spec.is_given there.now }
+{
+    match there {
+        DnsResult::Pending => false,
+        DnsResult::Addresses(_) | DnsResult::TruncatedAddresses(_) => true,
+        DnsResult::Failed(DnsFailure::ServerFailure | DnsFailure::TimedOut) => false,
+        DnsResult::Failed(_) => true,
     }
 }
 

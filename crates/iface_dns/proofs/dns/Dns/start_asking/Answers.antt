@@ -2,7 +2,7 @@ use Rattle.std.proofs.Common.{ℤ, ◌∙◌, ap}
 use Rattle.std.proofs.lemmas.Int.{to_z-of_z}
 use Rattle.iface_dns.specs.Start.{opening_refusal, read_refusal}
 use Rattle.iface_dns.proofs.Names.{not_refused, opening_why}
-use Rattle.iface_dns.proofs.dns.Dns.start.Goals as goal
+use Rattle.iface_dns.proofs.dns.Dns.start_asking.Goals as goal
 
 pub returns-in-Err-clause-why : goal.returns-in-Err-clause-why
 returns-in-Err-clause-why c =

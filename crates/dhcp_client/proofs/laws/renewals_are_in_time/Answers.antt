@@ -1,0 +1,5 @@
+use Rattle.dhcp_client.proofs.Renewals as of
+use Rattle.dhcp_client.proofs.laws.renewals_are_in_time.Goals as goal
+
+pub returns : goal.returns
+returns c = of.renewals_are_in_time
