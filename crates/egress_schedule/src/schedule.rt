@@ -88,6 +88,14 @@ impl Schedule {
         self.given_up
     }
 
+    /// Whether some socket waited for its neighbour after the last round.
+    #[inline(always)]
+    pub fn is_waiting(&self) -> bool
+        ensures { result ≡ self.now.is_waiting }
+    {
+        self.is_waiting
+    }
+
     /// The destination of the packet that the socket of a handle gave up last, if one was given up since this was
     /// asked. At `None` nothing changes.
     pub fn take_given_up(&mut self, handle: SocketHandle) -> Option<IpAddress>

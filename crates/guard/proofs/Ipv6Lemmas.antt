@@ -1,15 +1,12 @@
 -- What passes a guard over IPv6, and what doesn't.
 use Rattle.std.proofs.Common.{◌≡◌, ◌≤◌, ◌+◌, ◌*◌, ◌∙◌, ap, sym, ℕ, zero, suc, ℤ, Bool, true, false, refl, inl, inr, arith, List, [], ◌∷◌, length, pos}
 use Rattle.std.specs.Prelude.{◌⊎◌, is_none, Option, not, ◌||◌, ◌&&◌, ◌==◌, nat_le, nat_lt, slice_get, Some, None, if◌then◌else◌}
-use Rattle.std.specs.FinMap as map
 use Rattle.std.specs.List.{list_any}
 use Rattle.std.proofs.lemmas.Bool.Decides.{nat_tests}
 use Rattle.std.proofs.lemmas.Slice.Eq.{bytes_eq-Decides}
 use Rattle.ip_wire.specs.Octets.{u16_at}
 use Rattle.ip_wire.specs.Ipv6Packet.{address_at}
-use Rattle.net_base.specs.declared.bucket.Bucket.{Bucket}
 use Rattle.ip_address.specs.Cidr.{address_of}
-use Rattle.ip_address.specs.Ip.{is_unicast, is_unspecified}
 use Rattle.ip_address.specs.EthernetAddress.{is_same as is_same_hardware}
 use Rattle.ip_address.specs.declared.cidr.IpCidr.{IpCidr}
 use Rattle.ip_address.specs.declared.ethernet_address.EthernetAddress.{EthernetAddress}
@@ -17,25 +14,23 @@ use Rattle.ip_address.specs.declared.hardware.HardwareAddress.TheVariants.{Ether
 use Rattle.ip_address.specs.declared.ip.IpAddress.{IpAddress}
 use Rattle.ip_address.specs.declared.ip.IpAddress.TheVariants.{Ipv4, Ipv6}
 use Rattle.sockets.specs.Source.{is_same}
-use Rattle.iface_tables.specs.Neighbor.{answer_of, is_before, is_found}
-use Rattle.iface_tables.specs.declared.neighbor.Neighbor.{Neighbor as Entry}
 use Rattle.guard.specs.declared.guard.Guard.{Guard}
 use Rattle.guard.specs.declared.guard.Reason.{Reason}
 use Rattle.guard.specs.declared.guard.Reason.TheVariants as reason
 use Rattle.guard.specs.declared.kind.Kind.TheVariants.{Neighbor, Packet}
 use Rattle.guard.specs.declared.kind.Sort.TheVariants.{Fragment, Loop, Transport, Plain}
 use Rattle.guard.specs.declared.pins.Pinned.{Pinned}
-use Rattle.guard.specs.Kind.{is_loop, is_small_service, is_transport, kind_of, kind_of_message, message_of, octet_at, packet_to, sort_of_ipv6, target_at}
+use Rattle.guard.specs.Kind.{is_loop, is_small_service, is_transport, kind_of, kind_of_message, message_of, octet_at, packet_of_ipv6, sort_of_ipv6, target_at}
 use Rattle.guard.specs.Claim.{comes_back, hardware_at, is_from, is_from_host, message_tells, tells_only}
 use Rattle.guard.specs.Pins.{forbids, is_forbidden}
-use Rattle.guard.specs.Guard.{asks_nobody, claims, first_of, is_expected, is_known, is_one_own, is_ordinary, is_ordinary_sort, is_own, is_returned}
-use Rattle.guard.specs.Guard.{is_stolen, refusal_of, refusal_of_claim, refusal_of_packet, was_asked}
-use Rattle.guard.specs.Laws.{Arrival, after, passes}
+use Rattle.guard.specs.Guard.{claims, first_of, is_one_own, is_ordinary, is_ordinary_sort, is_own, is_returned}
+use Rattle.guard.specs.Guard.{is_stolen, refusal_of, refusal_of_claim, refusal_of_packet}
+use Rattle.guard.specs.Laws.{Arrival, passes}
 use Rattle.guard.specs.Ipv6.{AsSource, AsTarget, Behind, BehindOptions, ClaimsOwn, GoesToAndFro, HasMessage, IsAmong, IsIpv6, IsNeighborMessage}
 use Rattle.guard.specs.Ipv6.{IsSentBy, TellsNoOther, source_of}
-use Rattle.guard.specs.Ipv6Laws.{Ipv6LoopsEnd, KnownMessagesPass, OwnMessagesStay, PinnedMessagesStay, StreamsPass}
-use Rattle.guard.proofs.PassLemmas.{any_forbids, both, expected_if, free_passes, kind_v6, looping, no_message, not_stolen, or_true, ordinary_after}
-use Rattle.guard.proofs.PassLemmas.{ordinary_reason, pinned_by, refused_by_none, refused_stays, same_refl, stolen_by}
+use Rattle.guard.specs.Ipv6Laws.{Ipv6LoopsEnd, MessagesPass, OwnMessagesStay, PinnedMessagesStay, StreamsPass}
+use Rattle.guard.proofs.PassLemmas.{any_forbids, both, kind_v6, looping, no_message, not_stolen, or_true}
+use Rattle.guard.proofs.PassLemmas.{ordinary_reason, pinned_by, refused_by_none, same_refl, stolen_by}
 
 -- a test that is false can't be true
 differ : (b : Bool) → b ≡ true → b ≡ false → ⊥
@@ -156,20 +151,16 @@ module _ (h : EthernetAddress) (frame : List ℕ) (at : ℕ) (message : IsNeighb
       tells_is ∙ or_true (nat_le (length frame) (at + 24)) (nat_le (length frame) (at + 32) && is_same_hardware (hardware_at frame (at + 26)) h)
       (rw (o, s) refl)
 
--- a message that is refused doesn't pass, and changes nothing; one that isn't, of somebody who is expected, passes
+-- a message that is refused doesn't pass, and one that isn't passes
 module _ (a : Arrival) (g : Guard) (at : ℕ) (message : IsNeighborMessage a.frame at) where
   abbrev refusal : Option Reason
   refusal = refusal_of_claim (claims (source_of a.frame) (target_in a.frame at) a.own) (source_of a.frame) a.hardware a.frame g
 
-  refused_message : (why : Reason) → refusal ≡ Some why → (passes a g ≡ false) × (after a g ≡ g)
-  refused_message why is =
-      let stays = refused_stays why refusal (is_expected (pos a.at) (source_of a.frame) a.known g) is a.at g.neighbors reason.NewNeighbor in
-      rw (neighbor_is a.frame at message) (stays.0, ap (λ (b : Bucket). record g { neighbors = b }) stays.1)
+  refused_message : (why : Reason) → refusal ≡ Some why → passes a g ≡ false
+  refused_message why is = rw (neighbor_is a.frame at message, is) refl
 
-  free_message : refusal ≡ None → is_expected (pos a.at) (source_of a.frame) a.known g ≡ true → (passes a g ≡ true) × (after a g ≡ g)
-  free_message is expected =
-      let goes = free_passes refusal (is_expected (pos a.at) (source_of a.frame) a.known g) is expected a.at g.neighbors reason.NewNeighbor in
-      rw (neighbor_is a.frame at message) (goes.0, ap (λ (b : Bucket). record g { neighbors = b }) goes.1)
+  free_message : refusal ≡ None → passes a g ≡ true
+  free_message is = rw (neighbor_is a.frame at message, is) refl
 
 pub own_messages_stay : OwnMessagesStay
 own_messages_stay a g own at keeps hardware message claimed pass = by (is_from_host (Some (Ethernet own)) a.frame) refl where
@@ -179,7 +170,7 @@ own_messages_stay a g own at keeps hardware message claimed pass = by (is_from_h
       let is = stolen_by g.keeps_own_addresses (claims (source_of a.frame) (target_in a.frame at) a.own) (is_from_host a.hardware a.frame)
       keeps (claims_if a.own a.frame at claimed) other (if is_forbidden (source_of a.frame) a.frame g.pins then Some reason.Pinned else None)
       reason.OwnAddress in
-      absurd (differ (passes a g) pass (refused_message a g at message reason.OwnAddress is).0)
+      absurd (differ (passes a g) pass (refused_message a g at message reason.OwnAddress is))
   by true e =
       let parts = both (is_from own a.frame) (tells_only own a.frame) e in
       (same_hardware (hardware_at a.frame 6) own parts.0, tells_then own a.frame at message parts.1)
@@ -193,7 +184,7 @@ pinned_messages_stay a g h k at message there pass = by (tells_only h a.frame) r
       any_forbids (source_of a.frame) a.frame h g.pins.pairs k there e in
       let is = pinned_by (is_stolen (claims (source_of a.frame) (target_in a.frame at) a.own) (is_from_host a.hardware a.frame) g)
       (is_forbidden (source_of a.frame) a.frame g.pins) forbidden reason.OwnAddress in
-      absurd (differ (passes a g) pass (refused_message a g at message is.0 is.1).0)
+      absurd (differ (passes a g) pass (refused_message a g at message is.0 is.1))
 
 -- where a frame is forbidden, an entry pins its sender to another hardware address
 pub record IsForbiddenBy (pairs : List (Option Pinned)) (sender : IpAddress) (frame : List ℕ) : Type 0 where
@@ -225,21 +216,14 @@ forbidden_by (Some p ∷ ps) sender frame e =
       by true true s t e kept = later (kept e)
       by false tells s t e kept = later (kept e)
 
-known_if : (a : Arrival) (g : Guard) (n : Entry) → is_unicast (source_of a.frame) ≡ true → map.get a.known.known (source_of a.frame) ≡ Some n →
-    is_before (pos a.at) n.expires_at ≡ true → is_expected (pos a.at) (source_of a.frame) a.known g ≡ true
-known_if a g n one there before =
-    let known : is_known a.known (source_of a.frame) (pos a.at) ≡ true = rw (one, there, before) refl in
-    expected_if (is_unspecified (source_of a.frame)) (is_known a.known (source_of a.frame) (pos a.at))
-    (was_asked (pos a.at) (source_of a.frame) g.asked) known
-
-pub known_messages_pass : KnownMessagesPass
-known_messages_pass a g n at message unclaimed pins one there before =
+pub messages_pass : MessagesPass
+messages_pass a g at message unclaimed pins =
     let none : (if is_forbidden (source_of a.frame) a.frame g.pins then Some reason.Pinned else None) ≡ None = rw allowed refl in
     let is = refused_by_none (is_stolen (claims (source_of a.frame) (target_in a.frame at) a.own) (is_from_host a.hardware a.frame) g)
     (if is_forbidden (source_of a.frame) a.frame g.pins then Some reason.Pinned else None) reason.OwnAddress
     (not_stolen g.keeps_own_addresses (claims (source_of a.frame) (target_in a.frame at) a.own) (is_from_host a.hardware a.frame)
     (inl no_claim)) none in
-    free_message a g at message is (known_if a g n one there before) where
+    free_message a g at message is where
       no_claim : claims (source_of a.frame) (target_in a.frame at) a.own ≡ false
       no_claim = by (claims (source_of a.frame) (target_in a.frame at) a.own) refl where
         by : (b : Bool) → claims (source_of a.frame) (target_in a.frame at) a.own ≡ b → b ≡ false
@@ -309,16 +293,15 @@ streams_pass a g header protocol none other =
     let six : (u16_at a.frame 12 == 0x86dd) ≡ true = rw header.type refl in
     let is : is_ordinary a.frame a.own ≡ true =
     rw (s, four, six, transport_is a.frame protocol none, not_own a.own (source_of a.frame) other) refl in
-    let goes = ordinary_reason (pos a.at) a.frame a.hardware a.own a.known a.waits g is in
-    (ap is_none (sym goes), sym (ordinary_after (pos a.at) a.frame a.hardware a.own a.known a.waits g is))
+    ap is_none (sym (ordinary_reason a.frame a.hardware a.own g is))
 
-loop_kind : (frame : List ℕ) → IsIpv6 frame → GoesToAndFro frame → kind_of frame ≡ Packet (source_of frame) (Ipv6 (address_at frame 38)) Loop
+loop_kind : (frame : List ℕ) → IsIpv6 frame → GoesToAndFro frame → kind_of frame ≡ Packet (source_of frame) Loop
 loop_kind frame header goes =
     let m : (octet_at frame 20 == 58) ≡ false = rw goes.is_udp refl in
     let z : (octet_at frame 20 == 0) ≡ false = rw goes.is_udp refl in
     let f : (octet_at frame 20 == 44) ≡ false = rw goes.is_udp refl in
     let u : (octet_at frame 20 == 17) ≡ true = rw goes.is_udp refl in
-    let l : nat_lt (length frame) (38 + 16) ≡ false = let long = header.whole in grind (arith, nat_tests) in
+    let l : nat_lt (length frame) 54 ≡ false = let long = header.whole in grind (arith, nat_tests) in
     let none : message_of frame ≡ None = rw (m, z) refl in
     let sort : sort_of_ipv6 frame ≡ Loop = rw (f, u, loop_if frame goes) refl in
     kind_v6 frame (let long = header.whole in omega (arith, long)) header.type ∙ rw (none, sort, l) refl
@@ -326,10 +309,7 @@ loop_kind frame header goes =
 pub ipv6_loops_end : Ipv6LoopsEnd
 ipv6_loops_end a g drops header goes other =
     let sender = source_of a.frame in
-    let target = Ipv6 (address_at a.frame 38) in
     let returned : is_returned sender a.hardware a.frame a.own ≡ false = rw (not_own a.own sender other) refl in
     let refusal = looping (is_stolen (is_own a.own sender) (comes_back a.hardware a.frame) g) g.drops_loops
     (is_returned sender a.hardware a.frame a.own) drops returned reason.OwnSource in
-    let stays = refused_stays refusal.0 (refusal_of_packet sender Loop a.hardware a.frame a.own g)
-    (asks_nobody (pos a.at) sender target Loop a.own a.known) refusal.1 a.at g.discoveries reason.Discovery in
-    rw (loop_kind a.frame header goes) (stays.0, ap (λ (b : Bucket). record g { discoveries = b }) stays.1)
+    rw (loop_kind a.frame header goes, refusal.1) refl

@@ -1,12 +1,10 @@
 -- What nobody named passes a guard.
-use Rattle.std.proofs.Common.{◌≡◌, ◌≤◌, ◌+◌, ◌*◌, ◌%◌, ◌∙◌, ap, sym, ℕ, zero, suc, ℤ, Bool, true, false, refl, inl, inr, arith, List, [], ◌∷◌, length, pos}
-use Rattle.std.specs.Prelude.{◌⊎◌, ◌≢◌, is_none, is_some, Option, not, ◌||◌, ◌&&◌, ◌==◌, nat_lt, slice_get, Some, None, if◌then◌else◌}
+use Rattle.std.proofs.Common.{◌≡◌, ◌≤◌, ◌+◌, ◌*◌, ◌%◌, ◌∙◌, ap, sym, ℕ, zero, suc, Bool, true, false, refl, inl, inr, arith, List, [], ◌∷◌, length}
+use Rattle.std.specs.Prelude.{◌⊎◌, ◌≢◌, is_none, Option, not, ◌||◌, ◌&&◌, ◌==◌, nat_lt, slice_get, Some, None, if◌then◌else◌}
 use Rattle.std.specs.List.{list_any}
 use Rattle.std.proofs.lemmas.Bool.Decides.{nat_tests}
 use Rattle.ip_wire.specs.Octets.{u16_at}
 use Rattle.ip_wire.specs.Ipv6Packet.{address_at}
-use Rattle.net_base.specs.declared.bucket.Bucket.{Bucket}
-use Rattle.ip_address.specs.Ip.{is_unspecified}
 use Rattle.ip_address.specs.EthernetAddress.{is_same as is_same_hardware}
 use Rattle.ip_address.specs.declared.cidr.IpCidr.{IpCidr}
 use Rattle.ip_address.specs.declared.ethernet_address.EthernetAddress.{EthernetAddress}
@@ -14,59 +12,36 @@ use Rattle.ip_address.specs.declared.hardware.HardwareAddress.{HardwareAddress}
 use Rattle.ip_address.specs.declared.ip.IpAddress.{IpAddress}
 use Rattle.ip_address.specs.declared.ip.IpAddress.TheVariants.{Ipv4, Ipv6}
 use Rattle.sockets.specs.Source.{is_same}
-use Rattle.iface_tables.specs.Neighbor.{Neighbors}
 use Rattle.guard.specs.declared.guard.Guard.{Guard}
-use Rattle.guard.specs.declared.queries.Waits.{Waits}
-use Rattle.ip_address.specs.declared.protocol.IpVersion.TheVariants as version
 use Rattle.guard.specs.declared.guard.Reason.{Reason}
 use Rattle.guard.specs.declared.guard.Reason.TheVariants as reason
 use Rattle.guard.specs.declared.kind.Kind.{Kind}
-use Rattle.guard.specs.declared.kind.Kind.TheVariants.{Arp, Query, Packet, Other}
+use Rattle.guard.specs.declared.kind.Kind.TheVariants.{Arp, Packet, Other}
 use Rattle.guard.specs.declared.kind.Sort.{Sort}
 use Rattle.guard.specs.declared.kind.Sort.TheVariants.{Fragment, Loop, Transport, Plain}
 use Rattle.guard.specs.declared.pins.Pinned.{Pinned}
-use Rattle.guard.specs.Kind.{ipv4_at, is_all_systems, is_igmp_query, is_loop, is_transport, kind_at, kind_of, kind_of_ipv4, kind_of_ipv6, message_of}
-use Rattle.guard.specs.Kind.{octet_at, packet_to, sort_of_ipv4, sort_of_ipv6, target_at}
+use Rattle.guard.specs.Kind.{ipv4_at, is_loop, is_transport, kind_at, kind_of, kind_of_ipv6, message_of}
+use Rattle.guard.specs.Kind.{octet_at, packet_of_ipv6, sort_of_ipv4, sort_of_ipv6}
 use Rattle.guard.specs.Claim.{comes_back, hardware_at, is_from_host, tells_only}
 use Rattle.guard.specs.Pins.{forbids, is_forbidden}
-use Rattle.guard.specs.Guard.{after_judged, after_judging, after_kind, asks_for, asks_nobody, first_of, is_ordinary, is_ordinary_sort}
-use Rattle.guard.specs.Guard.{is_plain, is_returned, is_stolen, is_usual, judged, reason_of, reason_of_kind, refusal_of, refusal_of_claim}
-use Rattle.guard.specs.Guard.{refusal_of_packet, has_room, is_expected, is_known, is_near, is_own, reason_unless, was_asked}
-use Rattle.guard.specs.Laws.{Arrival, KnownArpPass, KnownPass, LoopsEnd, OwnAddressesStay, PinnedStay, after, passes}
+use Rattle.guard.specs.Guard.{first_of, is_ordinary, is_ordinary_sort, is_own, is_returned, is_stolen, reason_of, reason_of_kind}
+use Rattle.guard.specs.Guard.{refusal_of, refusal_of_claim, refusal_of_packet}
+use Rattle.guard.specs.Laws.{Arrival, ArpPasses, LoopsEnd, OwnAddressesStay, PacketsPass, PinnedStay, passes}
 
--- the one that four tests choose
-chosen : {A : Type 0} (short arp ip query : Bool) (a b c d e : A) → short ≡ false → arp ≡ false → ip ≡ true → query ≡ false →
-    (if short then a else if arp then b else if ip then (if query then c else d) else e) ≡ d
-chosen short arp ip query a b c d e s r i q = rw (s, r, i, q) refl
+-- the one that three tests choose
+chosen : {A : Type 0} (short arp ip : Bool) (a b c d : A) → short ≡ false → arp ≡ false → ip ≡ true →
+    (if short then a else if arp then b else if ip then c else d) ≡ c
+chosen short arp ip a b c d s r i = rw (s, r, i) refl
 
-kind_is : (frame : List ℕ) → 42 ≤ length frame → u16_at frame 12 ≡ 0x0800 → octet_at frame 23 ≢ 2 →
-    kind_of frame ≡ Packet (ipv4_at frame 26) (ipv4_at frame 30) (sort_of_ipv4 frame)
-kind_is frame long type other =
+kind_is : (frame : List ℕ) → 42 ≤ length frame → u16_at frame 12 ≡ 0x0800 →
+    kind_of frame ≡ Packet (ipv4_at frame 26) (sort_of_ipv4 frame)
+kind_is frame long type =
     let s : nat_lt (length frame) 42 ≡ false = grind (arith, nat_tests) in
     let r : (u16_at frame 12 == 0x0806) ≡ false = rw type refl in
     let i : (u16_at frame 12 == 0x0800) ≡ true = rw type refl in
-    let p : (octet_at frame 23 == 2) ≡ false = grind (arith, nat_tests) in
-    let q : is_igmp_query frame ≡ false = rw p refl in
-    chosen (nat_lt (length frame) 42) (u16_at frame 12 == 0x0806) (u16_at frame 12 == 0x0800) (is_igmp_query frame) Other
-    (Arp (ipv4_at frame 28) (ipv4_at frame 38)) (Query version.Ipv4 (is_all_systems frame (18 + octet_at frame 14 % 16 * 4))) (Packet (ipv4_at frame 26) (ipv4_at frame 30) (sort_of_ipv4 frame))
-    (if u16_at frame 12 == 0x86dd then kind_of_ipv6 frame else Other) s r i q
-
--- the host wouldn't have to ask
-needs_none : (plain near mine known : Bool) → (known ≡ true) ⊎ (near ≡ false) ⊎ (mine ≡ false) ⊎ (plain ≡ false) →
-    (not (plain && near && mine) || known) ≡ true
-needs_none false near mine known or = refl
-needs_none true false mine known or = refl
-needs_none true true false known or = refl
-needs_none true true true true or = refl
-needs_none true true true false (inl e) = absurd cc
-needs_none true true true false (inr (inl e)) = absurd cc
-needs_none true true true false (inr (inr (inl e))) = absurd cc
-needs_none true true true false (inr (inr (inr e))) = absurd cc
-
--- what isn't refused, and is free, passes and takes nothing
-pub free_passes : (refusal : Option Reason) (free : Bool) → refusal ≡ None → free ≡ true → (now : ℕ) (b : Bucket) (why : Reason) →
-    (is_none (judged refusal free now b why) ≡ true) × (after_judged refusal free now b ≡ b)
-free_passes refusal free r f now b why = rw (r, f) (refl, refl)
+    chosen (nat_lt (length frame) 42) (u16_at frame 12 == 0x0806) (u16_at frame 12 == 0x0800) Other
+    (Arp (ipv4_at frame 28)) (Packet (ipv4_at frame 26) (sort_of_ipv4 frame))
+    (if u16_at frame 12 == 0x86dd then kind_of_ipv6 frame else Other) s r i
 
 -- a message of the host, or one that claims nothing of it, isn't stolen
 pub not_stolen : (keeps claimed mine : Bool) → (claimed ≡ false) ⊎ (mine ≡ true) → (keeps && claimed && not mine) ≡ false
@@ -80,62 +55,31 @@ pub refused_by_none : (stolen : Bool) (other : Option Reason) (why : Reason) →
     first_of (if stolen then Some why else None) other ≡ None
 refused_by_none stolen other why s o = rw (s, o) refl
 
-pub known_passes : KnownPass
-known_passes a g long type other free own or =
+pub packets_pass : PacketsPass
+packets_pass a g long type free own =
     let sender = ipv4_at a.frame 26 in
-    let target = ipv4_at a.frame 30 in
-    let sort = sort_of_ipv4 a.frame in
-    let needs : asks_nobody (pos a.at) sender target sort a.own a.known ≡ true = needs_none (is_plain sort)
-    (is_near a.own sender) (is_own a.own target) (is_known a.known sender (pos a.at)) or in
-    let refusal : refusal_of_packet sender sort a.hardware a.frame a.own g ≡ None =
+    let refusal : refusal_of_packet sender (sort_of_ipv4 a.frame) a.hardware a.frame a.own g ≡ None =
     refused_by_none (is_stolen (is_own a.own sender) (comes_back a.hardware a.frame) g)
-    (refusal_of (is_returned sender a.hardware a.frame a.own) sort g) reason.OwnSource
+    (refusal_of (is_returned sender a.hardware a.frame a.own) (sort_of_ipv4 a.frame) g) reason.OwnSource
     (not_stolen g.keeps_own_addresses (is_own a.own sender) (comes_back a.hardware a.frame) own) free in
-    let passes = free_passes (refusal_of_packet sender sort a.hardware a.frame a.own g)
-    (asks_nobody (pos a.at) sender target sort a.own a.known) refusal needs a.at g.discoveries reason.Discovery in
-    rw (kind_is a.frame long type other) (passes.0, ap (λ (b : Bucket). record g { discoveries = b }) passes.1)
+    rw (kind_is a.frame long type, refusal) refl
 
 -- likewise an ARP packet
-arp_is : (frame : List ℕ) → 42 ≤ length frame → u16_at frame 12 ≡ 0x0806 → kind_of frame ≡ Arp (ipv4_at frame 28) (ipv4_at frame 38)
+arp_is : (frame : List ℕ) → 42 ≤ length frame → u16_at frame 12 ≡ 0x0806 → kind_of frame ≡ Arp (ipv4_at frame 28)
 arp_is frame long type =
     let s : nat_lt (length frame) 42 ≡ false = grind (arith, nat_tests) in
     let r : (u16_at frame 12 == 0x0806) ≡ true = rw type refl in
     rw (s, r) refl
 
-pub expected_if : (unspecified known asked : Bool) → known ≡ true → (unspecified || known || asked) ≡ true
-expected_if true known asked e = refl
-expected_if false known asked e = rw e refl
-
-needs_no_token : (mine expected : Bool) → (expected ≡ true) ⊎ (mine ≡ false) → (not mine || expected) ≡ true
-needs_no_token false expected or = refl
-needs_no_token true true or = refl
-needs_no_token true false (inl e) = absurd cc
-needs_no_token true false (inr e) = absurd cc
-
-pub known_arp_passes : KnownArpPass
-known_arp_passes a g long type own pinned or =
+pub arp_passes : ArpPasses
+arp_passes a g long type own pinned =
     let sender = ipv4_at a.frame 28 in
-    let target = ipv4_at a.frame 38 in
-    let needs : is_usual (pos a.at) sender target a.own a.known g ≡ true = needs_no_token (is_own a.own target)
-    (is_expected (pos a.at) sender a.known g) (by or) in
     let none : (if is_forbidden sender a.frame g.pins then Some reason.Pinned else None) ≡ None = rw pinned refl in
     let refusal : refusal_of_claim (is_own a.own sender) sender a.hardware a.frame g ≡ None =
     refused_by_none (is_stolen (is_own a.own sender) (is_from_host a.hardware a.frame) g)
     (if is_forbidden sender a.frame g.pins then Some reason.Pinned else None) reason.OwnAddress
     (not_stolen g.keeps_own_addresses (is_own a.own sender) (is_from_host a.hardware a.frame) own) none in
-    let passes = free_passes (refusal_of_claim (is_own a.own sender) sender a.hardware a.frame g)
-    (is_usual (pos a.at) sender target a.own a.known g) refusal needs a.at g.neighbors reason.NewNeighbor in
-    rw (arp_is a.frame long type) (passes.0, ap (λ (b : Bucket). record g { neighbors = b }) passes.1) where
-      by : (is_known a.known (ipv4_at a.frame 28) (pos a.at) ≡ true) ⊎ (is_own a.own (ipv4_at a.frame 38) ≡ false) →
-          (is_expected (pos a.at) (ipv4_at a.frame 28) a.known g ≡ true) ⊎ (is_own a.own (ipv4_at a.frame 38) ≡ false)
-      by (inl e) = inl (expected_if (is_unspecified (ipv4_at a.frame 28)) (is_known a.known (ipv4_at a.frame 28) (pos a.at))
-          (was_asked (pos a.at) (ipv4_at a.frame 28) g.asked) e)
-      by (inr other) = inr other
-
--- what is refused doesn't pass, and takes nothing
-pub refused_stays : (why : Reason) (refusal : Option Reason) (free : Bool) → refusal ≡ Some why → (now : ℕ) (b : Bucket) (other : Reason) →
-    (is_none (judged refusal free now b other) ≡ false) × (after_judged refusal free now b ≡ b)
-refused_stays why refusal free r now b other = rw r (refl, refl)
+    rw (arp_is a.frame long type, refusal) refl
 
 pub stolen_by : (keeps claimed mine : Bool) → keeps ≡ true → claimed ≡ true → mine ≡ false → (other : Option Reason) (why : Reason) →
     first_of (if keeps && claimed && not mine then Some why else None) other ≡ Some why
@@ -144,13 +88,10 @@ stolen_by keeps claimed mine k c m other why = rw (k, c, m) refl
 pub own_addresses_stay : OwnAddressesStay
 own_addresses_stay a g keeps long type claimed other =
     let sender = ipv4_at a.frame 28 in
-    let target = ipv4_at a.frame 38 in
     let refusal : refusal_of_claim (is_own a.own sender) sender a.hardware a.frame g ≡ Some reason.OwnAddress =
     stolen_by g.keeps_own_addresses (is_own a.own sender) (is_from_host a.hardware a.frame) keeps claimed other
     (if is_forbidden sender a.frame g.pins then Some reason.Pinned else None) reason.OwnAddress in
-    let stays = refused_stays reason.OwnAddress (refusal_of_claim (is_own a.own sender) sender a.hardware a.frame g)
-    (is_usual (pos a.at) sender target a.own a.known g) refusal a.at g.neighbors reason.NewNeighbor in
-    rw (arp_is a.frame long type) (stays.0, ap (λ (b : Bucket). record g { neighbors = b }) stays.1)
+    rw (arp_is a.frame long type, refusal) refl
 
 -- an address is the same as itself
 pub same_refl : (a : IpAddress) → is_same a a ≡ true
@@ -187,14 +128,11 @@ pinned_by false forbidden f why = (reason.Pinned, rw f refl)
 pub pinned_stay : PinnedStay
 pinned_stay a g h k long type there other =
     let sender = ipv4_at a.frame 28 in
-    let target = ipv4_at a.frame 38 in
     let elsewhere : tells_only h a.frame ≡ false = tells_by_arp h a.frame long type ∙ other in
     let forbidden : is_forbidden sender a.frame g.pins ≡ true = any_forbids sender a.frame h g.pins.pairs k there elsewhere in
     let refusal = pinned_by (is_stolen (is_own a.own sender) (is_from_host a.hardware a.frame) g) (is_forbidden sender a.frame g.pins)
     forbidden reason.OwnAddress in
-    let stays = refused_stays refusal.0 (refusal_of_claim (is_own a.own sender) sender a.hardware a.frame g)
-    (is_usual (pos a.at) sender target a.own a.known g) refusal.1 a.at g.neighbors reason.NewNeighbor in
-    rw (arp_is a.frame long type) (stays.0, ap (λ (b : Bucket). record g { neighbors = b }) stays.1)
+    rw (arp_is a.frame long type, refusal.1) refl
 
 -- a datagram that goes to and fro is refused, by its source or as such
 pub looping : (stolen drops returned : Bool) → drops ≡ true → returned ≡ false → (why : Reason) →
@@ -203,25 +141,18 @@ looping true drops returned d t why = (why, refl)
 looping false drops returned d t why = (reason.Loop, rw (d, t) refl)
 
 pub loops_end : LoopsEnd
-loops_end a g drops long type other sort returned =
+loops_end a g drops long type sort returned =
     let sender = ipv4_at a.frame 26 in
-    let target = ipv4_at a.frame 30 in
     let refusal = looping (is_stolen (is_own a.own sender) (comes_back a.hardware a.frame) g) g.drops_loops
     (is_returned sender a.hardware a.frame a.own) drops returned reason.OwnSource in
-    let stays = refused_stays refusal.0 (refusal_of_packet sender Loop a.hardware a.frame a.own g)
-    (asks_nobody (pos a.at) sender target Loop a.own a.known) refusal.1 a.at g.discoveries reason.Discovery in
-    rw (kind_is a.frame long type other) (rw sort (stays.0, ap (λ (b : Bucket). record g { discoveries = b }) stays.1))
+    rw (kind_is a.frame long type, sort, refusal.1) refl
 
 -- a datagram or a segment from another address than the host's
-transport : (now : ℤ) (sender target : IpAddress) (hardware : Option HardwareAddress) (frame : List ℕ) (own : List IpCidr)
-    (known : Neighbors) (waits : Waits) (g : Guard) → is_own own sender ≡ false →
-    (reason_of_kind now (Packet sender target Transport) hardware frame own known waits g ≡ None)
-    × (after_kind now (Packet sender target Transport) hardware frame own known waits g ≡ g)
-transport now sender target hardware frame own known waits g free =
-    let refusal : refusal_of_packet sender Transport hardware frame own g ≡ None =
+transport : (sender : IpAddress) (hardware : Option HardwareAddress) (frame : List ℕ) (own : List IpCidr) (g : Guard) →
+    is_own own sender ≡ false → reason_of_kind (Packet sender Transport) hardware frame own g ≡ None
+transport sender hardware frame own g free =
     refused_by_none (is_stolen (is_own own sender) (comes_back hardware frame) g) None reason.OwnSource
-    (not_stolen g.keeps_own_addresses (is_own own sender) (comes_back hardware frame) (inl free)) refl in
-    rw refusal (refl, refl)
+    (not_stolen g.keeps_own_addresses (is_own own sender) (comes_back hardware frame) (inl free)) refl
 
 is_transport_sort : (s : Sort) → is_ordinary_sort s ≡ true → s ≡ Transport
 is_transport_sort Fragment e = absurd cc
@@ -273,31 +204,27 @@ kind_v6 frame long type =
     let i : (u16_at frame 12 == 0x0800) ≡ false = rw type refl in
     let x : (u16_at frame 12 == 0x86dd) ≡ true = rw type refl in
     chosen_v6 (nat_lt (length frame) 42) (u16_at frame 12 == 0x0806) (u16_at frame 12 == 0x0800) (u16_at frame 12 == 0x86dd) Other
-    (Arp (ipv4_at frame 28) (ipv4_at frame 38)) (kind_of_ipv4 frame) (kind_of_ipv6 frame) Other s r i x
+    (Arp (ipv4_at frame 28)) (Packet (ipv4_at frame 26) (sort_of_ipv4 frame)) (kind_of_ipv6 frame) Other s r i x
 
 packet_v6 : (frame : List ℕ) (message : Option ℕ) (sort : Sort) → message ≡ None → sort ≡ Transport → sort_of_ipv6 frame ≡ sort →
-    kind_at message (Ipv6 (address_at frame 22)) frame ≡ packet_to (target_at frame 38) (Ipv6 (address_at frame 22)) Transport
+    kind_at message (Ipv6 (address_at frame 22)) frame ≡ packet_of_ipv6 (Ipv6 (address_at frame 22)) frame Transport
 packet_v6 frame message sort m t is = rw (m, is, t) refl
 
-module _ (now : ℤ) (frame : List ℕ) (hardware : Option HardwareAddress) (own : List IpCidr) (known : Neighbors) (waits : Waits) (g : Guard) where
+module _ (frame : List ℕ) (hardware : Option HardwareAddress) (own : List IpCidr) (g : Guard) where
   abbrev PassesAt : Kind → Type 0
-  PassesAt kind = (reason_of_kind now kind hardware frame own known waits g ≡ None) × (after_kind now kind hardware frame own known waits g ≡ g)
+  PassesAt kind = reason_of_kind kind hardware frame own g ≡ None
 
   ordinary_v4 : 42 ≤ length frame → u16_at frame 12 ≡ 0x0800 →
       (is_ordinary_sort (sort_of_ipv4 frame) && not (is_own own (ipv4_at frame 26))) ≡ true → PassesAt (kind_of frame)
   ordinary_v4 long type is =
       let parts = both (is_ordinary_sort (sort_of_ipv4 frame)) (not (is_own own (ipv4_at frame 26))) is in
       let sort = is_transport_sort (sort_of_ipv4 frame) parts.0 in
-      let protocol = by_protocol (not (u16_at frame 20 % 0x4000 == 0)) ((octet_at frame 23 == 17) && is_loop frame (14 + octet_at frame 14 % 16 * 4))
-      (is_transport (octet_at frame 23)) sort in
-      let one = which (octet_at frame 23) (octet_at frame 23 == 6) (octet_at frame 23 == 17) refl refl protocol in
-      rw (kind_is frame long type (other_protocol (octet_at frame 23) 2 one (λ e. absurd cc) (λ e. absurd cc)))
-      (rw sort (transport now (ipv4_at frame 26) (ipv4_at frame 30) hardware frame own known waits g
+      rw (kind_is frame long type) (rw sort (transport (ipv4_at frame 26) hardware frame own g
       (not_true (is_own own (ipv4_at frame 26)) parts.1)))
 
-  by_target : (target : Option IpAddress) (sender : IpAddress) → is_own own sender ≡ false → PassesAt (packet_to target sender Transport)
-  by_target None sender free = (refl, refl)
-  by_target (Some target) sender free = transport now sender target hardware frame own known waits g free
+  by_length : (short : Bool) (sender : IpAddress) → is_own own sender ≡ false → PassesAt (if short then Other else Packet sender Transport)
+  by_length true sender free = refl
+  by_length false sender free = transport sender hardware frame own g free
 
   ordinary_v6 : 42 ≤ length frame → u16_at frame 12 ≡ 0x86dd →
       (is_ordinary_sort (sort_of_ipv6 frame) && not (is_own own (Ipv6 (address_at frame 22)))) ≡ true → PassesAt (kind_of frame)
@@ -309,9 +236,9 @@ module _ (now : ℤ) (frame : List ℕ) (hardware : Option HardwareAddress) (own
       let none : message_of frame ≡ None = no_message (octet_at frame 20) (octet_at frame 54) (62 + octet_at frame 55 * 8)
       (other_protocol (octet_at frame 20) 58 one (λ e. absurd cc) (λ e. absurd cc))
       (other_protocol (octet_at frame 20) 0 one (λ e. absurd cc) (λ e. absurd cc)) in
-      let kind : kind_of frame ≡ packet_to (target_at frame 38) (Ipv6 (address_at frame 22)) Transport =
+      let kind : kind_of frame ≡ packet_of_ipv6 (Ipv6 (address_at frame 22)) frame Transport =
       kind_v6 frame long type ∙ packet_v6 frame (message_of frame) (sort_of_ipv6 frame) none sort refl in
-      rw kind (by_target (target_at frame 38) (Ipv6 (address_at frame 22)) (not_true (is_own own (Ipv6 (address_at frame 22))) parts.1))
+      rw kind (by_length (nat_lt (length frame) 54) (Ipv6 (address_at frame 22)) (not_true (is_own own (Ipv6 (address_at frame 22))) parts.1))
 
   ordinary : is_ordinary frame own ≡ true → PassesAt (kind_of frame)
   ordinary is = by (nat_lt (length frame) 42) (u16_at frame 12 == 0x0800) (u16_at frame 12 == 0x86dd) refl refl refl is where
@@ -325,11 +252,7 @@ module _ (now : ℤ) (frame : List ℕ) (hardware : Option HardwareAddress) (own
     by false false true s four six e = ordinary_v6 (grind (arith, nat_tests)) (grind (arith, nat_tests)) e
     by false false false s four six e = absurd cc
 
--- an ordinary frame passes, and changes nothing
-pub ordinary_reason : (now : ℤ) (frame : List ℕ) (hardware : Option HardwareAddress) (own : List IpCidr) (known : Neighbors) (waits : Waits) (g : Guard) →
-    is_ordinary frame own ≡ true → None ≡ reason_of now frame hardware own known waits g
-ordinary_reason now frame hardware own known waits g is = sym (ordinary now frame hardware own known waits g is).0
-
-pub ordinary_after : (now : ℤ) (frame : List ℕ) (hardware : Option HardwareAddress) (own : List IpCidr) (known : Neighbors) (waits : Waits) (g : Guard) →
-    is_ordinary frame own ≡ true → g ≡ after_judging now frame hardware own known waits g
-ordinary_after now frame hardware own known waits g is = sym (ordinary now frame hardware own known waits g is).1
+-- an ordinary frame passes
+pub ordinary_reason : (frame : List ℕ) (hardware : Option HardwareAddress) (own : List IpCidr) (g : Guard) →
+    is_ordinary frame own ≡ true → None ≡ reason_of frame hardware own g
+ordinary_reason frame hardware own g is = sym (ordinary frame hardware own g is)

@@ -8,15 +8,15 @@ use Rattle.guard.specs.GuardedDevice.Laws.{AreOf, Dropped, End, Kept, Left, None
 pub pass_in_order : PassInOrder
 pass_in_order w w' arrived seen (None v) = End
 pass_in_order w w' arrived seen (Passed v v' a later rest admitted sees) =
-    Kept a.frame rest (frames_of later) (pass_in_order (after_arrival (pos a.at) a.frame a.hardware a.own a.known a.waits v) v' later rest sees)
+    Kept a.frame rest (frames_of later) (pass_in_order (after_arrival (pos a.at) a.frame a.hardware a.own v) v' later rest sees)
 pass_in_order w w' arrived seen (Dropped v v' a later rest dropped sees) =
-    Left a.frame rest (frames_of later) (pass_in_order (after_arrival (pos a.at) a.frame a.hardware a.own a.known a.waits v) v' later rest sees)
+    Left a.frame rest (frames_of later) (pass_in_order (after_arrival (pos a.at) a.frame a.hardware a.own v) v' later rest sees)
 
 -- a guard that is off admits a frame, and stays
-admits_off : (w : Watch) (a : Arrival) → w.is_on ≡ false → admits (pos a.at) a.frame a.hardware a.own a.known a.waits w ≡ true
+admits_off : (w : Watch) (a : Arrival) → w.is_on ≡ false → admits a.frame a.hardware a.own w ≡ true
 admits_off w a off = rw off refl
 
-stays_off : (w : Watch) (a : Arrival) → w.is_on ≡ false → after_arrival (pos a.at) a.frame a.hardware a.own a.known a.waits w ≡ w
+stays_off : (w : Watch) (a : Arrival) → w.is_on ≡ false → after_arrival (pos a.at) a.frame a.hardware a.own w ≡ w
 stays_off w a off = rw off refl
 
 off_by : (v w w' : Watch) (arrived : List Arrival) (seen : List (List ℕ)) → w.is_on ≡ false → v ≡ w → Sees v arrived seen w' →
@@ -24,7 +24,7 @@ off_by : (v w w' : Watch) (arrived : List Arrival) (seen : List (List ℕ)) → 
 off_by v w w' arrived seen off same (None u) = (refl, same)
 off_by v w w' arrived seen off same (Passed u u' a later rest admitted sees) =
     let is_off : u.is_on ≡ false = ap (λ (x : Watch). x.is_on) same ∙ off in
-    let kept = off_by (after_arrival (pos a.at) a.frame a.hardware a.own a.known a.waits u) w u' later rest off (stays_off u a is_off ∙ same) sees in
+    let kept = off_by (after_arrival (pos a.at) a.frame a.hardware a.own u) w u' later rest off (stays_off u a is_off ∙ same) sees in
     (ap (λ (l : List (List ℕ)). a.frame ∷ l) kept.0, kept.1)
 off_by v w w' arrived seen off same (Dropped u u' a later rest dropped sees) =
     let admitted = admits_off u a (ap (λ (x : Watch). x.is_on) same ∙ off) in absurd cc

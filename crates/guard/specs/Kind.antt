@@ -3,10 +3,9 @@ use Rattle.std.specs.Prelude.{ℕ, ◌+◌, ◌*◌, ◌%◌, nat_lt, ◌==◌, 
 use Rattle.ip_wire.specs.Octets.{u16_at, u32_at}
 use Rattle.ip_address.specs.declared.ip.IpAddress.{IpAddress}
 use Rattle.ip_address.specs.declared.ip.IpAddress.TheVariants.{Ipv4, Ipv6}
-use Rattle.ip_address.specs.declared.protocol.IpVersion.TheVariants as version
 use Rattle.ip_wire.specs.Ipv6Packet.{address_at}
 use Rattle.guard.specs.declared.kind.Kind.{Kind}
-use Rattle.guard.specs.declared.kind.Kind.TheVariants.{Arp, Neighbor, Query, Router, Packet, Other}
+use Rattle.guard.specs.declared.kind.Kind.TheVariants.{Arp, Neighbor, Packet, Other}
 use Rattle.guard.specs.declared.kind.Sort.{Sort}
 use Rattle.guard.specs.declared.kind.Sort.TheVariants.{Fragment, Loop, Transport, Plain}
 
@@ -16,21 +15,6 @@ octet_at frame at = get_or frame at 0
 
 abbrev pub ipv4_at : List ℕ → ℕ → IpAddress
 ipv4_at frame at = Ipv4 (record { bits = u32_at frame at })
-
--- a query of IGMP: protocol 2, and behind the header the type 0x11 (RFC 2236 2)
-abbrev pub is_igmp_query : List ℕ → Bool
-is_igmp_query frame = (octet_at frame 23 == 2) && (octet_at frame (14 + octet_at frame 14 % 16 * 4) == 0x11)
-
--- the group of all hosts, 224.0.0.1, which no host reports (RFC 2236 6)
-abbrev pub is_all_systems : List ℕ → ℕ → Bool
-is_all_systems frame at =
-    (octet_at frame at == 224) && (octet_at frame (at + 1) == 0) && (octet_at frame (at + 2) == 0) && (octet_at frame (at + 3) == 1)
-
--- that of all nodes, ff02::1, which no node reports (RFC 3810 6)
-abbrev pub is_all_nodes : Option IpAddress → Bool
-is_all_nodes None = false
-is_all_nodes (Some (Ipv4 a)) = false
-is_all_nodes (Some (Ipv6 a)) = a.bits == 0xff020000000000000000000000000001
 
 -- echo, daytime, quote and chargen (RFC 862, 867, 865, 864)
 abbrev pub is_small_service : ℕ → Bool
@@ -60,11 +44,6 @@ sort_of_ipv6 frame =
     else if is_transport (octet_at frame 20) then Transport
     else Plain
 
-abbrev pub kind_of_ipv4 : List ℕ → Kind
-kind_of_ipv4 frame =
-    if is_igmp_query frame then Query version.Ipv4 (is_all_systems frame (18 + octet_at frame 14 % 16 * 4))
-    else Packet (ipv4_at frame 26) (ipv4_at frame 30) (sort_of_ipv4 frame)
-
 -- where a message of ICMPv6 is: next header 58, or that behind a header of hop-by-hop options (RFC 8200 4.3)
 abbrev pub message_of : List ℕ → Option ℕ
 message_of frame =
@@ -75,20 +54,14 @@ message_of frame =
 abbrev pub target_at : List ℕ → ℕ → Option IpAddress
 target_at frame at = if nat_lt (length frame) (at + 16) then None else Some (Ipv6 (address_at frame at))
 
--- one that is cut off before its destination is nothing to a guard
-abbrev pub packet_to : Option IpAddress → (sender : IpAddress) → Sort → Kind
-packet_to None sender sort = Other
-packet_to (Some target) sender sort = Packet sender target sort
-
+-- one that is cut off before the end of its header is nothing to a guard
 abbrev pub packet_of_ipv6 : (sender : IpAddress) → List ℕ → Sort → Kind
-packet_of_ipv6 sender frame sort = packet_to (target_at frame 38) sender sort
+packet_of_ipv6 sender frame sort = if nat_lt (length frame) 54 then Other else Packet sender sort
 
--- by its type (RFC 3810 5.1; RFC 4861 4.2, 4.3, 4.4)
+-- by its type (RFC 4861 4.3, 4.4)
 abbrev pub kind_of_message : (type at : ℕ) → (sender : IpAddress) → List ℕ → Kind
 kind_of_message type at sender frame =
-    if type == 130 then Query version.Ipv6 (is_all_nodes (target_at frame (at + 8)))
-    else if type == 134 then Router sender
-    else if type == 135 then Neighbor sender None
+    if type == 135 then Neighbor sender None
     else if type == 136 then Neighbor sender (target_at frame (at + 8))
     else packet_of_ipv6 sender frame Plain
 
@@ -103,8 +76,8 @@ kind_of_ipv6 frame = kind_at (message_of frame) (Ipv6 (address_at frame 22)) fra
 abbrev pub kind_of : List ℕ → Kind
 kind_of frame =
     if nat_lt (length frame) 42 then Other
-    else if u16_at frame 12 == 0x0806 then Arp (ipv4_at frame 28) (ipv4_at frame 38)
-    else if u16_at frame 12 == 0x0800 then kind_of_ipv4 frame
+    else if u16_at frame 12 == 0x0806 then Arp (ipv4_at frame 28)
+    else if u16_at frame 12 == 0x0800 then Packet (ipv4_at frame 26) (sort_of_ipv4 frame)
     else if u16_at frame 12 == 0x86dd then kind_of_ipv6 frame
     else Other
 

@@ -1,8 +1,9 @@
 pub mod Kind
 pub mod Claim
 pub mod Pins
-pub mod Queries
+pub mod Reports
 pub mod Guard
+pub mod Strangers
 pub mod Defence
 pub mod Answers
 pub mod Laws

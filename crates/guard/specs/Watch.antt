@@ -1,10 +1,9 @@
 -- A guard on its post: what it drops is counted by the reason, and who claims an own address is told.
-use Rattle.std.specs.Prelude.{ℕ, ◌+◌, ◌-◌, ◌^◌, ◌==◌, ℤ, is_none, Bool, true, List, length, Option, Some, None, if◌then◌else◌}
+use Rattle.std.specs.Prelude.{ℕ, ◌+◌, ◌-◌, ◌^◌, ◌==◌, ℤ, is_none, Bool, true, false, List, length, Option, Some, None, if◌then◌else◌}
 use Rattle.ip_address.specs.declared.ethernet_address.EthernetAddress.{EthernetAddress}
 use Rattle.ip_address.specs.declared.cidr.IpCidr.{IpCidr}
 use Rattle.ip_address.specs.declared.ip.IpAddress.{IpAddress}
 use Rattle.ip_address.specs.declared.hardware.HardwareAddress.{HardwareAddress}
-use Rattle.iface_tables.specs.Neighbor.{Neighbors}
 use Rattle.guard.specs.declared.answers.Answer.{Answer}
 use Rattle.guard.specs.declared.answers.Answer.TheVariants.{EchoReply, Error, Reset}
 use Rattle.guard.specs.declared.guard.Reason.{Reason}
@@ -13,13 +12,12 @@ use Rattle.guard.specs.declared.watch.Conflict.{Conflict}
 use Rattle.guard.specs.declared.watch.Counts.{Counts}
 use Rattle.guard.specs.declared.watch.Watch.{Watch}
 use Rattle.guard.specs.Answers.{after_answer, answer_of, new_answers, refused}
-use Rattle.guard.specs.Guard.{after_asking, after_judging, micros, new_guard, reason_of}
+use Rattle.guard.specs.Guard.{after_asking, micros, new_guard, reason_of}
 use Rattle.guard.specs.Kind.{asked_in}
 use Rattle.guard.specs.Claim.{hardware_at}
 use Rattle.guard.specs.Pins as pins
 use Rattle.guard.specs.Defence.{after_claim, after_taking, no_defence}
 use Rattle.guard.specs.declared.defence.Defence.{Defence}
-use Rattle.guard.specs.declared.queries.Waits.{Waits}
 
 -- one more, up to the greatest number of 64 bits
 abbrev pub one_more : ℕ → ℕ
@@ -30,11 +28,6 @@ no_drops = record {
   own_address = 0;
   own_source = 0;
   pinned = 0;
-  new_neighbor = 0;
-  discovery = 0;
-  query = 0;
-  delay = 0;
-  router = 0;
   fragment = 0;
   loops = 0;
   echo_reply = 0;
@@ -58,11 +51,6 @@ abbrev pub after_drop : Reason → Counts → Counts
 after_drop reason.OwnAddress c = record c { own_address = one_more c.own_address }
 after_drop reason.OwnSource c = record c { own_source = one_more c.own_source }
 after_drop reason.Pinned c = record c { pinned = one_more c.pinned }
-after_drop reason.NewNeighbor c = record c { new_neighbor = one_more c.new_neighbor }
-after_drop reason.Discovery c = record c { discovery = one_more c.discovery }
-after_drop reason.Query c = record c { query = one_more c.query }
-after_drop reason.Delay c = record c { delay = one_more c.delay }
-after_drop reason.Router c = record c { router = one_more c.router }
 after_drop reason.Fragment c = record c { fragment = one_more c.fragment }
 after_drop reason.Loop c = record c { loops = one_more c.loops }
 
@@ -105,19 +93,14 @@ after_reason now frame None w = w
 after_reason now frame (Some why) w = after_report now frame why w
 
 -- why the host doesn't get to see a frame
-abbrev pub reason_for : ℤ → List ℕ → Option HardwareAddress → List IpCidr → Neighbors → Waits → Watch → Option Reason
-reason_for now frame hardware own known waits w = if w.is_on then reason_of now frame hardware own known waits w.guard else None
+abbrev pub reason_for : List ℕ → Option HardwareAddress → List IpCidr → Watch → Option Reason
+reason_for frame hardware own w = if w.is_on then reason_of frame hardware own w.guard else None
 
-abbrev pub admits : ℤ → List ℕ → Option HardwareAddress → List IpCidr → Neighbors → Waits → Watch → Bool
-admits now frame hardware own known waits w = is_none (reason_for now frame hardware own known waits w)
+abbrev pub admits : List ℕ → Option HardwareAddress → List IpCidr → Watch → Bool
+admits frame hardware own w = is_none (reason_for frame hardware own w)
 
-abbrev pub with_judging : ℤ → List ℕ → Option HardwareAddress → List IpCidr → Neighbors → Waits → Watch → Watch
-with_judging now frame hardware own known waits w = record w { guard = after_judging now frame hardware own known waits w.guard }
-
-abbrev pub after_arrival : ℤ → List ℕ → Option HardwareAddress → List IpCidr → Neighbors → Waits → Watch → Watch
-after_arrival now frame hardware own known waits w =
-    if w.is_on then after_reason now frame (reason_of now frame hardware own known waits w.guard)
-    (with_judging now frame hardware own known waits w) else w
+abbrev pub after_arrival : ℤ → List ℕ → Option HardwareAddress → List IpCidr → Watch → Watch
+after_arrival now frame hardware own w = after_reason now frame (reason_for frame hardware own w) w
 
 -- why an answer to a frame of so many octets is held back
 abbrev pub refused_by : ℤ → List ℕ → (answered : ℕ) → Watch → Option Answer
@@ -134,7 +117,7 @@ after_refusal (Some answer) c = after_holding answer c
 abbrev pub after_response : ℤ → List ℕ → (answered : ℕ) → Watch → Watch
 after_response now frame answered w =
     if w.is_on then record w {
-      guard = after_asking now (asked_in frame) w.guard;
+      guard = after_asking now (asked_in frame) true w.guard;
       answers = after_answer (micros now) (answer_of frame) answered (length frame) w.answers;
       counts = after_refusal (refused_by now frame answered w) w.counts;
     }
@@ -142,7 +125,7 @@ after_response now frame answered w =
 
 -- another frame was sent
 abbrev pub after_sending : ℤ → List ℕ → Watch → Watch
-after_sending now frame w = if w.is_on then record w { guard = after_asking now (asked_in frame) w.guard } else w
+after_sending now frame w = if w.is_on then record w { guard = after_asking now (asked_in frame) false w.guard } else w
 
 -- what was owed is announced
 abbrev pub after_defence : Watch → Watch

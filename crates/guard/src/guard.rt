@@ -1,5 +1,7 @@
 //! Which frames a host gets to see.
 ghost use Rattle.std.specs.Prelude.{◌≡◌, None};
+ghost use Rattle.std.specs.FinMap as map;
+ghost use Rattle.iface_tables.specs.Neighbor.{is_later};
 ghost use Rattle.net_base.specs.Time.{IsMoment};
 ghost use Rattle.ip_address.specs.Cidr.{address_of};
 ghost use Rattle.sockets.specs.Source.{is_same};
@@ -9,16 +11,15 @@ ghost use Rattle.guard.specs.Kind as kind;
 use crate::claim::{comes_back, is_from_host};
 use crate::kind::{Kind, Sort, asked_in, kind_of, sort_of_ipv4, sort_of_ipv6};
 use crate::pins::Pins;
-use crate::queries::{Delays, Waits};
 use iface_tables::neighbor::Cache;
-use ip_address::{HardwareAddress, IpAddress, IpCidr, IpVersion, Ipv6Address};
+use ip_address::{HardwareAddress, IpAddress, IpCidr, Ipv6Address};
 use ip_wire::ipv6_packet::address_at;
 use ip_wire::octets::{u16_at, u32_at};
 use net_base::bucket::Bucket;
 use net_base::time::Instant;
 
 /// How long an answer to a request for a hardware address is expected, in microseconds.
-const ANSWER_TIME: u64 = 3_000_000;
+pub(crate) const ANSWER_TIME: u64 = 3_000_000;
 
 /// Why a frame is dropped.
 #[derive(Clone, Copy, Debug, PartialEq, Eq)]
@@ -30,34 +31,24 @@ pub enum Reason {
     OwnSource,
     /// An ARP packet or a neighbour message tells another hardware address of a pinned neighbour.
     Pinned,
-    /// An ARP packet for an own address or a neighbour message, of somebody that isn't known, beyond the rate of these.
-    NewNeighbor,
-    /// An IP packet to an own address, other than of UDP and TCP, from somebody of an own network that isn't known, for whose answer
-    /// the host would have to ask, beyond the rate of these.
-    Discovery,
-    /// A query of IGMP or MLD, beyond the rate of these, or about the group of all hosts, which is never reported.
-    Query,
-    /// A query of IGMP or MLD, by which an answer that waits would be put off once more than it may be.
-    Delay,
-    /// A router advertisement of another router than the one that was heard last, too early after it.
-    Router,
     /// A fragment of an IP packet.
     Fragment,
     /// A datagram of UDP from port 7, 13, 17 or 19 to a port below 1,024.
     Loop,
 }
 
-/// For whom the host asked, or which router it heard.
+/// A request for a hardware address that the host sent.
 #[derive(Clone, Copy, Debug, PartialEq, Eq)]
-pub struct Noted {
-    /// The address.
+pub struct Asked {
+    /// For whom it asked.
     pub address: IpAddress,
     /// When, in microseconds.
     pub at: u64,
+    /// Whether it was sent in response to a frame.
+    pub in_response: bool,
 }
 
-/// A guard: its rules, the neighbours that are pinned, and what it keeps: for whom the host asked last, and which router it heard
-/// last. A rate whose interval is 0 bounds nothing.
+/// A guard: its rules, the neighbours that are pinned, and for whom the host asked last.
 #[derive(Clone, Copy, Debug, PartialEq, Eq)]
 pub struct Guard {
     /// Whether what claims an own address for another hardware address is dropped, or is sent from one by another.
@@ -66,28 +57,23 @@ pub struct Guard {
     pub drops_fragments: bool,
     /// Whether datagrams are dropped that could go to and fro for ever.
     pub drops_loops: bool,
-    /// How many neighbours that aren't known may make themselves known.
-    pub neighbors: Bucket,
-    /// For how many packets of neighbours that aren't known the host may ask.
-    pub discoveries: Bucket,
-    /// How many queries the host gets to see. If that is bounded, those about the group of all hosts are dropped.
-    pub queries: Bucket,
-    /// How often an answer to a query may be put off, and how often it was.
-    pub delays: Delays,
-    /// How long another router isn't heard after one was let through, in microseconds; 0 bounds nothing.
-    pub router_time: u64,
+    /// How long a neighbour is known that isn't confirmed, in microseconds; 0: as long as any other.
+    pub strangers_stay: u32,
+    /// Whether sockets that wait for a neighbour and frames take turns in asking for one.
+    pub takes_turns: bool,
+    /// Whether an answer to a query that waits stays where a later query would only put it off.
+    pub keeps_reports: bool,
+    /// Whether an advertisement of which nothing is learnt leaves the neighbours.
+    pub keeps_neighbors: bool,
     /// The neighbours whose hardware address the program says.
     pub pins: Pins,
-    /// For whom the host asked last.
-    pub asked: Option<Noted>,
-    /// Which router was let through last, and when it was let through as another one for the first time.
-    pub router: Option<Noted>,
+    /// The last request for a hardware address.
+    pub asked: Option<Asked>,
 }
 
 impl Guard {
-    /// A guard that lets through, of those that aren't known, two neighbours a second, eight of them at once, and a packet in two
-    /// seconds; a query in a second, however often an answer is put off; and another router in a minute. It keeps own addresses, and
-    /// drops loops, not fragments.
+    /// A guard that keeps own addresses, and drops loops, not fragments. A neighbour that isn't confirmed is known for twenty seconds;
+    /// sockets and frames take turns; answers that wait stay; and so do neighbours, where nothing is learnt of a router.
     pub const fn new() -> Guard
         ensures { result ≡ spec.new_guard }
     {
@@ -95,108 +81,94 @@ impl Guard {
             keeps_own_addresses: true,
             drops_fragments: false,
             drops_loops: true,
-            neighbors: Bucket::new(500_000, 8),
-            discoveries: Bucket::new(2_000_000, 1),
-            queries: Bucket::new(1_000_000, 1),
-            delays: Delays::NONE,
-            router_time: 60_000_000,
+            strangers_stay: 20_000_000,
+            takes_turns: true,
+            keeps_reports: true,
+            keeps_neighbors: true,
             pins: Pins::new(),
             asked: None,
-            router: None,
         }
     }
 
-    /// Judges a frame that came at an instant, for a host with this hardware address (`None` on a medium without), these addresses
-    /// and these neighbours, of whose answers to queries these wait. Returns why the host may not see it; `None` if it may.
+    /// Judges a frame for a host with this hardware address (`None` on a medium without) and these addresses. Returns why the host may
+    /// not see it; `None` if it may.
     #[inline(always)]
     pub fn judge(
-        &mut self,
-        now: Instant,
+        &self,
         frame: &[u8],
         hardware: Option<HardwareAddress>,
         own: &[IpCidr],
-        neighbors: &Cache,
-        waits: Waits,
     ) -> Option<Reason>
-        ensures reason { result ≡ spec.reason_of now frame.now hardware own.now neighbors.now waits self.old }
-        ensures guard { self.new ≡ spec.after_judging now frame.now hardware own.now neighbors.now waits self.old }
+        ensures { result ≡ spec.reason_of frame.now hardware own.now self.now }
     {
         if is_ordinary(frame, own) {
             return None;
         }
-        self.judge_kind(now, frame, hardware, own, neighbors, waits)
+        self.judge_kind(frame, hardware, own)
     }
 
     /// Judges a frame by its kind.
     #[inline(never)]
     fn judge_kind(
-        &mut self,
-        now: Instant,
+        &self,
         frame: &[u8],
         hardware: Option<HardwareAddress>,
         own: &[IpCidr],
-        neighbors: &Cache,
-        waits: Waits,
     ) -> Option<Reason>
-        ensures reason { result ≡ spec.reason_of now frame.now hardware own.now neighbors.now waits self.old }
-        ensures guard { self.new ≡ spec.after_judging now frame.now hardware own.now neighbors.now waits self.old }
+        ensures { result ≡ spec.reason_of frame.now hardware own.now self.now }
     {
         match kind_of(frame) {
-            Kind::Arp { sender, target } => {
-                let refusal = self.refusal_of_claim(is_own(own, &sender), &sender, hardware, frame);
-                let is_free = !is_own(own, &target) || self.expects(now, &sender, neighbors);
-                judge_by(
-                    refusal,
-                    is_free,
-                    &mut self.neighbors,
-                    now,
-                    Reason::NewNeighbor,
-                )
+            Kind::Arp { sender } => {
+                self.refusal_of_claim(is_own(own, &sender), &sender, hardware, frame)
             }
             Kind::Neighbor { sender, target } => {
                 let claimed = is_own(own, &sender) || is_one_own(own, target);
-                let refusal = self.refusal_of_claim(claimed, &sender, hardware, frame);
-                let is_free = self.expects(now, &sender, neighbors);
-                judge_by(
-                    refusal,
-                    is_free,
-                    &mut self.neighbors,
-                    now,
-                    Reason::NewNeighbor,
-                )
+                self.refusal_of_claim(claimed, &sender, hardware, frame)
             }
-            Kind::Query { version, is_idle } => self.judge_query(now, version, is_idle, waits),
-            Kind::Router { sender } => self.judge_router(now, sender),
-            Kind::Packet {
-                sender,
-                target,
-                sort,
-            } => {
-                let refusal = self.refusal_of_packet(&sender, sort, hardware, frame, own);
-                let is_free = !asks_for(&sender, &target, sort, own)
-                    || is_known(neighbors, &sender, now);
-                judge_by(
-                    refusal,
-                    is_free,
-                    &mut self.discoveries,
-                    now,
-                    Reason::Discovery,
-                )
+            Kind::Packet { sender, sort } => {
+                self.refusal_of_packet(&sender, sort, hardware, frame, own)
             }
             Kind::Other => None,
         }
     }
 
-    /// Notes a frame that the host sends at an instant: if it asks for a hardware address, the answer is expected for three
-    /// seconds.
-    pub fn note_sent(&mut self, now: Instant, frame: &[u8])
-        ensures { self.new ≡ spec.after_asking now (kind.asked_in frame.now) self.old }
+    /// Notes a frame that the host sends at an instant, in response to another one or not: if it asks for a hardware address, the
+    /// answer is expected for three seconds.
+    pub fn note_sent(&mut self, now: Instant, frame: &[u8], in_response: bool)
+        ensures { self.new ≡ spec.after_asking now (kind.asked_in frame.now) in_response self.old }
     {
         if let Some(address) = asked_in(frame) {
-            self.asked = Some(Noted {
+            self.asked = Some(Asked {
                 address,
                 at: micros(now),
+                in_response,
             });
+        }
+    }
+
+    /// Whether frames ask for nobody at an instant, where a socket waits for its neighbour: the last request was in response to a
+    /// frame, at most three seconds ago, and who was asked for isn't among the neighbours.
+    pub fn is_turn_of_sockets(&self, now: Instant, neighbors: &Cache) -> bool
+        ensures { result ≡ spec.is_turn_of_sockets now neighbors.now self.now }
+    {
+        match self.asked {
+            None => false,
+            Some(asked) => {
+                self.takes_turns
+                    && asked.in_response
+                    && asked.is_recent(now)
+                    && !is_known(neighbors, &asked.address, now)
+            }
+        }
+    }
+
+    /// Whether the host asked for somebody last, and not long ago.
+    pub(crate) fn asked_for(&self, now: Instant, sender: &IpAddress) -> bool
+        ensures { result ≡ spec.was_asked now sender.now self.now.asked }
+    {
+        match self.asked {
+            None => false,
+            Some(asked) => asked.address == *sender && asked.is_recent(now),
         }
     }
 
@@ -248,81 +220,27 @@ impl Guard {
             _ => None,
         }
     }
+}
 
-    /// Judges a query by what it is about, by how often the answer was put off, and by its rate.
-    fn judge_query(
-        &mut self,
-        now: Instant,
-        version: IpVersion,
-        is_idle: bool,
-        waits: Waits,
-    ) -> Option<Reason>
-        ensures reason { result ≡ spec.reason_of_query now version is_idle waits self.old }
-        ensures guard { self.new ≡ spec.after_query now version is_idle waits self.old }
+impl Asked {
+    ghost use Rattle.std.specs.Prelude.{◌≡◌};
+    ghost use Rattle.guard.specs.Guard as spec;
+
+    /// Whether the request was sent at most three seconds ago.
+    fn is_recent(&self, now: Instant) -> bool
+        ensures { result ≡ spec.is_recent now self.now }
     {
-        let refusal = self.refusal_of_query(version, is_idle, waits);
-        let reason = judge_by(refusal, false, &mut self.queries, now, Reason::Query);
-        if reason.is_none() {
-            self.delays.note(version, waits);
-        }
-        reason
+        micros(now) <= self.at.saturating_add(ANSWER_TIME)
     }
+}
 
-    /// Why a query is dropped, whatever its rate: it is about the group of all hosts, or would put off an answer once more than that
-    /// may be put off.
-    fn refusal_of_query(&self, version: IpVersion, is_idle: bool, waits: Waits) -> Option<Reason>
-        ensures { result ≡ spec.refusal_of_query version is_idle waits self.now }
-    {
-        if is_idle && self.queries.interval != 0 {
-            return Some(Reason::Query);
-        }
-        if self.delays.are_over(version, waits) {
-            return Some(Reason::Delay);
-        }
-        None
-    }
-
-    /// Judges a router advertisement: that of the router which was heard last passes, and that of another one so long after that
-    /// one was let through.
-    fn judge_router(&mut self, now: Instant, sender: IpAddress) -> Option<Reason>
-        ensures reason { result ≡ spec.reason_of_router now sender self.old }
-        ensures guard { self.new ≡ spec.after_router now sender self.old }
-    {
-        let last = self.router;
-        match last {
-            Some(last) if last.address == sender => None,
-            Some(last)
-                if self.router_time != 0
-                    && micros(now) < last.at.saturating_add(self.router_time) => {
-                Some(Reason::Router)
-            }
-            _ => {
-                self.router = Some(Noted {
-                    address: sender,
-                    at: micros(now),
-                });
-                None
-            }
-        }
-    }
-
-    /// Whether somebody is known, or was asked for, or has no address yet.
-    fn expects(&self, now: Instant, sender: &IpAddress, neighbors: &Cache) -> bool
-        ensures { result ≡ spec.is_expected now sender.now neighbors.now self.now }
-    {
-        sender.is_unspecified() || is_known(neighbors, sender, now) || self.asked_for(now, sender)
-    }
-
-    /// Whether the host asked for somebody last, and not long ago.
-    fn asked_for(&self, now: Instant, sender: &IpAddress) -> bool
-        ensures { result ≡ spec.was_asked now sender.now self.now.asked }
-    {
-        match self.asked {
-            None => false,
-            Some(asked) => {
-                asked.address == *sender && micros(now) <= asked.at.saturating_add(ANSWER_TIME)
-            }
-        }
+/// Whether an address is known at an instant.
+fn is_known(neighbors: &Cache, address: &IpAddress, now: Instant) -> bool
+    ensures { result ≡ is_later now (map.get neighbors.now.known address.now) }
+{
+    match neighbors.get(address) {
+        None => false,
+        Some(neighbor) => now < neighbor.expires_at,
     }
 }
 
@@ -346,30 +264,10 @@ pub(crate) fn take<R: Copy + Drop>(bucket: &mut Bucket, now: Instant, reason: R)
     }
 }
 
-/// What is refused; otherwise nothing, if that is free, and else what a rate says.
-fn judge_by(
-    refusal: Option<Reason>,
-    is_free: bool,
-    rate: &mut Bucket,
-    now: Instant,
-    reason: Reason,
-) -> Option<Reason>
-    ensures reason { result ≡ spec.judged refusal is_free (spec.micros now) rate.old reason }
-    ensures rate { rate.new ≡ spec.after_judged refusal is_free (spec.micros now) rate.old }
-{
-    if refusal.is_some() {
-        return refusal;
-    }
-    if is_free {
-        return None;
-    }
-    take(rate, now, reason)
-}
-
 /// Whether nothing is asked of a frame but its source and its protocol: a datagram of UDP or a segment of TCP, from another address
 /// than those of the host.
 #[inline(always)]
-fn is_ordinary(frame: &[u8], own: &[IpCidr]) -> bool
+pub fn is_ordinary(frame: &[u8], own: &[IpCidr]) -> bool
     ensures { result ≡ spec.is_ordinary frame.now own.now }
 {
     if frame.len() < 42 {
@@ -390,23 +288,6 @@ fn is_transport(sort: Sort) -> bool
     match sort {
         Sort::Transport => true,
         Sort::Fragment | Sort::Loop | Sort::Plain => false,
-    }
-}
-
-/// Whether the host would have to ask for the sender of a packet, if that isn't known, before it could answer.
-fn asks_for(sender: &IpAddress, target: &IpAddress, sort: Sort, own: &[IpCidr]) -> bool
-    ensures { result ≡ spec.asks_for sender.now target.now sort own.now }
-{
-    is_plain(sort) && is_near(own, sender) && is_own(own, target)
-}
-
-/// Whether a packet is neither a fragment, nor of UDP or TCP.
-fn is_plain(sort: Sort) -> bool
-    ensures { result ≡ spec.is_plain sort }
-{
-    match sort {
-        Sort::Plain => true,
-        Sort::Fragment | Sort::Loop | Sort::Transport => false,
     }
 }
 
@@ -479,15 +360,8 @@ fn is_one_own(own: &[IpCidr], address: Option<IpAddress>) -> bool
 }
 
 /// Whether an address is in a network of the host's.
-fn is_near(own: &[IpCidr], address: &IpAddress) -> bool
+pub(crate) fn is_near(own: &[IpCidr], address: &IpAddress) -> bool
     ensures { result ≡ spec.is_near own.now address.now }
 {
     own.iter().any(|cidr| cidr.contains_addr(address))
-}
-
-/// Whether the hardware address of somebody is known.
-fn is_known(neighbors: &Cache, address: &IpAddress, now: Instant) -> bool
-    ensures { result ≡ spec.is_known neighbors.now address.now now }
-{
-    address.is_unicast() && neighbors.lookup(address, now).found()
 }

@@ -2,12 +2,9 @@
 ghost use Rattle.std.specs.Prelude.{◌≡◌, ◌+◌, ◌≤◌, length};
 ghost use Rattle.guard.specs.Kind as spec;
 
-use ip_address::{IpAddress, IpVersion, Ipv4Address};
+use ip_address::{IpAddress, Ipv4Address};
 use ip_wire::ipv6_packet::address_at;
 use ip_wire::octets::{u16_at, u32_at};
-
-/// The number of ff02::1 (RFC 4291 2.7.1).
-const ALL_NODES: u128 = 0xff02_0000_0000_0000_0000_0000_0000_0001;
 
 /// What a frame is.
 #[derive(Clone, Copy, Debug, PartialEq, Eq)]
@@ -16,8 +13,6 @@ pub enum Kind {
     Arp {
         /// Who sends it.
         sender: IpAddress,
-        /// For whom it is.
-        target: IpAddress,
     },
     /// A neighbour solicitation or advertisement (RFC 4861 4.3, 4.4).
     Neighbor {
@@ -26,24 +21,10 @@ pub enum Kind {
         /// Of an advertisement: whose hardware address it tells.
         target: Option<IpAddress>,
     },
-    /// A query of IGMP, over IPv4 (RFC 2236 2), or of MLD, over IPv6 (RFC 3810 5.1).
-    Query {
-        /// Over which version of IP.
-        version: IpVersion,
-        /// Whether it is about the group of all hosts, 224.0.0.1 or ff02::1, which no host reports (RFC 2236 6, RFC 3810 6).
-        is_idle: bool,
-    },
-    /// A router advertisement (RFC 4861 4.2).
-    Router {
-        /// Who sends it.
-        sender: IpAddress,
-    },
     /// Any other IP packet.
     Packet {
         /// Its source.
         sender: IpAddress,
-        /// Its destination.
-        target: IpAddress,
         /// What is special of it.
         sort: Sort,
     },
@@ -75,51 +56,13 @@ pub fn kind_of(frame: &[u8]) -> Kind
     match u16_at(frame, 12) {
         0x0806 => Kind::Arp {
             sender: ipv4_at(frame, 28),
-            target: ipv4_at(frame, 38),
         },
-        0x0800 => kind_of_ipv4(frame),
+        0x0800 => Kind::Packet {
+            sender: ipv4_at(frame, 26),
+            sort: sort_of_ipv4(frame),
+        },
         0x86dd => kind_of_ipv6(frame),
         _ => Kind::Other,
-    }
-}
-
-/// The kind of a frame with an IPv4 packet.
-fn kind_of_ipv4(frame: &[u8]) -> Kind
-    requires { 42 ≤ length frame.now }
-    ensures { result ≡ spec.kind_of_ipv4 frame.now }
-{
-    let message = 14 + usize::from(frame[14] % 16) * 4;
-    if frame[23] == 2 && octet_at(frame, message) == 0x11 {
-        return Kind::Query {
-            version: IpVersion::Ipv4,
-            is_idle: is_all_systems(frame, message + 4),
-        };
-    }
-    Kind::Packet {
-        sender: ipv4_at(frame, 26),
-        target: ipv4_at(frame, 30),
-        sort: sort_of_ipv4(frame),
-    }
-}
-
-/// Whether the group of all hosts over IPv4, 224.0.0.1, is at an offset.
-fn is_all_systems(frame: &[u8], at: usize) -> bool
-    requires { at ≤ 4096 }
-    ensures { result ≡ spec.is_all_systems frame.now at }
-{
-    octet_at(frame, at) == 224
-        && octet_at(frame, at + 1) == 0
-        && octet_at(frame, at + 2) == 0
-        && octet_at(frame, at + 3) == 1
-}
-
-/// Whether an address, if there is one, is that of all nodes over IPv6, ff02::1.
-fn is_all_nodes(address: Option<IpAddress>) -> bool
-    ensures { result ≡ spec.is_all_nodes address }
-{
-    match address {
-        Some(IpAddress::Ipv6(address)) => address.bits == ALL_NODES,
-        Some(IpAddress::Ipv4(_)) | None => false,
     }
 }
 
@@ -174,11 +117,6 @@ fn kind_of_ipv6(frame: &[u8]) -> Kind
         return packet_of_ipv6(sender, frame, sort_of_ipv6(frame));
     };
     match octet_at(frame, message) {
-        130 => Kind::Query {
-            version: IpVersion::Ipv6,
-            is_idle: is_all_nodes(target_at(frame, message + 8)),
-        },
-        134 => Kind::Router { sender },
         135 => Kind::Neighbor {
             sender,
             target: None,
@@ -195,14 +133,10 @@ fn kind_of_ipv6(frame: &[u8]) -> Kind
 fn packet_of_ipv6(sender: IpAddress, frame: &[u8], sort: Sort) -> Kind
     ensures { result ≡ spec.packet_of_ipv6 sender frame.now sort }
 {
-    match target_at(frame, 38) {
-        None => Kind::Other,
-        Some(target) => Kind::Packet {
-            sender,
-            target,
-            sort,
-        },
+    if frame.len() < 54 {
+        return Kind::Other;
     }
+    Kind::Packet { sender, sort }
 }
 
 /// For whose hardware address a frame asks, if it is an ARP request (RFC 826) or a neighbour solicitation (RFC 4861 4.3).

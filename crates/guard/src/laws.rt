@@ -1,40 +1,7 @@
 //! What a guard promises, whatever frames come, each law as the contract of an empty function.
 ghost use Rattle.guard.specs.AnswerLaws.{ErrorsAreShort, FewAnswersGo, OtherAnswersGo};
-ghost use Rattle.guard.specs.Ipv6Laws.{Ipv6LoopsEnd, KnownMessagesPass, OwnMessagesStay, PinnedMessagesStay, StreamsPass};
-ghost use Rattle.guard.specs.Laws.{DefencesAreApart, DroppedChangeNothing, FewDelaysPass, FewDiscoveriesPass, FewNeighborsPass, FewQueriesPass};
-ghost use Rattle.guard.specs.Laws.{IdleQueriesStay};
-ghost use Rattle.guard.specs.Laws.{KnownArpPass, KnownPass, LoopsEnd, OthersPass, OwnAddressesStay, PinnedStay, RoutersStay};
-
-/// Of ARP packets for own addresses, and neighbour messages, of somebody that isn't known and wasn't asked for, so many pass from one instant to another:
-/// as many as the rate's depth, and one for each of its intervals.
-pub fn few_neighbors_pass()
-    ensures { FewNeighborsPass }
-{}
-
-/// Likewise of IP packets from somebody of an own network that isn't known, for whose answer the host would have to ask.
-pub fn few_discoveries_pass()
-    ensures { FewDiscoveriesPass }
-{}
-
-/// Likewise of queries of IGMP and MLD.
-pub fn few_queries_pass()
-    ensures { FewQueriesPass }
-{}
-
-/// While an answer to a query waits, no more queries over its version of IP pass than may put it off yet.
-pub fn few_delays_pass()
-    ensures { FewDelaysPass }
-{}
-
-/// A query about the group of all hosts doesn't pass, if queries have a rate.
-pub fn idle_queries_stay()
-    ensures { IdleQueriesStay }
-{}
-
-/// What doesn't pass changes nothing of the guard: it takes no token, and is noted nowhere.
-pub fn dropped_change_nothing()
-    ensures { DroppedChangeNothing }
-{}
+ghost use Rattle.guard.specs.Ipv6Laws.{Ipv6LoopsEnd, MessagesPass, OwnMessagesStay, PinnedMessagesStay, StreamsPass};
+ghost use Rattle.guard.specs.Laws.{ArpPasses, DefencesAreApart, LoopsEnd, OthersPass, OwnAddressesStay, PacketsPass, PinnedStay};
 
 /// A claim of an own address is answered, unless one was within the interval, and those that follow within the interval are not.
 pub fn defences_are_apart()
@@ -46,16 +13,16 @@ pub fn others_pass()
     ensures { OthersPass }
 {}
 
-/// A packet of IPv4 other than IGMP that is of no sort which the guard drops passes, if its source isn't an own address, or it comes
-/// from the own hardware address; and if its source is known or in no own network, or it goes to no own address, or is of UDP or TCP.
-pub fn known_pass()
-    ensures { KnownPass }
+/// A packet of IPv4 that is of no sort which the guard drops passes, from whomever and however often it comes, if its source isn't an
+/// own address, or it comes from the own hardware address.
+pub fn packets_pass()
+    ensures { PacketsPass }
 {}
 
-/// An ARP packet of a known neighbour, or for another address, passes, if it claims no own address, but from the own hardware address,
-/// and no pinned one from another than that one's.
-pub fn known_arp_pass()
-    ensures { KnownArpPass }
+/// An ARP packet passes, from whomever and however often it comes, if it claims no own address, but from the own hardware address, and
+/// no pinned one from another than that one's.
+pub fn arp_passes()
+    ensures { ArpPasses }
 {}
 
 /// A datagram of IPv4 that could go to and fro for ever doesn't pass, unless the host itself sent it.
@@ -73,11 +40,6 @@ pub fn pinned_stay()
     ensures { PinnedStay }
 {}
 
-/// After a router's advertisement passed as that of another one, the next other one waits for the time between two.
-pub fn routers_stay()
-    ensures { RoutersStay }
-{}
-
 /// A neighbour message over IPv6 that claims an own address, as its source or as what it advertises, passes only if it comes from
 /// the own hardware address, and tells no other.
 pub fn own_messages_stay()
@@ -89,10 +51,10 @@ pub fn pinned_messages_stay()
     ensures { PinnedMessagesStay }
 {}
 
-/// A neighbour message of a known neighbour passes, if it claims no own address, and tells no other hardware address than the one that
-/// the neighbour is pinned to, if it is.
-pub fn known_messages_pass()
-    ensures { KnownMessagesPass }
+/// A neighbour message passes, from whomever and however often it comes, if it claims no own address, and tells no other hardware address
+/// than the one that its sender is pinned to, if it is.
+pub fn messages_pass()
+    ensures { MessagesPass }
 {}
 
 /// Over IPv6 a segment of TCP passes, and a datagram of UDP that doesn't go to and fro, if its source is no own address.

@@ -9,12 +9,13 @@ pub mod guarded_device;
 pub mod kind;
 pub mod laws;
 pub mod pins;
-pub mod queries;
+pub mod reports;
+pub mod strangers;
 pub mod watch;
 
 pub use answers::{Answer, Answers};
 pub use defence::{Defence, announcement};
-pub use guard::{Guard, Reason};
+pub use guard::{Asked, Guard, Reason};
 pub use pins::{PINNED_COUNT, Pinned, Pins};
-pub use queries::{Delays, Waits};
+pub use strangers::Limit;
 pub use watch::{Conflict, Counts, Watch};

@@ -8,8 +8,6 @@ use crate::answers::{Answer, Answers};
 use crate::claim::hardware_at;
 use crate::defence::{Defence, announced};
 use crate::guard::{Guard, Reason};
-use crate::queries::Waits;
-use iface_tables::neighbor::Cache;
 use ip_address::{EthernetAddress, HardwareAddress, IpAddress, IpCidr};
 use net_base::time::Instant;
 
@@ -22,16 +20,6 @@ pub struct Counts {
     pub own_source: u64,
     /// Messages that tell another hardware address of a pinned neighbour.
     pub pinned: u64,
-    /// Messages of neighbours that aren't known.
-    pub new_neighbor: u64,
-    /// Packets for whose answer the host would have to ask.
-    pub discovery: u64,
-    /// Queries of IGMP and MLD, beyond their rate.
-    pub query: u64,
-    /// Queries of IGMP and MLD, by which an answer that waits would be put off once more than it may be.
-    pub delay: u64,
-    /// Router advertisements.
-    pub router: u64,
     /// Fragments.
     pub fragment: u64,
     /// Datagrams that could go to and fro for ever.
@@ -50,11 +38,6 @@ impl Counts {
         own_address: 0,
         own_source: 0,
         pinned: 0,
-        new_neighbor: 0,
-        discovery: 0,
-        query: 0,
-        delay: 0,
-        router: 0,
         fragment: 0,
         loops: 0,
         echo_reply: 0,
@@ -70,11 +53,6 @@ impl Counts {
             Reason::OwnAddress => self.own_address = self.own_address.saturating_add(1),
             Reason::OwnSource => self.own_source = self.own_source.saturating_add(1),
             Reason::Pinned => self.pinned = self.pinned.saturating_add(1),
-            Reason::NewNeighbor => self.new_neighbor = self.new_neighbor.saturating_add(1),
-            Reason::Discovery => self.discovery = self.discovery.saturating_add(1),
-            Reason::Query => self.query = self.query.saturating_add(1),
-            Reason::Delay => self.delay = self.delay.saturating_add(1),
-            Reason::Router => self.router = self.router.saturating_add(1),
             Reason::Fragment => self.fragment = self.fragment.saturating_add(1),
             Reason::Loop => self.loops = self.loops.saturating_add(1),
         }
@@ -136,10 +114,9 @@ impl Watch {
         }
     }
 
-    /// Whether the host, which has this hardware address (`None` on a medium without), these addresses and these neighbours, and of
-    /// whose answers to queries these wait, may see a frame that came at an instant. What it may not see is counted by the reason; if
-    /// the frame claims an own address or a pinned one, who sent it is noted, and an announcement of an own one may be owed
-    /// ([`Watch::announcement_due`]).
+    /// Whether the host, which has this hardware address (`None` on a medium without) and these addresses, may see a frame that came
+    /// at an instant. What it may not see is counted by the reason; if the frame claims an own address or a pinned one, who sent it is
+    /// noted, and an announcement of an own one may be owed ([`Watch::announcement_due`]).
     #[inline(always)]
     pub fn admits(
         &mut self,
@@ -147,19 +124,14 @@ impl Watch {
         frame: &[u8],
         hardware: Option<HardwareAddress>,
         own: &[IpCidr],
-        neighbors: &Cache,
-        waits: Waits,
     ) -> bool
-        ensures admitted { result ≡ spec.admits now frame.now hardware own.now neighbors.now waits self.old }
-        ensures watch { self.new ≡ spec.after_arrival now frame.now hardware own.now neighbors.now waits self.old }
+        ensures admitted { result ≡ spec.admits frame.now hardware own.now self.old }
+        ensures watch { self.new ≡ spec.after_arrival now frame.now hardware own.now self.old }
     {
         if !self.is_on {
             return true;
         }
-        match self
-            .guard
-            .judge(now, frame, hardware, own, neighbors, waits)
-        {
+        match self.guard.judge(frame, hardware, own) {
             None => true,
             Some(reason) => {
                 self.report(now, frame, reason);
@@ -177,7 +149,7 @@ impl Watch {
         if !self.is_on {
             return true;
         }
-        self.guard.note_sent(now, frame);
+        self.guard.note_sent(now, frame, true);
         match self.answers.judge(now, frame, answered) {
             None => true,
             Some(answer) => {
@@ -219,7 +191,7 @@ impl Watch {
         ensures { self.new ≡ spec.after_sending now frame.now self.old }
     {
         if self.is_on {
-            self.guard.note_sent(now, frame);
+            self.guard.note_sent(now, frame, false);
         }
     }
 

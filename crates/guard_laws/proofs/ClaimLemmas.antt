@@ -1,5 +1,5 @@
 -- What is learnt by ARP was told by the frame, and the guard reads the same octets.
-use Rattle.std.proofs.Common.{◌≡◌, ◌≤◌, ◌-◌, ◌∙◌, ap, sym, ℕ, pos, Bool, true, false, refl, inl, inr, arith, List, [], ◌∷◌, length, take, drop}
+use Rattle.std.proofs.Common.{◌≡◌, ◌≤◌, ◌∙◌, ap, sym, ℕ, pos, Bool, true, false, refl, inl, inr, arith, List, [], ◌∷◌, length, take, drop}
 use Rattle.std.specs.Prelude.{◌&&◌, ◌==◌, get_or, slice_get, Some, if◌then◌else◌}
 use Rattle.std.proofs.lemmas.Bool.Decides.{nat_tests}
 use Rattle.std.proofs.lemmas.Slice.Eq.{bytes_eq-Decides}
@@ -25,7 +25,6 @@ use Rattle.guard.specs.Guard.{is_own}
 use Rattle.guard.specs.Kind.{ipv4_at}
 use Rattle.guard.specs.Laws.{Arrival, passes}
 use Rattle.guard.specs.Watch.{admits}
-use Rattle.guard.specs.declared.queries.Waits.{Waits}
 use Rattle.guard.specs.declared.watch.Watch.{Watch}
 use Rattle.guard_laws.specs.Claims.{IsKnownOnlyAt, NobodyClaimsAnOwnAddress, PinnedNeighborsStay}
 
@@ -84,19 +83,17 @@ right true b e = e
 right false b e = absurd cc
 
 -- the frame as it comes to the guard
-abbrev pub arrival : ℕ → List ℕ → Host → Waits → Arrival
-arrival at frame H waits = record {
+abbrev pub arrival : ℕ → List ℕ → Host → Arrival
+arrival at frame H = record {
   at = at;
   frame = frame;
   hardware = if_ethernet H.hardware_addr;
   own = H.ip_addrs;
-  known = H.neighbors;
-  waits = waits;
 }
 
-pub passes_on : (at : ℕ) (frame : List ℕ) (w : Watch) (H : Host) (waits : Waits) → w.is_on ≡ true →
-    admits (pos at) frame (if_ethernet H.hardware_addr) H.ip_addrs H.neighbors waits w ≡ true → passes (arrival at frame H waits) w.guard ≡ true
-passes_on at frame w H waits on admitted =
+pub passes_on : (at : ℕ) (frame : List ℕ) (w : Watch) (H : Host) → w.is_on ≡ true →
+    admits frame (if_ethernet H.hardware_addr) H.ip_addrs w ≡ true → passes (arrival at frame H) w.guard ≡ true
+passes_on at frame w H on admitted =
     rw on at admitted
 
 -- a test that is false can't be true
@@ -104,10 +101,10 @@ differ : (b : Bool) → b ≡ true → b ≡ false → ⊥
 differ b t f = absurd cc
 
 -- what an admitted ARP packet tells of an own address is the own hardware address
-own_by_arp : (at : ℕ) (frame : List ℕ) (w : Watch) (H : Host) (waits : Waits) (a : Ipv4Address) (own h : EthernetAddress) →
-    passes (arrival at frame H waits) w.guard ≡ true → w.guard.keeps_own_addresses ≡ true → H.hardware_addr ≡ Ethernet own →
+own_by_arp : (at : ℕ) (frame : List ℕ) (w : Watch) (H : Host) (a : Ipv4Address) (own h : EthernetAddress) →
+    passes (arrival at frame H) w.guard ≡ true → w.guard.keeps_own_addresses ≡ true → H.hardware_addr ≡ Ethernet own →
     is_own H.ip_addrs (Ipv4 a) ≡ true → TellsByArp H frame (Ipv4 a) h → h ≡ own
-own_by_arp at frame w H waits a own h pass keeps hardware mine told = by (is_from_host (Some (Ethernet own)) frame) refl where
+own_by_arp at frame w H a own h pass keeps hardware mine told = by (is_from_host (Some (Ethernet own)) frame) refl where
   long : 42 ≤ length frame
   long = long_enough frame told.is_packet.whole
 
@@ -120,16 +117,16 @@ own_by_arp at frame w H waits a own h pass keeps hardware mine told = by (is_fro
   by : (b : Bool) → is_from_host (Some (Ethernet own)) frame ≡ b → h ≡ own
   by false e =
       let other : is_from_host (if_ethernet H.hardware_addr) frame ≡ false = rw hardware e in
-      absurd (differ (passes (arrival at frame H waits) w.guard) pass (own_addresses_stay (arrival at frame H waits) w.guard keeps long type sender other).0)
+      absurd (differ (passes (arrival at frame H) w.guard) pass (own_addresses_stay (arrival at frame H) w.guard keeps long type sender other))
   by true e =
       let tells : tells_only own frame ≡ true = right (is_from own frame) (tells_only own frame) e in
       told.hardware_is ∙ hardware_in frame long ∙ same_hardware (hardware_at frame 22) own (sym (tells_by_arp own frame long type) ∙ tells)
 
 -- and of a pinned address the pinned one
-pinned_by_arp : (at : ℕ) (frame : List ℕ) (w : Watch) (H : Host) (waits : Waits) (a : Ipv4Address) (h told_one : EthernetAddress) (k : ℕ) →
-    passes (arrival at frame H waits) w.guard ≡ true → slice_get w.guard.pins.pairs k ≡ Some (Some (record { address = Ipv4 a; hardware = h })) →
+pinned_by_arp : (at : ℕ) (frame : List ℕ) (w : Watch) (H : Host) (a : Ipv4Address) (h told_one : EthernetAddress) (k : ℕ) →
+    passes (arrival at frame H) w.guard ≡ true → slice_get w.guard.pins.pairs k ≡ Some (Some (record { address = Ipv4 a; hardware = h })) →
     TellsByArp H frame (Ipv4 a) told_one → told_one ≡ h
-pinned_by_arp at frame w H waits a h told_one k pass there told = by (is_same (hardware_at frame 22) h) refl where
+pinned_by_arp at frame w H a h told_one k pass there told = by (is_same (hardware_at frame 22) h) refl where
   long : 42 ≤ length frame
   long = long_enough frame told.is_packet.whole
 
@@ -140,7 +137,7 @@ pinned_by_arp at frame w H waits a h told_one k pass there told = by (is_same (h
   sender = there ∙ ap (λ (x : IpAddress). Some (Some (record { address = x; hardware = h }))) (told.address_is ∙ sender_in frame)
 
   by : (b : Bool) → is_same (hardware_at frame 22) h ≡ b → told_one ≡ h
-  by false e = absurd (differ (passes (arrival at frame H waits) w.guard) pass (pinned_stay (arrival at frame H waits) w.guard h k long type sender e).0)
+  by false e = absurd (differ (passes (arrival at frame H) w.guard) pass (pinned_stay (arrival at frame H) w.guard h k long type sender e))
   by true e = told.hardware_is ∙ hardware_in frame long ∙ same_hardware (hardware_at frame 22) h e
 
 -- an IPv4 address is none of IPv6
@@ -160,12 +157,12 @@ known_at at frame old a h by_arp before n (WasTold own told hardware is (inr mes
 
 pub nobody_claims_an_own_address : NobodyClaimsAnOwnAddress
 nobody_claims_an_own_address at frame w old new told notes a own receives keeps hardware mine before n there =
-    let pass : passes (arrival at frame old receives.waits) w.guard ≡ true = passes_on at frame w old receives.waits receives.is_on receives.admitted in
-    known_at at frame old a own (λ other h is arp. own_by_arp at frame w old receives.waits a own h pass keeps hardware mine arp) before n
+    let pass : passes (arrival at frame old) w.guard ≡ true = passes_on at frame w old receives.is_on receives.admitted in
+    known_at at frame old a own (λ other h is arp. own_by_arp at frame w old a own h pass keeps hardware mine arp) before n
     (neighbors_came (pos at) frame old new told notes receives.receives (Ipv4 a) n there)
 
 pub pinned_neighbors_stay : PinnedNeighborsStay
 pinned_neighbors_stay at frame w old new told notes a h k receives pinned before n there =
-    let pass : passes (arrival at frame old receives.waits) w.guard ≡ true = passes_on at frame w old receives.waits receives.is_on receives.admitted in
-    known_at at frame old a h (λ own other is arp. pinned_by_arp at frame w old receives.waits a h other k pass pinned arp) before n
+    let pass : passes (arrival at frame old) w.guard ≡ true = passes_on at frame w old receives.is_on receives.admitted in
+    known_at at frame old a h (λ own other is arp. pinned_by_arp at frame w old a h other k pass pinned arp) before n
     (neighbors_came (pos at) frame old new told notes receives.receives (Ipv4 a) n there)

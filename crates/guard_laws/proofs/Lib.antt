@@ -1,3 +1,6 @@
 pub mod ClaimLemmas
 pub mod MessageLemmas
 pub mod MessageClaimLemmas
+pub mod CountLemmas
+pub mod StrangerLemmas
+pub mod AnswerLemmas

@@ -1,6 +1,6 @@
 -- What is learnt from neighbour messages was told by the frame, and the guard reads the same octets.
-use Rattle.std.proofs.Common.{◌≡◌, ◌≤◌, ◌+◌, ◌-◌, ◌*◌, ◌∙◌, ap, sym, subst, ℕ, pos, Bool, true, false, refl, inl, inr, arith, List, length, take, drop}
-use Rattle.std.specs.Prelude.{◌==◌, ◌⊎◌, get_or, slice_get, slice_index, slice_range, Option, Some, if◌then◌else◌}
+use Rattle.std.proofs.Common.{◌≡◌, ◌≤◌, ◌+◌, ◌-◌, ◌∙◌, ap, sym, subst, ℕ, pos, Bool, true, false, refl, inl, inr, arith, List, length, take, drop}
+use Rattle.std.specs.Prelude.{◌==◌, ◌⊎◌, slice_get, slice_index, slice_range, Option, Some, if◌then◌else◌}
 use Rattle.std.specs.Int.{from_be_bytes, w128}
 use Rattle.std.proofs.lemmas.Bool.Decides.{nat_tests}
 use Rattle.std.proofs.lemmas.List.{drop-drop, get_or-drop, length-drop}
@@ -15,16 +15,16 @@ use Rattle.ip_address.specs.declared.ipv6.Ipv6Address.{Ipv6Address}
 use Rattle.ip_address.specs.declared.protocol.IpProtocol.TheVariants as ip_protocol
 use Rattle.ip_wire.specs.Ethernet.{header_in}
 use Rattle.ip_wire.specs.declared.ethernet.EthernetProtocol.TheVariants as protocol
-use Rattle.ip_wire.specs.Ipv6Packet.{address_at, end, ipv6_in}
+use Rattle.ip_wire.specs.Ipv6Packet.{address_at, end}
 use Rattle.ip_wire.specs.HopByHop.{header_len}
 use Rattle.control_wire.specs.Icmpv6.{Error, IsBody, Listener, Neighbor, OfRouters, Reply, Request, type_in}
 use Rattle.control_wire.specs.Ndisc.{IsNdisc, ndisc_in, flags_in}
 use Rattle.control_wire.specs.NdiscOption.{AreOptions, lladdr_in}
-use Rattle.control_wire.specs.Router.{Advertisement, IsRouter, Solicitation}
+use Rattle.control_wire.specs.Router.{Advertisement, Solicitation}
 use Rattle.control_wire.specs.declared.ndisc.NdiscNeighborFlags.{NdiscNeighborFlags}
 use Rattle.control_wire.specs.declared.ndisc.NdiscRepr.{NdiscRepr}
 use Rattle.control_wire.specs.declared.ndisc.NdiscRepr.TheVariants.{NeighborAdvert, NeighborSolicit}
-use Rattle.control_wire.specs.Mld.{IsMld, IsQuery, IsReport}
+use Rattle.control_wire.specs.Mld.{IsQuery, IsReport}
 use Rattle.iface_tables.specs.declared.neighbor.Neighbor.{Neighbor as Entry}
 use Rattle.host_machine.specs.Interface.Config.{if_ethernet}
 use Rattle.host_machine.specs.Context.Host.{Host}
@@ -34,10 +34,9 @@ use Rattle.host_laws.specs.Laws.Restraint.Readings.{CarriesV6}
 use Rattle.host_laws.proofs.Discovery.LearntNeighbors.{neighbors_came}
 use Rattle.guard.proofs.Ipv6Lemmas.{among_if, own_messages_stay, pinned_messages_stay}
 use Rattle.guard.specs.Guard.{is_own}
-use Rattle.guard.specs.Ipv6.{AsSource, Behind, BehindOptions, HasMessage, IsIpv6, IsNeighborMessage, TellsNoOther, source_of}
+use Rattle.guard.specs.Ipv6.{AsSource, Behind, BehindOptions, HasMessage, IsNeighborMessage, source_of}
 use Rattle.guard.specs.Kind.{octet_at}
-use Rattle.guard.specs.Laws.{Arrival, passes}
-use Rattle.guard.specs.declared.queries.Waits.{Waits}
+use Rattle.guard.specs.Laws.{passes}
 use Rattle.guard.specs.declared.watch.Watch.{Watch}
 use Rattle.guard_laws.proofs.ClaimLemmas.{arrival, passes_on}
 use Rattle.guard_laws.proofs.MessageLemmas.{ArePart, few_octets, first_in, neighbor_in, octet_in, rest_is_part, told_one}
@@ -206,23 +205,23 @@ told_by H frame a own h hardware said told = by carried.1 where
       }
 
 -- what a message that an open guard lets through tells of an own address is the own hardware address
-own_by_message : (at : ℕ) (frame : List ℕ) (w : Watch) (H : Host) (waits : Waits) (a : Ipv6Address) (own h : EthernetAddress) →
-    passes (arrival at frame H waits) w.guard ≡ true → w.guard.keeps_own_addresses ≡ true → H.hardware_addr ≡ Ethernet own →
+own_by_message : (at : ℕ) (frame : List ℕ) (w : Watch) (H : Host) (a : Ipv6Address) (own h : EthernetAddress) →
+    passes (arrival at frame H) w.guard ≡ true → w.guard.keeps_own_addresses ≡ true → H.hardware_addr ≡ Ethernet own →
     is_own H.ip_addrs (Ipv6 a) ≡ true → Told frame a h → h ≡ own
-own_by_message at frame w H waits a own h pass keeps hardware mine told =
+own_by_message at frame w H a own h pass keeps hardware mine told =
     let among = among_if H.ip_addrs (source_of frame) (ap (is_own H.ip_addrs) told.source ∙ mine) in
-    let stays = own_messages_stay (arrival at frame H waits) w.guard own told.at keeps (ap (λ (x : HardwareAddress). if_ethernet x) hardware)
+    let stays = own_messages_stay (arrival at frame H) w.guard own told.at keeps (ap (λ (x : HardwareAddress). if_ethernet x) hardware)
     told.is (AsSource among) pass in
     told_one frame told.at told.octets told.told.type own h told.told.part told.told.whole told.told.options told.told.tells stays.1
 
 -- and of a pinned address the pinned one
-pinned_by_message : (at : ℕ) (frame : List ℕ) (w : Watch) (H : Host) (waits : Waits) (a : Ipv6Address) (h one : EthernetAddress) (k : ℕ) →
-    passes (arrival at frame H waits) w.guard ≡ true → slice_get w.guard.pins.pairs k ≡ Some (Some (record { address = Ipv6 a; hardware = h })) →
+pinned_by_message : (at : ℕ) (frame : List ℕ) (w : Watch) (H : Host) (a : Ipv6Address) (h one : EthernetAddress) (k : ℕ) →
+    passes (arrival at frame H) w.guard ≡ true → slice_get w.guard.pins.pairs k ≡ Some (Some (record { address = Ipv6 a; hardware = h })) →
     Told frame a one → one ≡ h
-pinned_by_message at frame w H waits a h one k pass there told =
+pinned_by_message at frame w H a h one k pass there told =
     let pinned : slice_get w.guard.pins.pairs k ≡ Some (Some (record { address = source_of frame; hardware = h })) =
     there ∙ ap (λ (x : IpAddress). Some (Some (record { address = x; hardware = h }))) (sym told.source) in
-    let stays = pinned_messages_stay (arrival at frame H waits) w.guard h k told.at told.is pinned pass in
+    let stays = pinned_messages_stay (arrival at frame H) w.guard h k told.at told.is pinned pass in
     told_one frame told.at told.octets told.told.type h one told.told.part told.told.whole told.told.options told.told.tells stays
 
 -- an IPv6 address is none of ARP
@@ -242,12 +241,12 @@ known_at at frame old a h by_message before n (WasTold own told hardware is (inr
 
 pub nobody_claims_an_own_ipv6_address : NobodyClaimsAnOwnIpv6Address
 nobody_claims_an_own_ipv6_address at frame w old new told notes a own receives said keeps hardware mine before n there =
-    let pass : passes (arrival at frame old receives.waits) w.guard ≡ true = passes_on at frame w old receives.waits receives.is_on receives.admitted in
-    known_at at frame old a own (λ other h is message. own_by_message at frame w old receives.waits a own h pass keeps hardware mine
+    let pass : passes (arrival at frame old) w.guard ≡ true = passes_on at frame w old receives.is_on receives.admitted in
+    known_at at frame old a own (λ other h is message. own_by_message at frame w old a own h pass keeps hardware mine
     (told_by old frame a other h is said message)) before n (neighbors_came (pos at) frame old new told notes receives.receives (Ipv6 a) n there)
 
 pub pinned_ipv6_neighbors_stay : PinnedIpv6NeighborsStay
 pinned_ipv6_neighbors_stay at frame w old new told notes a h k receives said pinned before n there =
-    let pass : passes (arrival at frame old receives.waits) w.guard ≡ true = passes_on at frame w old receives.waits receives.is_on receives.admitted in
-    known_at at frame old a h (λ own other is message. pinned_by_message at frame w old receives.waits a h other k pass pinned
+    let pass : passes (arrival at frame old) w.guard ≡ true = passes_on at frame w old receives.is_on receives.admitted in
+    known_at at frame old a h (λ own other is message. pinned_by_message at frame w old a h other k pass pinned
     (told_by old frame a own other is said message)) before n (neighbors_came (pos at) frame old new told notes receives.receives (Ipv6 a) n there)

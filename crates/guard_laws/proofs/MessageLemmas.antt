@@ -1,32 +1,22 @@
 -- What a neighbour message tells, by the octets of its frame, as the guard reads them.
-use Rattle.std.proofs.Common.{◌≡◌, ◌≢◌, ◌≤◌, ◌<◌, ◌+◌, ◌-◌, ◌*◌, ◌∙◌, ap, sym, subst, ℕ, zero, suc, Bool, true, false, refl, inl, inr, arith, List, [], ◌∷◌}
-use Rattle.std.proofs.Common.{length, take, drop, min}
-use Rattle.std.specs.Prelude.{◌==◌, ◌⊎◌, get_or, slice_index, slice_range, Option, Some, None, if◌then◌else◌}
+use Rattle.std.proofs.Common.{◌≡◌, ◌≤◌, ◌<◌, ◌+◌, ◌-◌, ◌∙◌, ap, sym, subst, ℕ, zero, suc, Bool, true, false, refl, inl, inr, arith, List, [], ◌∷◌}
+use Rattle.std.proofs.Common.{length, take, drop}
+use Rattle.std.specs.Prelude.{◌==◌, ◌⊎◌, get_or, slice_index, Some, None, if◌then◌else◌}
 use Rattle.std.specs.Option.{option_or}
 use Rattle.std.proofs.lemmas.Bool.Decides.{nat_tests}
 use Rattle.std.proofs.lemmas.List.Elements.{All-head}
 use Rattle.std.proofs.lemmas.List.{drop-drop, drop-take, get_or-drop, get_or-take, length-drop, length-take}
-use Rattle.std.proofs.Math.Seq.{drop-nil}
 use Rattle.ip_wire.specs.Octets.{u16_at, u32_at}
-use Rattle.ip_address.specs.Protocol.{protocol_of}
 use Rattle.ip_address.specs.declared.ethernet_address.EthernetAddress.{EthernetAddress}
-use Rattle.ip_address.specs.declared.ip.IpAddress.{IpAddress}
-use Rattle.ip_address.specs.declared.ipv6.Ipv6Address.{Ipv6Address}
-use Rattle.ip_address.specs.declared.protocol.IpProtocol.{IpProtocol}
-use Rattle.ip_address.specs.declared.protocol.IpProtocol.TheVariants as protocol
-use Rattle.ip_wire.specs.Ipv6Packet.{address_at, end, quoted_in}
-use Rattle.ip_wire.specs.HopByHop.{header_len}
+use Rattle.ip_wire.specs.Ipv6Packet.{quoted_in}
 use Rattle.control_wire.specs.Mld.{mld_in}
-use Rattle.control_wire.specs.Icmpv6.{Error, IsBody, IsIcmpv6, Listener, Neighbor, OfRouters, Reply, Request, error_in, error_of, icmpv6_in, problem_of, type_in}
+use Rattle.control_wire.specs.Icmpv6.{error_in, icmpv6_in, problem_of, type_in}
 use Rattle.control_wire.specs.Icmpv6.{unreachable_of, code_in}
-use Rattle.control_wire.specs.Ndisc.{IsNdisc, flags_in, ndisc_in}
-use Rattle.control_wire.specs.NdiscOption.{AreOptions, IsOption, address_in, after_option, lladdr_in, last_of, option_len, options_from, options_in}
+use Rattle.control_wire.specs.Ndisc.{ndisc_in}
+use Rattle.control_wire.specs.NdiscOption.{AreOptions, IsOption, address_in, after_option, lladdr_in, last_of, option_len, options_from}
 use Rattle.control_wire.specs.Router.{router_in}
-use Rattle.control_wire.specs.declared.icmpv6.Icmpv6Repr.{Icmpv6Repr}
 use Rattle.control_wire.specs.declared.icmpv6.Icmpv6Repr.TheVariants as message
-use Rattle.control_wire.specs.declared.ndisc.NdiscNeighborFlags.{NdiscNeighborFlags}
 use Rattle.control_wire.specs.declared.ndisc.NdiscRepr.{NdiscRepr}
-use Rattle.control_wire.specs.declared.ndisc.NdiscRepr.TheVariants.{NeighborAdvert, NeighborSolicit}
 use Rattle.guard.specs.Claim.{hardware_at}
 use Rattle.guard.specs.Ipv6.{TellsNoOther}
 use Rattle.guard.specs.Kind.{octet_at}

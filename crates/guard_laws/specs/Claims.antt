@@ -14,16 +14,14 @@ use Rattle.host_machine.specs.Context.Note.{Note}
 use Rattle.host_laws.specs.Laws.Restraint.Readings.{Receives}
 use Rattle.guard.specs.Guard.{is_own}
 use Rattle.guard.specs.Watch.{admits}
-use Rattle.guard.specs.declared.queries.Waits.{Waits}
 use Rattle.guard.specs.declared.watch.Watch.{Watch}
 
--- a call at a moment received a frame that the guard of the host admits, whatever answers to queries wait
+-- a call at a moment received a frame that the guard of the host admits
 pub record ReceivesAdmitted (at : ℕ) (frame : List ℕ) (w : Watch) (old : Host) (told : List Event) (notes : List Note)
     (new : Host) : Type 0 where
   pub receives : Receives (pos at) frame old told notes new
   pub is_on : w.is_on ≡ true
-  pub waits : Waits
-  pub admitted : admits (pos at) frame (if_ethernet old.hardware_addr) old.ip_addrs old.neighbors waits w ≡ true
+  pub admitted : admits frame (if_ethernet old.hardware_addr) old.ip_addrs w ≡ true
 
 -- who is known at an address is known at this hardware address
 abbrev pub IsKnownOnlyAt : Host → IpAddress → EthernetAddress → Type 0

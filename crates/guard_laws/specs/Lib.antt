@@ -1,2 +1,4 @@
 pub mod Claims
 pub mod MessageClaims
+pub mod Strangers
+pub mod Answers

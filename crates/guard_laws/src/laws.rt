@@ -1,6 +1,8 @@
-//! What a host behind a guard never learns, whatever frames come.
+//! What a host behind a guard never learns, and what strangers can't do to it, whatever frames come.
+ghost use Rattle.guard_laws.specs.Answers.{AnswersStay, LaterAnswersCount, ListenerAnswersStay, TurnsAreTaken};
 ghost use Rattle.guard_laws.specs.Claims.{NobodyClaimsAnOwnAddress, PinnedNeighborsStay};
 ghost use Rattle.guard_laws.specs.MessageClaims.{NobodyClaimsAnOwnIpv6Address, PinnedIpv6NeighborsStay};
+ghost use Rattle.guard_laws.specs.Strangers.{ConfirmedStay};
 
 /// By a frame that its guard admits a host learns no other hardware address for its own IPv4 addresses than its own one.
 pub fn nobody_claims_an_own_address()
@@ -21,4 +23,32 @@ pub fn nobody_claims_an_own_ipv6_address()
 /// Likewise of an IPv6 address that is pinned.
 pub fn pinned_ipv6_neighbors_stay()
     ensures { PinnedIpv6NeighborsStay }
+{}
+
+/// A neighbour that is confirmed stays known at its hardware address, until less of its time is left than a stranger stays, whatever
+/// frames strangers send, and however many. Confirmed ones never become so many that none is left for others.
+pub fn confirmed_stay()
+    ensures { ConfirmedStay }
+{}
+
+/// However many queries of IGMP come, none puts off the answer to a general query of which nothing was reported yet, or takes its place,
+/// unless its own would come sooner.
+pub fn answers_stay()
+    ensures { AnswersStay }
+{}
+
+/// Where something was reported, the answer to a later general query takes the place, so that what was reported comes again.
+pub fn later_answers_count()
+    ensures { LaterAnswersCount }
+{}
+
+/// Likewise of MLD, where such an answer stays beside queries about a group, too.
+pub fn listener_answers_stay()
+    ensures { ListenerAnswersStay }
+{}
+
+/// A request for a hardware address in response to a frame is followed by the turn of sockets for three seconds, as long as who was asked
+/// for isn't known; one of a socket isn't.
+pub fn turns_are_taken()
+    ensures { TurnsAreTaken }
 {}

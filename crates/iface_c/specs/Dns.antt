@@ -8,14 +8,14 @@ use Rattle.dns_client.specs.declared.message.DnsType.TheVariants.{A, Aaaa}
 use Rattle.dns_client.specs.declared.query.DnsFailure.{DnsFailure}
 use Rattle.dns_client.specs.declared.query.DnsFailure.TheVariants.{NoSuchName, ServerFailure, Truncated, NoAddress, TooManyAliases, TimedOut}
 use Rattle.dns_client.specs.declared.query.DnsResult.{DnsResult}
-use Rattle.dns_client.specs.declared.query.DnsResult.TheVariants.{Pending, Addresses, Failed}
+use Rattle.dns_client.specs.declared.query.DnsResult.TheVariants.{Pending, Addresses, TruncatedAddresses, Failed}
 use Rattle.dns_client.specs.DnsResolver.Resolver.{at, result_at}
 use Rattle.tcp_host.specs.declared.sip_hash.SipKey.{SipKey}
 use Rattle.iface_host.specs.declared.host.IfaceHost.{IfaceHost}
 use Rattle.iface_host.specs.declared.refusal.Refusal.{Refusal}
 use Rattle.iface_host.specs.declared.refusal.Refusal.TheVariants.{NotThere}
 use Rattle.iface_dns.specs.Dns as dns
-use Rattle.iface_dns.specs.Dns.{new_dns, with_servers}
+use Rattle.iface_dns.specs.Dns.{new_dns, servers_refusal, with_servers}
 use Rattle.iface_dns.specs.Start.{Starts, start_refusal}
 use Rattle.iface_dns.specs.declared.dns.Dns.{Dns}
 use Rattle.iface_dns.specs.declared.start.StartRefusal.{StartRefusal}
@@ -80,11 +80,11 @@ servers_in list =
 abbrev pub key_in : List ℕ → SipKey
 key_in words = record { k0 = slice_index words 0; k1 = slice_index words 1 }
 
--- of a call that makes a client: 20 where the handle owns one, 3 where the servers have no meaning
+-- of a call that makes a client: 20 where the handle owns one, 3 where the servers have no meaning, 6 where one isn't unicast
 abbrev pub code_for_new : Option (List IpAddress) → Option Dns → ℕ
 code_for_new servers (Some d) = 20
 code_for_new None None = 3
-code_for_new (Some servers) None = 0
+code_for_new (Some servers) None = code_if (servers_refusal servers)
 
 -- there was no client, and there is a new one
 abbrev pub IsMade : ℕ → SipKey → Option (List IpAddress) → Option Dns → Option Dns → Type 0
@@ -97,11 +97,11 @@ pub record Made (code queries : ℕ) (key : SipKey) (servers : Option (List IpAd
   pub done : code ≡ 0 → IsMade queries key servers (dns_in d) (dns_in d')
   pub refused : code ≢ 0 → dns_in d' ≡ dns_in d
 
--- of a call that sets servers: 3 where these have no meaning, before all others
+-- of a call that sets servers: 3 where these have no meaning, before all others, and 6 where one isn't unicast
 abbrev pub code_for_servers : Option (List IpAddress) → Option Dns → ℕ
 code_for_servers None d = 3
 code_for_servers (Some servers) None = 19
-code_for_servers (Some servers) (Some d) = 0
+code_for_servers (Some servers) (Some d) = code_if (servers_refusal servers)
 
 abbrev pub SetsServers : Option (List IpAddress) → Dns → Dns → Type 0
 SetsServers servers old new = IsSomeAnd servers (λ list. new ≡ with_servers list old)
@@ -155,12 +155,16 @@ number_of_failure TimedOut = 7
 abbrev pub address_at : List (Option IpAddress) → ℕ → IfaceAddress
 address_at list i = address_for_c_if (slice_index_or list i None)
 
-abbrev pub result_for_c : DnsResult → IfaceDnsAnswer
-result_for_c Pending = without_addresses 0
-result_for_c (Addresses list) = record {
-  state = 1;
+abbrev pub with_addresses : ℕ → List (Option IpAddress) → IfaceDnsAnswer
+with_addresses state list = record {
+  state = state;
   addresses = address_at list 0 ∷ address_at list 1 ∷ address_at list 2 ∷ address_at list 3 ∷ [];
 }
+
+abbrev pub result_for_c : DnsResult → IfaceDnsAnswer
+result_for_c Pending = without_addresses 0
+result_for_c (Addresses list) = with_addresses 1 list
+result_for_c (TruncatedAddresses list) = with_addresses 8 list
 result_for_c (Failed failure) = without_addresses (number_of_failure failure)
 
 -- a number names no query

@@ -4,7 +4,6 @@ use Rattle.net_base.specs.declared.bucket.Bucket.{Bucket}
 use Rattle.guard.specs.declared.watch.Conflict.{Conflict}
 use Rattle.guard.specs.declared.watch.Watch.{Watch}
 use Rattle.guard.specs.Pins.{no_pins}
-use Rattle.guard.specs.Queries.{no_delays}
 use Rattle.guard.specs.Watch.{no_drops}
 use Rattle.iface_host.specs.declared.host.IfaceHost.{IfaceHost}
 use Rattle.iface_c.specs.Properties.{holds_in}
@@ -24,14 +23,12 @@ watch_in c = record {
     keeps_own_addresses = holds_in c.own_addresses;
     drops_fragments = holds_in c.fragments;
     drops_loops = holds_in c.loops;
-    neighbors = bucket_in c.neighbors;
-    discoveries = bucket_in c.discoveries;
-    queries = bucket_in c.queries;
-    delays = no_delays;
-    router_time = c.routers;
+    strangers_stay = c.strangers_stay;
+    takes_turns = holds_in c.turns;
+    keeps_reports = holds_in c.reports;
+    keeps_neighbors = holds_in c.routers;
     pins = no_pins;
     asked = None;
-    router = None;
   };
   answers = record {
     echo_replies = bucket_in c.echo_replies;
@@ -48,17 +45,17 @@ watch_in c = record {
 -- what most programs want: the usual rules and rates, but none of echo replies
 abbrev pub usual_guard : IfaceGuard
 usual_guard = record {
-  neighbors = record { interval = 500000; at_once = 8 };
-  discoveries = record { interval = 2000000; at_once = 1 };
-  queries = record { interval = 1000000; at_once = 1 };
   echo_replies = record { interval = 0; at_once = 0 };
   errors = record { interval = 10000; at_once = 10 };
   resets = record { interval = 10000; at_once = 10 };
-  routers = 60000000;
+  strangers_stay = 20000000;
   on = 1;
   own_addresses = 1;
   loops = 1;
   fragments = 0;
+  turns = 1;
+  reports = 1;
+  routers = 1;
   longest_error = 3;
   defend = 0;
 }
@@ -69,10 +66,6 @@ drops_shown host = record {
   own_address = host.watch.counts.own_address;
   own_source = host.watch.counts.own_source;
   pinned = host.watch.counts.pinned;
-  new_neighbor = host.watch.counts.new_neighbor;
-  discovery = host.watch.counts.discovery;
-  query = host.watch.counts.query;
-  router = host.watch.counts.router;
   fragment = host.watch.counts.fragment;
   loops = host.watch.counts.loops;
   echo_reply = host.watch.counts.echo_reply;

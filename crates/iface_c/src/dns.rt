@@ -40,17 +40,25 @@ impl IfaceDnsAnswer {
     {
         match there {
             DnsResult::Pending => without_addresses(0),
-            DnsResult::Addresses([first, second, third, fourth]) => IfaceDnsAnswer {
-                state: 1,
-                addresses: [
-                    address_of(first),
-                    address_of(second),
-                    address_of(third),
-                    address_of(fourth),
-                ],
-            },
+            DnsResult::Addresses(list) => with_addresses(1, list),
+            DnsResult::TruncatedAddresses(list) => with_addresses(8, list),
             DnsResult::Failed(failure) => without_addresses(number_of_failure(failure)),
         }
+    }
+}
+
+/// A result with these addresses.
+fn with_addresses(state: u32, list: &[Option<IpAddress>; 4]) -> IfaceDnsAnswer
+    ensures { result ≡ spec.with_addresses state list.now }
+{
+    IfaceDnsAnswer {
+        state,
+        addresses: [
+            address_of(&list[0]),
+            address_of(&list[1]),
+            address_of(&list[2]),
+            address_of(&list[3]),
+        ],
     }
 }
 

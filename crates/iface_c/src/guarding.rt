@@ -12,7 +12,7 @@ ghost use Rattle.iface_c.specs.Status.{code_by, code_with};
 use crate::addresses::IfaceAddress;
 use crate::handle::Iface;
 use crate::status::{BAD_ARGUMENT, NO_HOST, NOT_THERE, OK, code};
-use guard::{Answers, Counts, Defence, Delays, Guard, Pins, Watch};
+use guard::{Answers, Counts, Defence, Guard, Pins, Watch};
 use ip_wire::EthernetAddress;
 use net_base::bucket::Bucket;
 use std::alloc::Global;
@@ -40,20 +40,14 @@ impl IfaceRate {
 #[repr(C)]
 #[derive(Drop)]
 pub struct IfaceGuard {
-    /// Messages of neighbours that aren't known.
-    pub neighbors: IfaceRate,
-    /// Packets of neighbours that aren't known, for whose answer the host would have to ask.
-    pub discoveries: IfaceRate,
-    /// Queries of IGMP and MLD.
-    pub queries: IfaceRate,
     /// Echo replies.
     pub echo_replies: IfaceRate,
     /// Errors of either ICMP.
     pub errors: IfaceRate,
     /// Resets.
     pub resets: IfaceRate,
-    /// The time after which another router is heard, in microseconds; 0 sets no bound.
-    pub routers: u32,
+    /// How long a neighbour is known that isn't confirmed, in microseconds; 0: as long as any other.
+    pub strangers_stay: u32,
     /// Whether there is a guard at all: 0, or not.
     pub on: u8,
     /// Whether what claims an own address is dropped, or comes from one.
@@ -62,6 +56,12 @@ pub struct IfaceGuard {
     pub loops: u8,
     /// Whether fragments are dropped.
     pub fragments: u8,
+    /// Whether sockets that wait for a neighbour and frames take turns in asking for one.
+    pub turns: u8,
+    /// Whether an answer to a query that waits stays where a later query would only put it off.
+    pub reports: u8,
+    /// Whether an advertisement of which nothing is learnt leaves the neighbours.
+    pub routers: u8,
     /// How many times as long an error may be as what it answers; 0 sets no bound.
     pub longest_error: u32,
     /// How long after the announcement of an own address the next one may be sent, in microseconds; 0: none is.
@@ -74,18 +74,6 @@ impl IfaceGuard {
         ensures { result ≡ usual_guard }
     {
         IfaceGuard {
-            neighbors: IfaceRate {
-                interval: 500_000,
-                at_once: 8,
-            },
-            discoveries: IfaceRate {
-                interval: 2_000_000,
-                at_once: 1,
-            },
-            queries: IfaceRate {
-                interval: 1_000_000,
-                at_once: 1,
-            },
             echo_replies: IfaceRate {
                 interval: 0,
                 at_once: 0,
@@ -98,11 +86,14 @@ impl IfaceGuard {
                 interval: 10_000,
                 at_once: 10,
             },
-            routers: 60_000_000,
+            strangers_stay: 20_000_000,
             on: 1,
             own_addresses: 1,
             loops: 1,
             fragments: 0,
+            turns: 1,
+            reports: 1,
+            routers: 1,
             longest_error: 3,
             defend: 0,
         }
@@ -118,14 +109,12 @@ impl IfaceGuard {
                 keeps_own_addresses: self.own_addresses != 0,
                 drops_fragments: self.fragments != 0,
                 drops_loops: self.loops != 0,
-                neighbors: self.neighbors.bucket(),
-                discoveries: self.discoveries.bucket(),
-                queries: self.queries.bucket(),
-                delays: Delays::NONE,
-                router_time: u64::from(self.routers),
+                strangers_stay: self.strangers_stay,
+                takes_turns: self.turns != 0,
+                keeps_reports: self.reports != 0,
+                keeps_neighbors: self.routers != 0,
                 pins: Pins::new(),
                 asked: None,
-                router: None,
             },
             answers: Answers {
                 echo_replies: self.echo_replies.bucket(),
@@ -155,14 +144,6 @@ pub struct IfaceDrops {
     pub own_source: u64,
     /// Messages that tell another hardware address of a pinned neighbour.
     pub pinned: u64,
-    /// Messages of neighbours that aren't known.
-    pub new_neighbor: u64,
-    /// Packets for whose answer the host would have to ask.
-    pub discovery: u64,
-    /// Queries of IGMP and MLD, beyond their rate, or about the group of all hosts.
-    pub query: u64,
-    /// Router advertisements.
-    pub router: u64,
     /// Fragments.
     pub fragment: u64,
     /// Datagrams that could go to and fro for ever.
@@ -195,10 +176,6 @@ pub extern "C" fn iface_guard_drops(
         own_address: counts.own_address,
         own_source: counts.own_source,
         pinned: counts.pinned,
-        new_neighbor: counts.new_neighbor,
-        discovery: counts.discovery,
-        query: counts.query,
-        router: counts.router,
         fragment: counts.fragment,
         loops: counts.loops,
         echo_reply: counts.echo_reply,

@@ -186,7 +186,7 @@ pub extern "C" fn iface_config_init(config: &mut IfaceConfig)
         start: 0,
         frame_len: 1514,
         sockets: 8,
-        neighbors: 64,
+        neighbors: 128,
         addresses: 8,
         routes: 8,
         groups: 16,

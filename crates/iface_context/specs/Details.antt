@@ -1,3 +1,2 @@
-pub mod Multicast
 pub mod PacketValues
 pub mod Pieces

@@ -1,3 +1,4 @@
 pub mod Refines
 pub mod Stands
+pub mod Multicast
 pub mod Details

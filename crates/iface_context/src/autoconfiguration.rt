@@ -62,6 +62,14 @@ pub fn process_advertisement(
         .process_advertisement(router, router_lifetime, prefix, now);
 }
 
+/// Sets whether what is known of prefixes and routers counts as changed since addresses and routes were synchronized.
+pub fn set_ra_update(context: &mut Context, changed: bool)
+    ensures { (sockets : SocketSet) → host_of context.new sockets ≡ with_slaac (host_of context.old sockets)
+        (record (host_of context.old no_sockets).slaac { changed = changed }) }
+{
+    context.slaac.set_ra_update(changed);
+}
+
 /// Records that a router solicitation was sent at the interface's moment.
 pub fn rs_sent(context: &mut Context)
     ensures { (sockets : SocketSet) → host_of context.new sockets ≡ with_slaac (host_of context.old sockets)

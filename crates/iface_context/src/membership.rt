@@ -4,7 +4,7 @@ ghost use Rattle.iface_tables.specs.declared.groups.Group.{Group};
 ghost use Rattle.iface_tables.specs.declared.report.IgmpReportState.TheVariants as igmp;
 ghost use Rattle.iface_tables.specs.declared.report.MldReportState.TheVariants as mld;
 ghost use Rattle.host_machine.specs.Context.Membership as spec;
-ghost use Rattle.iface_context.specs.Details.Multicast.{interval_of};
+ghost use Rattle.iface_context.specs.Multicast.{interval_of};
 
 use crate::addresses::has_solicited_node;
 use arrayvec::ArrayVec;

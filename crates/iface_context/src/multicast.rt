@@ -5,7 +5,7 @@ ghost use Rattle.iface_tables.specs.Groups.{count_in, done_or_full, first_in, jo
 ghost use Rattle.iface_tables.specs.Groups.{groups_after_join, leave_reported, groups_after_leave};
 ghost use Rattle.host_machine.specs.Context.Host.{SocketSet, no_sockets, with_groups};
 ghost use Rattle.host_machine.specs.Context.Host.{with_igmp_report, with_mld_report};
-ghost use Rattle.iface_context.specs.Details.Multicast.{interval_of};
+ghost use Rattle.iface_context.specs.Multicast.{interval_of};
 ghost use Rattle.iface_context.specs.Stands.{host_of};
 
 use crate::context::Context;
@@ -15,7 +15,7 @@ use ip_wire::IpAddress;
 impl Context {
     ghost use Rattle.std.specs.Prelude.{◌≡◌, ◌<◌};
     ghost use Rattle.host_machine.specs.Context.Host.{no_sockets};
-    ghost use Rattle.iface_context.specs.Details.Multicast.{interval_of};
+    ghost use Rattle.iface_context.specs.Multicast.{interval_of};
     ghost use Rattle.iface_context.specs.Stands.{host_of};
 
     /// The groups, each with what is still to be reported of it, in the order in which they are walked.

@@ -2,7 +2,7 @@
 ghost use Rattle.std.specs.Prelude.{◌≡◌, List, [], true};
 ghost use Rattle.ip_address.specs.Hardware as hardware;
 ghost use Rattle.ip_address.specs.Ip.{is_unicast};
-ghost use Rattle.iface_tables.specs.Neighbor.{Fills, answer_of, expiry_from, is_found, after_renewal};
+ghost use Rattle.iface_tables.specs.Neighbor.{Fills, after_limit, after_renewal, answer_of, expiry_from, is_found};
 ghost use Rattle.host_machine.specs.Context.Host.{SocketSet, with_neighbors, no_sockets};
 ghost use Rattle.host_machine.specs.Send.Requests.{with_silence};
 ghost use Rattle.iface_context.specs.Stands.{host_of};
@@ -10,6 +10,7 @@ ghost use Rattle.iface_context.specs.Stands.{host_of};
 use crate::context::Context;
 use iface_tables::neighbor::Answer;
 use ip_wire::{HardwareAddress, IpAddress};
+use net_base::time::Instant;
 
 /// What is known of a neighbour at the interface's moment. Its address must be unicast.
 #[inline(always)]
@@ -77,4 +78,22 @@ pub fn limit_rate(context: &mut Context)
         (with_silence (host_of context.old no_sockets).neighbors (host_of context.old no_sockets)) }
 {
     context.neighbor_cache.limit_rate(context.moment);
+}
+
+/// Lets a neighbour's entry expire at an instant, if it would expire later. Otherwise nothing changes.
+pub fn limit_neighbor(context: &mut Context, protocol_addr: IpAddress, expires_at: Instant)
+    ensures { (sockets : SocketSet) → host_of context.new sockets ≡ with_neighbors (host_of context.old sockets)
+        (after_limit (host_of context.old no_sockets).neighbors protocol_addr expires_at) }
+{
+    context
+        .neighbor_cache
+        .limit_expiry(protocol_addr, expires_at);
+}
+
+/// Sets the instant until which no neighbour is asked for.
+pub fn set_silence(context: &mut Context, until: Instant)
+    ensures { (sockets : SocketSet) → host_of context.new sockets ≡ with_neighbors (host_of context.old sockets)
+        (record (host_of context.old no_sockets).neighbors { silent_until = until }) }
+{
+    context.neighbor_cache.set_silence(until);
 }

@@ -5,7 +5,7 @@ use Rattle.std.proofs.Common.{◌≡◌, ℕ, Bool, true, false, List, [], ◌�
 use Rattle.std.proofs.Common.{length, take, arith, ◌≤◌}
 use Rattle.std.proofs.lemmas.List.{length-take-le, take_all}
 use Rattle.std.proofs.Math.Dec.{eqb-suc-zero}
-use Rattle.std.specs.Prelude.{ℤ, pos, ◌||◌, ◌==◌, not, Err, IfOk, Result}
+use Rattle.std.specs.Prelude.{ℤ, pos, ◌||◌, ◌==◌, is_none, not, Err, IfOk, Result}
 use Rattle.std.specs.Borrow.{Bor}
 use Rattle.std.specs.Box.{with_value}
 use Rattle.socket_set.specs.SocketSet.{Sockets}
@@ -24,13 +24,13 @@ use Rattle.interface.specs.Stands as interfaces
 use Rattle.interface.specs.declared.interface.Interface.{Interface}
 use Rattle.guard.specs.Defence.{announced}
 use Rattle.guard.specs.Watch as guard
-use Rattle.iface_tables.specs.Neighbor.{Neighbors}
 use Rattle.ip_address.specs.declared.cidr.IpCidr.{IpCidr}
 use Rattle.ip_address.specs.declared.hardware.HardwareAddress.{HardwareAddress}
-use Rattle.guard.specs.declared.queries.Waits.{Waits}
+use Rattle.guard.specs.declared.guard.Reason.{Reason}
 use Rattle.guard.specs.declared.watch.Watch.{Watch}
 use Rattle.iface_host.specs.Frames.{Gives, IsDue, IsWritten, Made, PollsInto, Round, Takes, after_response, is_piece_left, let_go, planned}
-use Rattle.iface_host.specs.Guarded.{Admitted, Defends, Dropped, NextIs, Receives, after_arrival, after_sending, hardware_addr_of, is_admitted}
+use Rattle.iface_host.specs.Calls.{addresses_of}
+use Rattle.iface_host.specs.Guarded.{Admitted, Defends, Dropped, NextIs, Receives, TakesGuarded, after_arrival, after_sending, hardware_addr_of, is_admitted}
 use Rattle.iface_host.specs.Counters.{after_handing, after_taking}
 use Rattle.iface_host.specs.Outbox.{Tells, Waiting, with_room}
 use Rattle.iface_host.specs.RoundDevice as device
@@ -81,26 +81,20 @@ went t frame answered w e n before after is = rw e is
 pub all_of : (n : ℕ) (octets : List ℕ) → length octets ≤ n → octets ≡ take n octets
 all_of n octets short = sym (take_all n octets short)
 
--- a guard judges by the host's own hardware address, addresses and neighbours
-pub admits_as : (t : ℤ) (frame : List ℕ) (hardware hardware' : Option HardwareAddress) → hardware ≡ hardware' →
-    (own own' : List IpCidr) → own ≡ own' → (known known' : Neighbors) → known ≡ known' → (waits waits' : Waits) → waits ≡ waits' →
-    (w : Watch) → guard.admits t frame hardware own known waits w ≡ guard.admits t frame hardware' own' known' waits' w
-admits_as t frame hardware hardware' same_hardware own own' same known known' same' waits waits' same_waits w =
-    ap (λ (h : Option HardwareAddress). guard.admits t frame h own known waits w) same_hardware
-    ∙ ap (λ (o : List IpCidr). guard.admits t frame hardware' o known waits w) same
-    ∙ ap (λ (k : Neighbors). guard.admits t frame hardware' own' k waits w) same'
-    ∙ ap (λ (x : Waits). guard.admits t frame hardware' own' known' x w) same_waits
+-- a guard judges by the host's own hardware address and addresses
+pub admits_as : (frame : List ℕ) (hardware hardware' : Option HardwareAddress) → hardware ≡ hardware' →
+    (own own' : List IpCidr) → own ≡ own' → (w : Watch) → guard.admits frame hardware own w ≡ guard.admits frame hardware' own' w
+admits_as frame hardware hardware' same_hardware own own' same w =
+    ap (λ (h : Option HardwareAddress). guard.admits frame h own w) same_hardware
+    ∙ ap (λ (o : List IpCidr). guard.admits frame hardware' o w) same
 
 pub arrives_as : (t : ℤ) (frame : List ℕ) (hardware hardware' : Option HardwareAddress) → hardware ≡ hardware' →
-    (own own' : List IpCidr) → own ≡ own' → (known known' : Neighbors) → known ≡ known' → (waits waits' : Waits) → waits ≡ waits' →
-    (host : IfaceHost) (w : Watch) → w ≡ guard.after_arrival t frame hardware own known waits host.watch →
-    record host { watch = w } ≡ record host { watch = guard.after_arrival t frame hardware' own' known' waits' host.watch }
-arrives_as t frame hardware hardware' same_hardware own own' same known known' same' waits waits' same_waits host w is =
+    (own own' : List IpCidr) → own ≡ own' → (host : IfaceHost) (w : Watch) → w ≡ guard.after_arrival t frame hardware own host.watch →
+    record host { watch = w } ≡ record host { watch = guard.after_arrival t frame hardware' own' host.watch }
+arrives_as t frame hardware hardware' same_hardware own own' same host w is =
     ap (λ (v : Watch). record host { watch = v }) (is
-    ∙ ap (λ (h : Option HardwareAddress). guard.after_arrival t frame h own known waits host.watch) same_hardware
-    ∙ ap (λ (o : List IpCidr). guard.after_arrival t frame hardware' o known waits host.watch) same
-    ∙ ap (λ (k : Neighbors). guard.after_arrival t frame hardware' own' k waits host.watch) same'
-    ∙ ap (λ (x : Waits). guard.after_arrival t frame hardware' own' known' x host.watch) same_waits)
+    ∙ ap (λ (h : Option HardwareAddress). guard.after_arrival t frame h own host.watch) same_hardware
+    ∙ ap (λ (o : List IpCidr). guard.after_arrival t frame hardware' o host.watch) same)
 
 -- a frame was taken
 pub received : (t : ℤ) (frame : List ℕ) (n : ℕ) (before after : List ℕ) (old : IfaceHost) (i : Interface) (s : Sockets (Bor (Unit {0})))
@@ -136,15 +130,22 @@ received t frame n before after old i s shown result is written r changed change
 }
 
 -- at the moment that was tested
+-- a frame that is admitted is noted nowhere
+noted_nowhere : (why : Option Reason) → is_none why ≡ true → (t : ℤ) (frame : List ℕ) (w : Watch) → guard.after_reason t frame why w ≡ w
+noted_nowhere None none t frame w = refl
+noted_nowhere (Some r) none t frame w = absurd cc
+
 pub admitted : (t t' : ℤ) → t' ≡ t → (frame : List ℕ) (n : ℕ) (before after : List ℕ) (old mid new : IfaceHost) →
-    is_admitted t' frame old ≡ true → mid ≡ after_arrival t' frame old → Takes t' frame n before after mid new →
+    is_admitted frame old ≡ true → mid ≡ after_arrival t' frame old → TakesGuarded t' frame n before after mid new →
     Receives t frame n before after old new
 admitted t t' same frame n before after old mid new is mid_is takes =
+    let stays : mid ≡ old = mid_is ∙ ap (λ (w : Watch). record old { watch = w })
+    (noted_nowhere (guard.reason_for frame (hardware_addr_of old) (addresses_of old) old.watch) is t' frame old.watch) in
     subst (λ (m : ℤ). Receives m frame n before after old new) same
-    (Admitted is (subst (λ (h : IfaceHost). Takes t' frame n before after h new) mid_is takes))
+    (Admitted is (subst (λ (h : IfaceHost). TakesGuarded t' frame n before after h new) stays takes))
 
 pub dropped : (t t' : ℤ) → t' ≡ t → (frame : List ℕ) (n : ℕ) (before after : List ℕ) (old mid new : IfaceHost) →
-    is_admitted t' frame old ≡ false → mid ≡ after_arrival t' frame old → Defends n before after mid new → Receives t frame n before after old new
+    is_admitted frame old ≡ false → mid ≡ after_arrival t' frame old → Defends n before after mid new → Receives t frame n before after old new
 dropped t t' same frame n before after old mid new is mid_is defends =
     subst (λ (m : ℤ). Receives m frame n before after old new) same
     (Dropped is (subst (λ (h : IfaceHost). Defends n before after h new) mid_is defends))

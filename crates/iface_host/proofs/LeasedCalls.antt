@@ -14,7 +14,6 @@ use Rattle.iface_host.specs.Stands.{Follows}
 use Rattle.iface_host.specs.TableRefusals.{list_refusal}
 use Rattle.iface_host.specs.declared.host.IfaceHost.{IfaceHost}
 use Rattle.iface_host.specs.declared.leased.Leased.{Leased}
-use Rattle.iface_host.specs.declared.refusal.Refusal.{Refusal}
 use Rattle.iface_host.specs.declared.refusal.Refusal.TheVariants.{TableFull}
 use Rattle.iface_host.proofs.RefusalCalls.{IsThere, behind, list_told, there}
 use Rattle.std.specs.Prelude.{nat_lt}

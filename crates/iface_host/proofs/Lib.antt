@@ -4,3 +4,4 @@ pub mod Places
 mod Vacancies
 mod RefusalCalls
 mod RuleCalls
+mod GuardCalls

@@ -26,7 +26,7 @@ use Rattle.interface.specs.declared.interface.Interface.{Interface}
 use Rattle.iface_host.specs.declared.host.IfaceHost.{IfaceHost}
 use Rattle.iface_host.specs.declared.refusal.Refusal.{Refusal}
 use Rattle.iface_host.specs.Calls.{RemovesRoute, is_to}
-use Rattle.iface_host.specs.Stands.{Follows, Stays}
+use Rattle.iface_host.specs.Stands.{Follows, StandsFor, Stays}
 use Rattle.std.specs.List.{position_or_len, remove}
 
 abbrev pub with_interface : IfaceHost → Interface → IfaceHost
@@ -57,6 +57,29 @@ untouched_if (Err refusal) old = untouched old
 pub changed : (old : IfaceHost) (i : Interface) (change : Machine → Machine) →
     Becomes old.interface.value i change → Follows (λ H H'. H' ≡ change H) old (with_interface old i)
 changed old i change b = record { led = λ H h. record { host = change H; follows = refl; stands = b old.sockets H h }; rest = refl }
+
+-- a change of every host that it stood for, said in another way
+pub changed_as : (old : IfaceHost) (i : Interface) (change other : Machine → Machine) → Becomes old.interface.value i change →
+    ((H : Machine) → StandsFor old H → change H ≡ other H) → Follows (λ H H'. H' ≡ other H) old (with_interface old i)
+changed_as old i change other b same = record {
+  led = λ H h. record {
+    host = other H;
+    follows = refl;
+    stands = subst (interface.StandsFor i old.sockets) (same H h) (b old.sockets H h);
+  };
+  rest = refl;
+}
+
+-- one change after another
+pub changed_twice : (a b c : IfaceHost) (f g : Machine → Machine) → Follows (λ H H'. H' ≡ f H) a b → Follows (λ H H'. H' ≡ g H) b c →
+    Follows (λ H H'. H' ≡ g (f H)) a c
+changed_twice a b c f g first second = record {
+  led = λ H h.
+      let l = first.led H h in
+      let m = second.led l.host l.stands in
+      record { host = m.host; follows = m.follows ∙ ap g l.follows; stands = m.stands };
+  rest = second.rest ∙ ap (λ (host : IfaceHost). record host { interface = c.interface }) first.rest;
+}
 
 -- and where it is one of a call that may be refused
 pub changed_if : (old : IfaceHost) (i : Interface) (change : Machine → Machine) (r : Result (Unit {0}) Refusal) →

@@ -7,7 +7,7 @@ use Rattle.std.specs.List.{filter}
 use Rattle.std.proofs.lemmas.List.{length-set, take_all}
 use Rattle.std.proofs.lemmas.List.Filters.{length-filter_more}
 use Rattle.std.proofs.lemmas.List.Sums.{length-filter}
-use Rattle.std.specs.List.{count_by, position, position_or_len}
+use Rattle.std.specs.List.{count_by, position_or_len}
 use Rattle.std.proofs.Common.{sym, ap, ◌∙◌, arith}
 use Rattle.std.proofs.lemmas.Bool.{lt-ltb, le-leb, leb-true}
 use Rattle.std.proofs.lemmas.List.Recursion.{is_count_by}
@@ -17,7 +17,7 @@ use Rattle.socket_set.specs.SocketSet.{Sockets, first_free, has_free, set_after_
 use Rattle.iface_host.specs.Names.{first_unused}
 use Rattle.iface_host.specs.Sockets.{Opens, Socket}
 use Rattle.iface_host.specs.Streams.{has_room_for, unused_numbers, free_places}
-use Rattle.iface_host.specs.TableRefusals.{opening_refusal, is_number}
+use Rattle.iface_host.specs.TableRefusals.{opening_refusal}
 use Rattle.iface_host.specs.declared.host.IfaceHost.{IfaceHost}
 use Rattle.iface_host.specs.declared.refusal.Refusal.{Refusal}
 

@@ -24,7 +24,8 @@ impl IfaceHost {
     /// Takes a frame at a moment, and writes the frame that is to be sent in response, if there is one, to the front of
     /// a buffer. Answers how many octets that has, 0 where there is none. A frame that the host's guard drops changes
     /// nothing but what the guard keeps, and is answered by the announcement of an own address, if one is owed; of a
-    /// response that it holds back nothing is written. `BadMoment` if the moment is out of range, `NoRoom` if the buffer
+    /// response that it holds back nothing is written. Of one that it admits less may be left: the entry of its sender
+    /// expires sooner, an answer to a query that waits stays, and neighbours stay where nothing is learnt of routers. `BadMoment` if the moment is out of range, `NoRoom` if the buffer
     /// has less than 1,514 octets.
     pub fn receive(&mut self, now: i64, frame: &[u8], out: &mut [u8]) -> Result<usize, Refusal>
         ensures why { result_err result ≡ frame_refusal now (length out.old) }
@@ -39,11 +40,11 @@ impl IfaceHost {
         if !self.admits(now, frame) {
             return Ok(self.defend(out));
         }
-        Ok(self.take_frame(now, frame, out))
+        Ok(self.take_guarded(now, frame, out))
     }
 
-    /// Takes a frame that the guard admits.
-    fn take_frame(&mut self, now: Instant, frame: &[u8], out: &mut [u8]) -> usize
+    /// Takes a frame, and sends the response that the guard lets go.
+    pub(crate) fn take_frame(&mut self, now: Instant, frame: &[u8], out: &mut [u8]) -> usize
         requires moment { IsMoment now }
         requires room { 1514 ≤ length out.old }
         ensures { Takes now frame.now result out.old out.new self.old self.new }

@@ -1,16 +1,45 @@
 //! The guard in front of a host, and behind it.
 ghost use Rattle.std.specs.Prelude.{◌≡◌, ◌≤◌, OnOk, OnErr, length, take};
+ghost use Rattle.net_base.specs.Time.{IsMoment};
+ghost use Rattle.interface.specs.Stands.{IsPaced};
 ghost use Rattle.std.specs.Result.{result_err};
 ghost use Rattle.iface_host.specs.Guarded as spec;
-ghost use Rattle.iface_host.specs.Guarded.{Defends};
+ghost use Rattle.iface_host.specs.Guarded.{Changes, Defends, IsStanding, TakesGuarded};
+ghost use Rattle.iface_host.specs.Properties.{machine_of};
 ghost use Rattle.iface_host.specs.Stands.{watch_for};
 
 use crate::host::{IfaceHost, Settings};
 use crate::outbox::write_front;
 use crate::refusal::Refusal;
-use guard::{Conflict, Counts, Waits, Watch};
+use guard::guard::is_ordinary;
+use guard::reports::{kept, kept_mld};
+use guard::{Conflict, Counts, Limit, Watch};
+use iface_tables::{IgmpReportState, MldReportState};
 use ip_wire::{EthernetAddress, HardwareAddress, IpAddress};
-use net_base::time::Instant;
+use net_base::time::{Duration, Instant};
+
+/// What a guard keeps of a host while it takes a frame.
+#[derive(Clone, Copy, Debug)]
+pub struct Standing {
+    /// Until when the host is silent, if it asks for nobody meanwhile.
+    pub silent_until: Option<Instant>,
+    /// Until when the entry of the frame's sender is to last.
+    pub limit: Option<Limit>,
+    /// Whether answers to queries that wait are kept.
+    pub keeps_reports: bool,
+    /// Whether neighbours are kept where nothing is learnt of routers.
+    pub keeps_neighbors: bool,
+    /// The answer of IGMP that waits.
+    pub igmp: IgmpReportState,
+    /// That of MLD.
+    pub mld: MldReportState,
+    /// How many prefixes are known.
+    pub prefixes: usize,
+    /// How many routers are.
+    pub routers: usize,
+    /// Whether what is known changed.
+    pub changed: bool,
+}
 
 impl IfaceHost {
     /// How many frames its guard dropped, by the reason, and how many answers it held back.
@@ -69,13 +98,197 @@ impl IfaceHost {
     /// Whether the host may see a frame that came at a moment.
     #[inline(always)]
     pub(crate) fn admits(&mut self, now: Instant, frame: &[u8]) -> bool
-        ensures admitted { result ≡ spec.is_admitted now frame.now self.old }
+        ensures admitted { result ≡ spec.is_admitted frame.now self.old }
         ensures rest { self.new ≡ spec.after_arrival now frame.now self.old }
     {
-        let (own, neighbors) = (self.interface.ip_addrs(), self.interface.neighbors());
+        let own = self.interface.ip_addrs();
         let hardware = self.interface.hardware_addr();
+        self.watch.admits(now, frame, hardware, own)
+    }
+
+    /// Takes a frame that the guard admits, at a moment, and leaves of what it changed what the guard leaves. Answers how many octets
+    /// the response has that is written to the front of a buffer, 0 where there is none.
+    pub(crate) fn take_guarded(&mut self, now: Instant, frame: &[u8], out: &mut [u8]) -> usize
+        requires moment { IsMoment now }
+        requires room { 1514 ≤ length out.old }
+        ensures { TakesGuarded now frame.now result out.old out.new self.old self.new }
+    {
+        if self.leaves_all(now, frame) {
+            return self.take_frame(now, frame, out);
+        }
+        self.take_and_keep(now, frame, out)
+    }
+
+    /// Whether the guard leaves all that a frame changes, and lets the host ask for anybody meanwhile: most datagrams and segments.
+    #[inline(always)]
+    fn leaves_all(&self, now: Instant, frame: &[u8]) -> bool
+        requires { IsMoment now }
+        ensures { result ≡ spec.leaves_all now frame.now self.now }
+    {
+        !self.watch.is_on
+            || !self.may_tell(frame)
+                && !self.is_silenced(now)
+                && self.limit_on(now, frame).is_none()
+    }
+
+    /// Takes a frame, and keeps what the guard keeps of the host.
+    #[inline(never)]
+    fn take_and_keep(&mut self, now: Instant, frame: &[u8], out: &mut [u8]) -> usize
+        requires moment { IsMoment now }
+        requires room { 1514 ≤ length out.old }
+        ensures { TakesGuarded now frame.now result out.old out.new self.old self.new }
+    {
+        let standing = self.standing(now, frame);
+        self.begin_silence(now, standing.silent_until.is_some());
+        let len = self.take_frame(now, frame, out);
+        self.keep(&standing);
+        len
+    }
+
+    /// What the guard keeps of the host while it takes a frame at a moment.
+    fn standing(&self, now: Instant, frame: &[u8]) -> Standing
+        requires { IsMoment now }
+        ensures standing { IsStanding now frame.now self.now result }
+        ensures paced { IsPaced result.igmp }
+    {
+        let may_tell = self.may_tell(frame);
+        let slaac = self.interface.slaac();
+        Standing {
+            silent_until: self.silence_to_keep(now),
+            limit: self.limit_on(now, frame),
+            keeps_reports: may_tell & self.watch.guard.keeps_reports,
+            keeps_neighbors: may_tell & self.watch.guard.keeps_neighbors,
+            igmp: self.interface.igmp_report(),
+            mld: self.interface.mld_report(),
+            prefixes: slaac.prefix().len(),
+            routers: slaac.routes().len(),
+            changed: slaac.has_ra_update(),
+        }
+    }
+
+    /// Whether a frame may tell of groups and routers: one that is no datagram of UDP and no segment of TCP.
+    #[inline(always)]
+    fn may_tell(&self, frame: &[u8]) -> bool
+        ensures { result ≡ spec.may_tell frame.now self.now }
+    {
+        self.watch.is_on && !is_ordinary(frame, self.interface.ip_addrs())
+    }
+
+    /// Until when the host is silent, if by a frame at a moment it asks for nobody, as a socket waits and it is the turn of sockets.
+    fn silence_to_keep(&self, now: Instant) -> Option<Instant>
+        ensures { result ≡ spec.silence_to_keep now self.now }
+    {
+        if self.is_silenced(now) {
+            Some(self.interface.neighbors().silent_until())
+        } else {
+            None
+        }
+    }
+
+    /// Whether by a frame at a moment the host asks for nobody.
+    #[inline(always)]
+    fn is_silenced(&self, now: Instant) -> bool
+        ensures { result ≡ spec.is_silenced now self.now }
+    {
+        if !self.watch.is_on || !self.schedule.is_waiting() {
+            return false;
+        }
         self.watch
-            .admits(now, frame, hardware, own, neighbors, Waits::NONE)
+            .guard
+            .is_turn_of_sockets(now, self.interface.neighbors())
+    }
+
+    /// Until when the entry of a frame's sender is to last.
+    #[inline(always)]
+    fn limit_on(&self, now: Instant, frame: &[u8]) -> Option<Limit>
+        requires { IsMoment now }
+        ensures { result ≡ spec.limit_on now frame.now self.now }
+    {
+        if !self.watch.is_on {
+            return None;
+        }
+        let own = self.interface.ip_addrs();
+        self.watch
+            .guard
+            .limit_for(now, frame, own, self.interface.neighbors())
+    }
+
+    /// Has the host ask for nobody at a moment, if that is to be.
+    fn begin_silence(&mut self, now: Instant, silenced: bool)
+        requires { IsMoment now }
+        ensures { Changes (spec.begun_at now silenced) self.old self.new }
+    {
+        if silenced {
+            self.interface.set_silence(now + Duration::from_micros(1));
+        }
+    }
+
+    /// Leaves of what a frame changed what the guard leaves.
+    fn keep(&mut self, standing: &Standing)
+        requires { IsPaced standing.now.igmp }
+        ensures { Changes (spec.kept_by standing.now) self.old self.new }
+    {
+        self.keep_silence(standing.silent_until);
+        self.keep_limit(standing.limit);
+        self.keep_reports(standing);
+        self.keep_update(standing);
+    }
+
+    /// The silence is that of before, if there was one to keep.
+    fn keep_silence(&mut self, until: Option<Instant>)
+        ensures { Changes (spec.silence_back until) self.old self.new }
+    {
+        if let Some(until) = until {
+            self.interface.set_silence(until);
+        }
+    }
+
+    /// The entry of the frame's sender doesn't outlast the limit, if there is one.
+    fn keep_limit(&mut self, limit: Option<Limit>)
+        ensures { Changes (spec.limit_kept limit) self.old self.new }
+    {
+        let Some(limit) = limit else {
+            return;
+        };
+        if limit.is_for_other(self.interface.neighbors()) {
+            self.interface
+                .limit_neighbor(limit.address, limit.expires_at);
+        }
+    }
+
+    /// Answers that wait stay where a query would only put them off.
+    fn keep_reports(&mut self, standing: &Standing)
+        requires { IsPaced standing.now.igmp }
+        ensures { Changes (spec.reports_back standing.now) self.old self.new }
+    {
+        if !standing.keeps_reports {
+            return;
+        }
+        let igmp = kept(standing.igmp, self.interface.igmp_report());
+        let mld = kept_mld(standing.mld, self.interface.mld_report());
+        self.interface.set_igmp_report(igmp);
+        self.interface.set_mld_report(mld);
+    }
+
+    /// Where nothing was learnt of routers, nothing that is known changed.
+    fn keep_update(&mut self, standing: &Standing)
+        ensures { Changes (spec.update_back standing.now) self.old self.new }
+    {
+        if !standing.keeps_neighbors {
+            return;
+        }
+        if !self.is_nothing_learnt(standing) {
+            return;
+        }
+        self.interface.set_ra_update(standing.changed);
+    }
+
+    /// Whether as many prefixes and routers are known as before.
+    fn is_nothing_learnt(&self, standing: &Standing) -> bool
+        ensures { result ≡ spec.is_nothing_learnt standing.now (machine_of self.now) }
+    {
+        let slaac = self.interface.slaac();
+        slaac.prefix().len() == standing.prefixes && slaac.routes().len() == standing.routers
     }
 
     /// Writes the announcement of an own address to the front of a buffer, if the guard owes one, and counts it. Answers how many

@@ -30,7 +30,7 @@ use std::alloc::{AllocError, Global};
 pub const FRAME_LEN: usize = 1514;
 
 /// How many neighbours most hosts have room for.
-pub const NEIGHBORS: usize = 64;
+pub const NEIGHBORS: usize = 128;
 
 /// How many routes most hosts have room for.
 pub const ROUTES: usize = 8;

@@ -6,7 +6,7 @@ ghost use Rattle.host_machine.specs.Context.Host.{SocketSet, no_sockets};
 ghost use Rattle.host_machine.specs.Multicast.Igmp as igmp_rules;
 ghost use Rattle.host_machine.specs.Multicast.Timeout as timeout_rules;
 ghost use Rattle.host_machine.specs.Packet.Packet as value;
-ghost use Rattle.iface_context.specs.Details.Multicast.{interval_of, index_of};
+ghost use Rattle.iface_context.specs.Multicast.{interval_of, index_of};
 ghost use Rattle.iface_context.specs.Stands.{host_in, host_of};
 ghost use Rattle.std.specs.Option.{option_map};
 ghost use Rattle.net_base.specs.Time.{IsMoment};

@@ -8,7 +8,7 @@ use Rattle.tcp_machine.specs.Connection.{Connection}
 use Rattle.tcp_machine.specs.declared.settings.Settings.{Settings}
 use Rattle.tcp_machine.specs.declared.state.State.{State}
 use Rattle.tcp_machine.specs.declared.timers.Ending.{Ending}
-use Rattle.tcp_host.specs.Handles.{changed, is_named, released, with_hop_limit, with_settings}
+use Rattle.tcp_host.specs.Handles.{changed, changed_by, is_named, released, with_hop_limit, with_settings}
 use Rattle.tcp_host.specs.Host.{connection_at}
 use Rattle.tcp_host.specs.declared.calls.Handle.{Handle}
 use Rattle.iface_host.specs.declared.refusal.Refusal.{Refusal}
@@ -27,14 +27,19 @@ connection_of handle s = connection_at handle.place s.connections
 abbrev pub with_connection : Handle → Connection → Streams → Streams
 with_connection handle c s = with_connections s (changed handle.place c s.connections)
 
+-- where no octet was written or read, nothing changes
+abbrev pub with_connection_by : (count : ℕ) → Handle → Connection → Streams → Streams
+with_connection_by count handle c s = with_connections s (changed_by count handle.place c s.connections)
+
 pub record Sends (handle : Handle) (octets : List ℕ) (count : ℕ) (old new : Streams) : Type 0 where
   pub count_is : count ≡ calls.taken (length octets) (connection_of handle old)
-  pub after : new ≡ with_connection handle (calls.after_writing octets (connection_of handle old)) old
+  pub after : new ≡ with_connection_by count handle (calls.after_writing octets (connection_of handle old)) old
 
 pub record Receives (handle : Handle) (before after : List ℕ) (count : ℕ) (old new : Streams) : Type 0 where
   pub count_is : count ≡ calls.readable_count (length before) (connection_of handle old)
   pub written : after ≡ calls.read_of (length before) (connection_of handle old) ++ drop count before
-  pub taken : new ≡ with_connection handle (calls.after_reading (length before) (connection_of handle old)) old
+  pub taken : new ≡ with_connection_by (min (length before) (length (calls.readable (connection_of handle old)))) handle
+      (calls.after_reading (length before) (connection_of handle old)) old
 
 -- octets in order stand in the front of a buffer, as many as it has room for
 pub record Peeks (handle : Handle) (before after : List ℕ) (count : ℕ) (s : Streams) : Type 0 where

@@ -1,6 +1,7 @@
 pub mod EntriesLemmas
 pub mod ListLemmas
 pub mod NeighborLemmas
+pub mod LaterLemmas
 pub mod RouteBestLemmas
 pub mod RouteLemmas
 pub mod RouteMaskLemmas

@@ -17,6 +17,7 @@ use Rattle.std.proofs.lemmas.Option.{get_or_from_slice_get, slice_get_cases, sli
 use Rattle.ip_address.specs.Ip.{address_cmp, address_key, address_of_key, address_of_key-address_key}
 use Rattle.iface_tables.specs.Entries.{AreKeysDistinct, index_of}
 use Rattle.iface_tables.specs.Neighbor.{AreOf, HasPlace, IsEarliest, IsLeastEnd, Neighbors, Puts, is_same, after_renewal, renewed_at, renewed_from}
+use Rattle.iface_tables.specs.Neighbor.{after_limit, is_before, limited_at, limited_from}
 use Rattle.net_base.specs.declared.phy.Medium.{Medium}
 use Rattle.ip_address.specs.declared.ip.IpAddress.{IpAddress}
 use Rattle.ip_address.specs.contracts.hardware.HardwareAddressPartialEq.TheImpl as hardware_eq
@@ -253,3 +254,54 @@ pub renewed_in : (m : Medium) (es fs : List (IpAddress × Neighbor)) (a : IpAddr
     EachOf m (from_entries {R = address_cmp} fs)
 renewed_in m es fs a h end e all =
     rw (e, ← known_at es a) (renewed_of m (record { room = 0; known = from_entries es; silent_until = pos 0 }) a h end all)
+
+-- what a limit leaves in a list of entries
+pub record LimitsIn (es fs : List (IpAddress × Neighbor)) (a : IpAddress) (t : ℤ) : Type 0 where
+  pub distinct : AreKeysDistinct address_cmp fs
+  pub limits : from_entries fs ≡ limited_from (find address_cmp a es) (from_entries es) a t
+
+-- a limit at an address's index is one of the neighbour there
+pub limited : (es : List (IpAddress × Neighbor)) (a : IpAddress) (t : ℤ) (i : ℕ) →
+    AreKeysDistinct address_cmp es → i ≡ index_of address_cmp a es → LimitsIn es (limited_at (slice_get es i) es i t) a t
+limited es a t i distinct at = by (slice_get es i) refl where
+  there : (e : IpAddress × Neighbor) → slice_get es i ≡ Some e → (b : Bool) → is_before t e.1.expires_at ≡ b →
+      LimitsIn es (if b then slice_set es i (e.0, record e.1 { expires_at = t }) else es) a t
+  there e is true late =
+      let within = slice_get_within es i e is in
+      let read : get_or es i e ≡ e = get_or_from_slice_get es i e e is in
+      let n : Neighbor = record e.1 { expires_at = t } in
+      let found : find address_cmp a es ≡ Some e.1 = found_is es a e i at within ∙ ap (λ (x : IpAddress × Neighbor). Some x.1) read in
+      let key : e.0 ≡ a = ap (λ (x : IpAddress × Neighbor). x.0) (sym read)
+      ∙ rw at (key-there address_total address_same a es e (rw at at within)) in
+      let put = put_over_place 0 es es a n i (place_there 0 es a e i distinct at within) in
+      let known : IsTrue (map.contains_key (from_entries {R = address_cmp} es) a) = rw (known_at es a, found) refl in
+      rw key (record { distinct = put.distinct; limits = rw (found, late) (put.puts.there known) })
+  there e is false other =
+      let within = slice_get_within es i e is in
+      let read : get_or es i e ≡ e = get_or_from_slice_get es i e e is in
+      let found : find address_cmp a es ≡ Some e.1 = found_is es a e i at within ∙ ap (λ (x : IpAddress × Neighbor). Some x.1) read in
+      record { distinct = distinct; limits = rw (found, other) refl }
+
+  by : (o : Option (IpAddress × Neighbor)) → slice_get es i ≡ o → LimitsIn es (limited_at o es i t) a t
+  by None is =
+      elim (slice_get_cases es i).1 [
+        | inl some ↦ let bad : None ≡ Some some.0 = sym is ∙ some.2 in cc
+        | inr none ↦ record { distinct = distinct; limits = rw (none_found es a i at none.0) refl }
+      ]
+  by (Some e) is = there e is (is_before t e.1.expires_at) refl
+
+pub limited_of : (m : Medium) (c : Neighbors) (a : IpAddress) (t : ℤ) → AreOf m c → AreOf m (after_limit c a t)
+limited_of m c a t all = by (map.get c.known a) refl where
+  by : (o : Option Neighbor) → map.get c.known a ≡ o → EachOf m (limited_from o c.known a t)
+  by None is = all
+  by (Some e) is = here (is_before t e.expires_at) where
+    here : (b : Bool) → EachOf m (if b then map.insert c.known a (record e { expires_at = t }) else c.known)
+    here true = inserted_of m c.known a (record e { expires_at = t }) (all a e is) all
+    here false = all
+
+-- a list in which one entry was limited
+pub limited_in : (m : Medium) (es fs : List (IpAddress × Neighbor)) (a : IpAddress) (t : ℤ) →
+    from_entries {R = address_cmp} fs ≡ limited_from (find address_cmp a es) (from_entries es) a t → EachOf m (from_entries es) →
+    EachOf m (from_entries {R = address_cmp} fs)
+limited_in m es fs a t e all =
+    rw (e, ← known_at es a) (limited_of m (record { room = 0; known = from_entries es; silent_until = pos 0 }) a t all)

@@ -114,6 +114,35 @@ renewed_at (Some e) es index h end =
 abbrev pub after_renewal : Neighbors → IpAddress → HardwareAddress → ℤ → Neighbors
 after_renewal c a h end = record c { known = renewed_from (map.get c.known a) c.known a h end }
 
+-- the entries after that at a expires at t, if it would expire later
+abbrev pub limited_from : Option Neighbor → FinMap address_cmp Neighbor → IpAddress → ℤ → FinMap address_cmp Neighbor
+limited_from None m a t = m
+limited_from (Some n) m a t = if is_before t n.expires_at then map.insert m a (record n { expires_at = t }) else m
+
+-- the same of a list of entries, at an index
+abbrev pub limited_at : Option (IpAddress × Neighbor) → List (IpAddress × Neighbor) → ℕ → ℤ → List (IpAddress × Neighbor)
+limited_at None es index t = es
+limited_at (Some e) es index t =
+    if is_before t e.1.expires_at then slice_set es index (e.0, record e.1 { expires_at = t }) else es
+
+-- the neighbours after the entry at a expires at t, if it would expire later
+abbrev pub after_limit : Neighbors → IpAddress → ℤ → Neighbors
+after_limit c a t = record c { known = limited_from (map.get c.known a) c.known a t }
+
+-- an entry is there, and expires after t
+abbrev pub is_later : ℤ → Option Neighbor → Bool
+is_later t None = false
+is_later t (Some n) = is_before t n.expires_at
+
+-- how many of the neighbours expire after t
+abbrev pub count_after : ℤ → FinMap address_cmp Neighbor → ℕ
+count_after t m = map.len (map.retain_keys m (λ a. is_later t (map.get m a)))
+
+-- how many of a list of entries do
+abbrev pub count_later : ℤ → List (IpAddress × Neighbor) → ℕ
+count_later t [] = 0
+count_later t (e ∷ es) = if is_before t e.1.expires_at then count_later t es + 1 else count_later t es
+
 -- by rising expiry: none expires after a later one in the list
 abbrev pub IsByEnd : List (IpAddress × Neighbor) → Type 0
 IsByEnd es = (i j : ℕ) (d : IpAddress × Neighbor) →

@@ -16,7 +16,8 @@ ghost use Rattle.iface_tables.specs.Entries.{AreKeysDistinct};
 ghost use Rattle.iface_tables.specs.Neighbor as spec;
 ghost use Rattle.iface_tables.specs.Neighbor.{AreFrom, AreOf, AreUpTo, Fills, HasPlace, IsEarliest, IsEndAt, IsKeptIn};
 ghost use Rattle.iface_tables.specs.Neighbor.{IsNthByEnd, Puts, sorted};
-ghost use Rattle.iface_tables.specs.Neighbor.{after_renewal, renewed_at, renewed_from, answer_of, expiry_from, first_neighbors, room_over};
+ghost use Rattle.iface_tables.specs.Neighbor.{after_renewal, renewed_at, renewed_from, after_limit, limited_at, limited_from};
+ghost use Rattle.iface_tables.specs.Neighbor.{answer_of, expiry_from, first_neighbors, room_over};
 
 use crate::store::Store;
 use ip_wire::{HardwareAddress, IpAddress};
@@ -231,6 +232,57 @@ impl Cache {
             &hardware_addr,
             expires_at,
         );
+    }
+
+    /// Lets a neighbour's entry expire at an instant, if it would expire later. Otherwise nothing changes.
+    #[tactic(auto, using(crate::proofs::NeighborLemmas::known_at))]
+    pub fn limit_expiry(&mut self, protocol_addr: IpAddress, expires_at: Instant)
+        ensures value { self.new ≡ after_limit self.old protocol_addr expires_at }
+        ensures of { (m : Medium) → AreOf m self.old → AreOf m self.new }
+    {
+        limit_in(
+            &mut self.entries,
+            &mut self.hints,
+            &protocol_addr,
+            expires_at,
+        );
+    }
+
+    /// Sets the moment until which no discovery is sent.
+    pub fn set_silence(&mut self, until: Instant)
+        ensures { self.new ≡ record self.old { silent_until = until } }
+    {
+        self.silent_until = until;
+    }
+
+    /// The moment until which no discovery is sent.
+    pub fn silent_until(&self) -> Instant
+        ensures { result ≡ self.now.silent_until }
+    {
+        self.silent_until
+    }
+
+    /// The neighbour that is stored at an address, expired ones too, if there is one.
+    #[inline(always)]
+    #[tactic(auto, using(crate::proofs::NeighborLemmas::known_at))]
+    pub fn get(&self, protocol_addr: &IpAddress) -> Option<Neighbor>
+        ensures { result ≡ map.get self.now.known protocol_addr.now }
+    {
+        find_in(&self.entries, &self.hints, protocol_addr)
+    }
+
+    /// How many neighbours there is room for.
+    pub fn room(&self) -> usize
+        ensures { result ≡ self.now.room }
+    {
+        self.entries.room()
+    }
+
+    /// How many of the neighbours that are stored expire after an instant. It goes over all.
+    pub fn count_after(&self, instant: Instant) -> usize
+        ensures { result ≡ spec.count_after instant self.now.known }
+    {
+        count_after(self.entries.as_slice(), instant)
     }
 
     /// Looks up the hardware address of a neighbour, which is known until its expiry. The address must be unicast.
@@ -577,6 +629,31 @@ fn renew(
     entries[place].1.expires_at = expires_at;
 }
 
+// Lets the entry at an address expire at an instant, if it would expire later.
+fn limit_in(entries: &mut Entries, hints: &mut HintTable, address: &IpAddress, expires_at: Instant)
+    requires { IsKeptIn entries.old }
+    ensures kept { IsKeptIn entries.new }
+    ensures room { entries.new.room ≡ entries.old.room }
+    ensures limits { map.from_entries entries.new.items ≡ limited_from (find address_cmp address.now entries.old.items)
+        (map.from_entries entries.old.items) address.now expires_at }
+{
+    let place = index_hinting(entries, hints, address);
+    limit(entries.as_mut_slice(), place, expires_at);
+}
+
+// Lets the entry at an index, if there is one, expire at an instant, if it would expire later.
+fn limit(entries: &mut [(IpAddress, Neighbor)], place: usize, expires_at: Instant)
+    ensures { entries.new ≡ limited_at (slice_get entries.old place) entries.old place expires_at }
+{
+    if place >= entries.len() {
+        return;
+    }
+    if entries[place].1.expires_at <= expires_at {
+        return;
+    }
+    entries[place].1.expires_at = expires_at;
+}
+
 // The entry at an index of the list by rising expiry, if there is one.
 fn nth_in(entries: &[(IpAddress, Neighbor)], index: usize) -> Option<(IpAddress, Neighbor)>
     ensures { result ≡ slice_get (sorted entries.now) index }
@@ -638,6 +715,19 @@ fn count_before(entries: &[(IpAddress, Neighbor)], end: Instant) -> usize
     let mut count = 0;
     for e in entries {
         if e.1.expires_at < end {
+            count += 1;
+        }
+    }
+    count
+}
+
+// How many expire after an instant.
+fn count_after(entries: &[(IpAddress, Neighbor)], instant: Instant) -> usize
+    ensures { result ≡ spec.count_later instant entries.now }
+{
+    let mut count = 0;
+    for e in entries {
+        if instant < e.1.expires_at {
             count += 1;
         }
     }

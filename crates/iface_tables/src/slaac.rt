@@ -232,6 +232,14 @@ impl Slaac {
         self.sync_required
     }
 
+    /// Sets whether what is known counts as changed. Where it doesn't, addresses and routes are synchronized no sooner than
+    /// something expires.
+    pub fn set_ra_update(&mut self, changed: bool)
+        ensures { self.new ≡ record self.old { changed = changed } }
+    {
+        self.sync_required = changed;
+    }
+
     /// The known prefixes, including expired ones.
     pub fn prefix(&self) -> &[Prefix]
         ensures value { result.now ≡ self.now.prefixes }

@@ -1,4 +1,5 @@
 //! Frames on Ethernet, by their octets, for a host with 192.168.1.1 and fe80::1.
+ghost use Rattle.net_base.specs.Time.{IsMoment};
 
 use arrayvec::ArrayVec;
 use iface_tables::neighbor::Cache;
@@ -108,7 +109,9 @@ fn put(octets: &mut [u8], place: usize, new: &[u8]) {
 }
 
 /// The moment this many milliseconds behind the origin.
-pub fn at(millis: u32) -> Instant {
+pub fn at(millis: u32) -> Instant
+    ensures { IsMoment result }
+{
     Instant::from_micros(i64::from(millis) * 1_000)
 }
 

@@ -10,6 +10,8 @@ mod frames;
 #[cfg(test)]
 mod groups;
 #[cfg(test)]
+mod kept;
+#[cfg(test)]
 mod learning;
 #[cfg(test)]
 mod neighbor;

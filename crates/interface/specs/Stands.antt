@@ -1,10 +1,13 @@
 -- Which host an interface with its sockets stands for.
+use Rattle.std.specs.Prelude.{◌<◌}
 use Rattle.std.specs.Borrow.{Bor}
 use Rattle.socket_set.specs.SocketSet.{Sockets}
 use Rattle.host_machine.specs.Context.Host.{Host, SocketSet}
 use Rattle.iface_tables.specs.declared.route.Route.{Route}
 use Rattle.iface_tables.specs.Store.{Stored}
 use Rattle.iface_context.specs.declared.context.Context.{Context}
+use Rattle.iface_context.specs.Multicast.{interval_of}
+use Rattle.iface_tables.specs.declared.report.IgmpReportState.{IgmpReportState}
 use Rattle.iface_context.specs.Stands.{host_of}
 use Rattle.iface_context.specs.Stands as context
 use Rattle.iface_context.specs.Refines as processed
@@ -39,3 +42,7 @@ pub record Refinement (Rule : Host → Host → Type 0) (H : Host) (after : Host
 abbrev pub HostRefines : Interface → Interface → (Host → Host → Type 0) → Type 0
 HostRefines old new Rule = (sockets : SocketSet) (H : Host) →
     StandsFor old sockets H → Refinement Rule H (StandsFor new sockets)
+
+-- the reports of an answer to a query are less than an hour apart
+abbrev pub IsPaced : IgmpReportState → Type 0
+IsPaced report = interval_of report < 3600000000

@@ -19,9 +19,10 @@ use host_machine::{
     AddrError, AddrListError, Capacities, HardwareError, MulticastError, NewError,
     PollIngressSingleResult, PollResult, TimeoutError,
 };
-use iface_context::autoconfiguration::sync_slaac;
+use iface_context::autoconfiguration::{set_ra_update, sync_slaac};
 use iface_context::context::IFACE_MAX_ADDR_COUNT;
-use iface_context::multicast::{join_group, leave_group};
+use iface_context::multicast::{join_group, leave_group, set_igmp_report, set_mld_report};
+use iface_context::neighbors::{limit_neighbor, set_silence};
 use iface_context::settings::{
     routes_mut, set_any_ip, set_capacities, set_hardware_addr, set_ip_addrs, set_moment,
     set_neighbor_storage, set_reassembly_timeout, set_route_storage,
@@ -41,6 +42,7 @@ use iface_send::transmit::send_frame;
 use iface_tables::neighbor::{Cache, Hints, Neighbor};
 use iface_tables::route::{Route, Routes};
 use iface_tables::route_trie::RouteNode;
+use iface_tables::{IgmpReportState, MldReportState, Slaac};
 use net_base::phy::{Device, DeviceCapabilities, FRAME_BUFFER_SIZE, Medium};
 use net_base::rand::Rand;
 use net_base::time::{Duration, Instant};
@@ -82,7 +84,7 @@ pub struct Interface {
 
 impl Interface {
     ghost use Rattle.std.specs.Prelude.{◌≡◌, ◌≤◌, List, [], Option, IfOk, IfSome, IsOk, MatchResult, length, min, take, vec_capacity};
-    ghost use Rattle.iface_tables.specs.Neighbor.{room_over};
+    ghost use Rattle.iface_tables.specs.Neighbor.{after_limit, room_over};
     ghost use Rattle.iface_tables.specs.Route.{route_room_over};
     ghost use Rattle.host_machine.specs.Context.Settings.{with_capacities};
     ghost use Rattle.fragmentation.specs.Slots.{slot_room_over};
@@ -112,7 +114,7 @@ impl Interface {
     ghost use Rattle.std.specs.Borrow.{sem, Lends};
     ghost use Rattle.iface_tables.specs.contracts.route.Routes.{the_row as routes_row};
     ghost use Rattle.interface.specs.contracts.interface.Interface.{the_row};
-    ghost use Rattle.interface.specs.Stands.{host_with, with_context, with_routes, StandsFor, Becomes, HostRefines};
+    ghost use Rattle.interface.specs.Stands.{host_with, with_context, with_routes, StandsFor, Becomes, HostRefines, IsPaced};
     ghost use Rattle.interface.specs.Details.Refines.{HostRefinesTelling};
 
     /// Creates an interface over a device, of which only the capabilities are read. The errors are tested in the order
@@ -394,6 +396,65 @@ impl Interface {
         ensures { (sockets : SocketSet) → HasNeighbor (host_with self.now sockets) address.now result }
     {
         has_neighbor(&self.context, address)
+    }
+
+    /// Lets a neighbour's entry expire at an instant, if it would expire later. Otherwise nothing changes. So who is in front of
+    /// the interface decides which neighbours give way to others.
+    pub fn limit_neighbor(&mut self, address: IpAddress, expires_at: Instant)
+        ensures { Becomes self.old self.new (λ H. host.with_neighbors H (after_limit H.neighbors address expires_at)) }
+    {
+        limit_neighbor(&mut self.context, address, expires_at);
+    }
+
+    /// Sets the instant until which no neighbour is asked for.
+    pub fn set_silence(&mut self, until: Instant)
+        ensures { Becomes self.old self.new (λ H. host.with_neighbors H (record H.neighbors { silent_until = until })) }
+    {
+        set_silence(&mut self.context, until);
+    }
+
+    /// The answer to a query of IGMP that waits, and when it is due.
+    pub fn igmp_report(&self) -> IgmpReportState
+        ensures value { (sockets : SocketSet) → result ≡ (host_with self.now sockets).igmp_report }
+        ensures paced { IsPaced result }
+    {
+        self.context.igmp_report()
+    }
+
+    /// Sets which answer to a query of IGMP waits. Its reports must be less than an hour apart.
+    pub fn set_igmp_report(&mut self, report: IgmpReportState)
+        requires { IsPaced report }
+        ensures { Becomes self.old self.new (λ H. host.with_igmp_report H report) }
+    {
+        set_igmp_report(&mut self.context, report);
+    }
+
+    /// The answer to a query of MLD that waits, and when it is due.
+    pub fn mld_report(&self) -> MldReportState
+        ensures { (sockets : SocketSet) → result ≡ (host_with self.now sockets).mld_report }
+    {
+        self.context.mld_report()
+    }
+
+    /// Sets which answer to a query of MLD waits.
+    pub fn set_mld_report(&mut self, report: MldReportState)
+        ensures { Becomes self.old self.new (λ H. host.with_mld_report H report) }
+    {
+        set_mld_report(&mut self.context, report);
+    }
+
+    /// What was learnt from routers.
+    pub fn slaac(&self) -> &Slaac
+        ensures { (sockets : SocketSet) → result.now ≡ (host_with self.now sockets).slaac }
+    {
+        self.context.slaac()
+    }
+
+    /// Sets whether what was learnt from routers counts as changed since addresses and routes were synchronized.
+    pub fn set_ra_update(&mut self, changed: bool)
+        ensures { Becomes self.old self.new (λ H. host.with_slaac H (record H.slaac { changed = changed })) }
+    {
+        set_ra_update(&mut self.context, changed);
     }
 
     /// Forgets all neighbours. From now on there is room for as many as the storage has capacity for, or for four in the

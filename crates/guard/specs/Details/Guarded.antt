@@ -3,9 +3,7 @@ use Rattle.std.specs.Prelude.{◌≡◌, ◌≤◌, ℕ, ℤ, Bool, true, false,
 use Rattle.net_base.specs.Device.{Asked, Event, Frame, HandsNone, Nothing, Received, Sent, Withheld}
 use Rattle.ip_address.specs.declared.cidr.IpCidr.{IpCidr}
 use Rattle.ip_address.specs.declared.hardware.HardwareAddress.{HardwareAddress}
-use Rattle.iface_tables.specs.Neighbor.{Neighbors}
 use Rattle.guard.specs.Watch.{admits, after_arrival, after_sending}
-use Rattle.guard.specs.declared.queries.Waits.{Waits}
 use Rattle.guard.specs.declared.watch.Watch.{Watch}
 use Rattle.guard.specs.declared.guarded_device.guarded.Heard.{Heard}
 use Rattle.guard.specs.declared.guarded_device.guarded.Heard.TheVariants as heard
@@ -19,15 +17,15 @@ is_frame (heard.Frame len) = true
 -- a frame was asked for: the device had none; or it delivered one which the host may not see; or one which it may, as the device
 -- delivered it. The guard judged no other frame
 pub data Hears {D : Type 0} (tells : D → List Event → D → Type 0) (t : ℤ) (hardware : Option HardwareAddress) (own : List IpCidr)
-    (known : Neighbors) (waits : Waits) (result : Heard) (buffer : List ℕ) (d : D) (w : Watch) (d' : D) (w' : Watch) : Type 0 where
+    (result : Heard) (buffer : List ℕ) (d : D) (w : Watch) (d' : D) (w' : Watch) : Type 0 where
   NoFrame : result ≡ heard.Nothing → HandsNone tells t d d' → w' ≡ w →
-      Hears tells t hardware own known waits result buffer d w d' w'
+      Hears tells t hardware own result buffer d w d' w'
   IsDropped : (frame : List ℕ) → result ≡ heard.Dropped → tells d (Received t (Frame frame) ∷ []) d' →
-      admits t frame hardware own known waits w ≡ false → w' ≡ after_arrival t frame hardware own known waits w →
-      Hears tells t hardware own known waits result buffer d w d' w'
+      admits frame hardware own w ≡ false → w' ≡ after_arrival t frame hardware own w →
+      Hears tells t hardware own result buffer d w d' w'
   IsPassed : (len : ℕ) → result ≡ heard.Frame len → len ≤ 1514 → tells d (Received t (Frame (take len buffer)) ∷ []) d' →
-      admits t (take len buffer) hardware own known waits w ≡ true → w' ≡ after_arrival t (take len buffer) hardware own known waits w →
-      Hears tells t hardware own known waits result buffer d w d' w'
+      admits (take len buffer) hardware own w ≡ true → w' ≡ after_arrival t (take len buffer) hardware own w →
+      Hears tells t hardware own result buffer d w d' w'
 
 -- a frame with no number of its own was sent, or not
 abbrev pub sent_if : Bool → List ℕ → List Event

@@ -8,11 +8,11 @@ use Rattle.guard.specs.declared.watch.Watch.{Watch}
 pub data Sees : Watch → (arrived : List Arrival) → (seen : List (List ℕ)) → Watch → Type 0 where
   None : (w : Watch) → Sees w [] [] w
   Passed : (w w' : Watch) (a : Arrival) (later : List Arrival) (seen : List (List ℕ)) →
-      admits (pos a.at) a.frame a.hardware a.own a.known a.waits w ≡ true →
-      Sees (after_arrival (pos a.at) a.frame a.hardware a.own a.known a.waits w) later seen w' → Sees w (a ∷ later) (a.frame ∷ seen) w'
+      admits a.frame a.hardware a.own w ≡ true →
+      Sees (after_arrival (pos a.at) a.frame a.hardware a.own w) later seen w' → Sees w (a ∷ later) (a.frame ∷ seen) w'
   Dropped : (w w' : Watch) (a : Arrival) (later : List Arrival) (seen : List (List ℕ)) →
-      admits (pos a.at) a.frame a.hardware a.own a.known a.waits w ≡ false →
-      Sees (after_arrival (pos a.at) a.frame a.hardware a.own a.known a.waits w) later seen w' → Sees w (a ∷ later) seen w'
+      admits a.frame a.hardware a.own w ≡ false →
+      Sees (after_arrival (pos a.at) a.frame a.hardware a.own w) later seen w' → Sees w (a ∷ later) seen w'
 
 -- some are left of others, in their order
 pub data AreOf : (some all : List (List ℕ)) → Type 0 where

@@ -4,8 +4,7 @@ ghost use Rattle.guard.specs.Watch as watch;
 ghost use Rattle.guard.specs.Details.Guarded as spec;
 ghost use Rattle.guard.specs.Details.Guarded.{Hears};
 
-use crate::{Waits, Watch};
-use iface_tables::neighbor::Cache;
+use crate::Watch;
 use ip_address::{HardwareAddress, IpCidr};
 use net_base::phy::{Device, DeviceCapabilities, PacketMeta};
 use net_base::time::Instant;
@@ -48,20 +47,17 @@ impl<D: Device> Guarded<D> {
         }
     }
 
-    /// Asks the device for a frame at a moment, for a host with this hardware address, these addresses and these neighbours, of whose
-    /// answers to queries these wait. A frame that the guard admits is at the front of the buffer, as the device delivered it; of one
-    /// that is dropped nothing is to be read there.
+    /// Asks the device for a frame at a moment, for a host with this hardware address and these addresses. A frame that the guard admits
+    /// is at the front of the buffer, as the device delivered it; of one that is dropped nothing is to be read there.
     pub fn hear(
         &mut self,
         now: Instant,
         buffer: &mut [u8],
         hardware: Option<HardwareAddress>,
         own: &[IpCidr],
-        neighbors: &Cache,
-        waits: Waits,
     ) -> Heard
         requires { length buffer.old ≡ 1514 }
-        ensures heard { Hears D.tells now hardware own.now neighbors.now waits result buffer.new self.old.device self.old.watch
+        ensures heard { Hears D.tells now hardware own.now result buffer.new self.old.device self.old.watch
             self.new.device self.new.watch }
         ensures permission { spec.is_frame result ≡ true → D.may_transmit self.new.device ≡ true }
     {
@@ -69,10 +65,7 @@ impl<D: Device> Guarded<D> {
             return Heard::Nothing;
         };
         let frame = &buffer[..len];
-        if self
-            .watch
-            .admits(now, frame, hardware, own, neighbors, waits)
-        {
+        if self.watch.admits(now, frame, hardware, own) {
             Heard::Frame(len)
         } else {
             Heard::Dropped

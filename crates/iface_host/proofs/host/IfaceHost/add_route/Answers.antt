@@ -1,9 +1,7 @@
-use Rattle.std.proofs.Common.{◌≡◌, ◌<◌, ◌≤◌, List, [], ◌∷◌, ◌++◌, None, length, ap, rules, ◌∙◌}
-use Rattle.host_machine.specs.Context.Host.{Host as Machine, no_sockets}
-use Rattle.iface_host.proofs.RefusalCalls.{route_full, route_room}
+use Rattle.std.proofs.Common.{◌≡◌, [], ◌∷◌, ◌++◌, rules}
+use Rattle.host_machine.specs.Context.Host.{Host as Machine}
 use Rattle.iface_host.proofs.RuleCalls.{changed, same_host, untouched_if}
 use Rattle.iface_host.specs.Calls.{route_to}
-use Rattle.iface_host.specs.TableRefusals.{end_refusal}
 use Rattle.iface_host.proofs.host.IfaceHost.add_route.Goals as goal
 
 pub returns-in_err-expires_at-clause-refused : goal.returns-in_err-expires_at-clause-refused

@@ -1,28 +1,18 @@
-use Rattle.std.proofs.Common.{◌≡◌, ap, refl, ◌∙◌, rules}
-use Rattle.std.specs.Prelude.{List}
-use Rattle.ip_address.specs.declared.cidr.IpCidr.{IpCidr}
-use Rattle.ip_address.specs.declared.hardware.HardwareAddress.{HardwareAddress}
-use Rattle.iface_tables.specs.Neighbor.{Neighbors}
+use Rattle.std.proofs.Common.{◌≡◌, ◌∙◌}
 use Rattle.host_machine.specs.Context.Host.{no_sockets}
-use Rattle.guard.specs.Watch as guard
 use Rattle.iface_host.specs.Calls.{addresses_of}
-use Rattle.iface_host.specs.Guarded.{hardware_addr_of, no_waits}
-use Rattle.iface_host.specs.Properties.{machine_of}
+use Rattle.iface_host.specs.Guarded.{hardware_addr_of}
 use Rattle.iface_host.proofs.FrameCalls.{admits_as, arrives_as}
 use Rattle.iface_host.proofs.host.IfaceHost.admits.Goals as goal
 
 pub returns-clause-admitted : goal.returns-clause-admitted
 returns-clause-admitted c =
     let own : c.ip_addrs-own.result.now ≡ addresses_of c.args.self.now = rw c.deref.ensures at (c.ip_addrs-own.ensures.value no_sockets) in
-    let known : c.neighbors-neighbors.result.now ≡ (machine_of c.args.self.now).neighbors = rw c.deref-2.ensures at (c.neighbors-neighbors.ensures no_sockets) in
-    let hardware : c.hardware_addr-hardware.result ≡ hardware_addr_of c.args.self.now = rw c.deref-3.ensures at (c.hardware_addr-hardware.ensures no_sockets) in
-    c.admits.ensures.admitted
-    ∙ admits_as c.args.now c.args.frame.now _ _ hardware _ _ own _ _ known no_waits no_waits refl c.args.self.now.watch
+    let hardware : c.hardware_addr-hardware.result ≡ hardware_addr_of c.args.self.now = rw c.deref-2.ensures at (c.hardware_addr-hardware.ensures no_sockets) in
+    c.admits.ensures.admitted ∙ admits_as c.args.frame.now _ _ hardware _ _ own c.args.self.now.watch
 
 pub returns-clause-rest : goal.returns-clause-rest
 returns-clause-rest c =
     let own : c.ip_addrs-own.result.now ≡ addresses_of c.args.self.now = rw c.deref.ensures at (c.ip_addrs-own.ensures.value no_sockets) in
-    let known : c.neighbors-neighbors.result.now ≡ (machine_of c.args.self.now).neighbors = rw c.deref-2.ensures at (c.neighbors-neighbors.ensures no_sockets) in
-    let hardware : c.hardware_addr-hardware.result ≡ hardware_addr_of c.args.self.now = rw c.deref-3.ensures at (c.hardware_addr-hardware.ensures no_sockets) in
-    arrives_as c.args.now c.args.frame.now _ _ hardware _ _ own _ _ known no_waits no_waits refl c.args.self.now c.admits.new.self
-    c.admits.ensures.watch
+    let hardware : c.hardware_addr-hardware.result ≡ hardware_addr_of c.args.self.now = rw c.deref-2.ensures at (c.hardware_addr-hardware.ensures no_sockets) in
+    arrives_as c.args.now c.args.frame.now _ _ hardware _ _ own c.args.self.now c.admits.new.self c.admits.ensures.watch

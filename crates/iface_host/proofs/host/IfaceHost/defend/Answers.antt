@@ -1,5 +1,4 @@
-use Rattle.std.proofs.Common.{◌≡◌, Some, None, ap, refl}
-use Rattle.std.specs.Option.{option_map}
+use Rattle.std.proofs.Common.{◌≡◌, Some, None, refl}
 use Rattle.host_machine.specs.Context.Host.{no_sockets}
 use Rattle.iface_host.specs.Guarded.{hardware_addr_of}
 use Rattle.iface_host.proofs.FrameCalls.{defended}

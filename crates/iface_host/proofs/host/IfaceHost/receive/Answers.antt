@@ -6,13 +6,13 @@ use Rattle.iface_host.proofs.host.IfaceHost.receive.Goals as goal
 pub returns-then-not-admits-clause-received : goal.returns-then-not-admits-clause-received
 returns-then-not-admits-clause-received c =
     let same : c.in_ok-now.now ≡ c.args.now = search rules in
-    let is : is_admitted c.in_ok-now.now c.args.frame.now c.args.self.now ≡ false = search rules in
+    let is : is_admitted c.args.frame.now c.args.self.now ≡ false = search rules in
     dropped c.args.now c.in_ok-now.now same c.args.frame.now c.defend.result c.args.out.now c.defend.new.out c.args.self.now c.admits.new.self
     c.defend.new.self is c.admits.ensures.rest c.defend.ensures
 
 pub returns-clause-received : goal.returns-clause-received
 returns-clause-received c =
     let same : c.in_ok-now.now ≡ c.args.now = search rules in
-    let is : is_admitted c.in_ok-now.now c.args.frame.now c.args.self.now ≡ true = search rules in
-    admitted c.args.now c.in_ok-now.now same c.args.frame.now c.take_frame.result c.args.out.now c.take_frame.new.out c.args.self.now
-    c.admits.new.self c.take_frame.new.self is c.admits.ensures.rest c.take_frame.ensures
+    let is : is_admitted c.args.frame.now c.args.self.now ≡ true = search rules in
+    admitted c.args.now c.in_ok-now.now same c.args.frame.now c.take_guarded.result c.args.out.now c.take_guarded.new.out c.args.self.now
+    c.admits.new.self c.take_guarded.new.self is c.admits.ensures.rest c.take_guarded.ensures

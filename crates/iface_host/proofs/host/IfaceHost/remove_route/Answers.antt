@@ -1,11 +1,10 @@
-use Rattle.std.proofs.Common.{◌≡◌, ◌<◌, ◌≤◌, ℕ, List, length, ap, rules, subst, ◌∙◌, arith}
-use Rattle.std.specs.List.{position_or_len, remove}
+use Rattle.std.proofs.Common.{◌≡◌, ◌<◌, ◌≤◌, List, length, ap, rules, ◌∙◌, arith}
+use Rattle.std.specs.List.{position_or_len}
 use Rattle.iface_tables.specs.declared.route.Route.{Route}
-use Rattle.host_machine.specs.Context.Host.{Host as Machine, no_sockets}
-use Rattle.interface.specs.Stands.{Becomes}
+use Rattle.host_machine.specs.Context.Host.{no_sockets}
 use Rattle.iface_host.proofs.RefusalCalls.{route_none, route_there}
 use Rattle.iface_host.proofs.RuleCalls.{removed}
-use Rattle.iface_host.specs.Calls.{is_to, routes_of}
+use Rattle.iface_host.specs.Calls.{is_to}
 use Rattle.iface_host.proofs.host.IfaceHost.remove_route.Goals as goal
 
 pub returns-clause-removed : goal.returns-clause-removed

@@ -1,5 +1,4 @@
-use Rattle.std.proofs.Common.{◌≡◌, ◌<◌, ◌≤◌, List, length, ap, ◌∙◌, arith}
-use Rattle.ip_address.specs.declared.cidr.IpCidr.{IpCidr}
+use Rattle.std.proofs.Common.{◌<◌, ◌≤◌, length, ap, ◌∙◌, arith}
 use Rattle.host_machine.specs.Context.Host.{no_sockets}
 use Rattle.iface_host.specs.Leased.{addresses_with}
 use Rattle.iface_host.proofs.LeasedCalls.{few_enough, fits_addresses, kept_same, leased, leased_why, many_addresses, many_routes, room_told, too_many}

@@ -1,5 +1,0 @@
-use Rattle.guard.proofs.PassLemmas as lemma
-use Rattle.guard.proofs.laws.known_pass.Goals as goal
-
-pub returns : goal.returns
-returns c = lemma.known_passes

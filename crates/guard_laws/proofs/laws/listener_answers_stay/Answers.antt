@@ -1,0 +1,5 @@
+use Rattle.guard_laws.proofs.AnswerLemmas as lemma
+use Rattle.guard_laws.proofs.laws.listener_answers_stay.Goals as goal
+
+pub returns : goal.returns
+returns c = lemma.listener_answers_stay
