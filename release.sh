@@ -1,6 +1,6 @@
 #!/bin/sh
 # Makes a release in FOLDER, of the commit that is checked out: for each target an archive with the proved library, and
-# the crate that carries the libraries. Then it tries each as one who has nothing else would.
+# the crate that carries the libraries, each with all pages. Then it tries each as one who has nothing else would.
 #
 #   release.sh FOLDER
 #
@@ -23,10 +23,19 @@ refuse() {
 version=$(sed -n 's|.*"fumitorygate \([0-9.]*\).*|\1|p' c/about.c)
 rm -rf "$folder"/fumitorygate-* "$folder/SHA256SUMS" rust/lib # (the crate would take that for what `make -C c` built)
 
+own_target=
+! command -v cargo >/dev/null || own_target=$(rustc -vV | sed -n 's/^host: //p')
+
 # The octets of an archive depend on its files' alone.
 pack() {
     tar -C "$work" --sort=name --owner=0 --group=0 --numeric-owner --mtime="@$(git log -1 --format=%ct)" -cf - "$1" |
         gzip -n >"$folder/$1.tar.gz"
+}
+
+# Builds the example `discover` of the crate over the archive's library, where there is cargo.
+discover() {
+    FUMITORYGATE_LIB_DIR="$place/lib" cargo build -q --release --offline --manifest-path rust/Cargo.toml --example discover
+    cp rust/target/release/examples/discover "$place/bin/"
 }
 
 # TARGET BUILD COMPILER RUN MAKE'S VARIABLES..: builds, packs, unpacks elsewhere and tries the archive of a target.
@@ -38,12 +47,18 @@ archive() {
     make -C c "$build/libiface.a" "$@" ${BUILD_LIBRARY:+"BUILD_LIBRARY=$BUILD_LIBRARY"}
     make -C c install "$@" PREFIX="$place" PC_PREFIX='$${pcfiledir}/../..'
     cp "c/$build/libiface_c.a" "c/$build/libiface_c.a.proof" "$place/lib/"
-    mkdir "$place/examples"
+    mkdir "$place/examples" "$place/bin"
     cp c/examples/*.[ch] c/examples/*.sh c/heap.c c/small.sh c/small_peer.py "$place/examples/"
+    python3 docs/carry.py archive "$place"
+    for program in ping arping; do
+        "$compiler" -O2 -o "$place/bin/$program" "c/examples/$program.c" -I"$place/include" "$place/lib/libiface.a"
+    done
+    [ "$target" != "$own_target" ] || discover
     pack "$name"
     rm -rf "$place"
     tar -C "$work" -xzf "$folder/$name.tar.gz"
     for library in libiface.a libiface_c.a; do c/proof.sh check "$place/lib/$library"; done
+    python3 docs/carry.py --check "$place"
     # shellcheck disable=SC2046
     "$compiler" -o "$work/udp_echo" "$place/examples/udp_echo.c" \
         $(PKG_CONFIG_PATH="$place/lib/pkgconfig" pkg-config --cflags --libs iface)

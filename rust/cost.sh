@@ -5,7 +5,7 @@
 # It needs valgrind; for the column of C `make -C c`.
 set -eu
 cd "$(dirname "$0")"
-${CARGO:-cargo} build -q --release --example cost
+${CARGO:-cargo} build -q --release --no-default-features --features std --example cost
 count() { valgrind --tool=callgrind --callgrind-out-file=/dev/null "$@" 2>&1 | sed -n 's/.*Collected : //p'; }
 round() { echo $((($(count "$@" 2000) - $(count "$@" 1000)) / 1000)); }
 echo "work C raw host iface"

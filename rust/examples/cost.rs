@@ -190,9 +190,9 @@ impl Way for Shaped {
         let mut device = MemoryDevice::new(Medium::Ethernet, 1514);
         let mut config = Config::new(OWN.into());
         (config.random_seed, config.sockets) = (1, 1);
-        let mut iface = Interface::new(config, &mut device, Instant::ZERO).unwrap();
-        iface.update_ip_addrs(|ip_addrs| ip_addrs.push(CIDR).unwrap()).unwrap();
-        let mut sockets = SocketSet::new(&iface);
+        let mut iface = Interface::new(config, &mut device, Instant::ZERO);
+        iface.update_ip_addrs(|ip_addrs| ip_addrs.push(CIDR).unwrap());
+        let mut sockets = SocketSet::of(&iface);
         let buffer = udp::PacketBuffer::with_capacity(PACKETS as usize, OCTETS as usize);
         let handle = sockets.add(udp::Socket::new(buffer, buffer));
         sockets.get_mut::<udp::Socket>(handle).bind(PORT).unwrap();

@@ -12,12 +12,10 @@ fn main() {
 
     // Create interface
     let config = Config::new(EthernetAddress([0x02, 0x00, 0x00, 0x00, 0x00, 0x01]).into());
-    let mut iface = Interface::new(config, &mut device, Instant::ZERO).unwrap();
-    iface
-        .update_ip_addrs(|ip_addrs| {
-            ip_addrs.push(IpCidr::new(IpAddress::v4(127, 0, 0, 1), 8)).unwrap();
-        })
-        .unwrap();
+    let mut iface = Interface::new(config, &mut device, Instant::ZERO);
+    iface.update_ip_addrs(|ip_addrs| {
+        ip_addrs.push(IpCidr::new(IpAddress::v4(127, 0, 0, 1), 8)).unwrap();
+    });
 
     // Create sockets
     let buffer = udp::PacketBuffer::with_capacity(4, 16384);
@@ -25,7 +23,7 @@ fn main() {
     server_socket.bind(1234).unwrap();
     let mut client_socket = udp::Socket::new(buffer, buffer);
     client_socket.bind(65000).unwrap();
-    let mut sockets = SocketSet::new(&iface);
+    let mut sockets = SocketSet::new(vec![]);
     let server_handle = sockets.add(server_socket);
     let client_handle = sockets.add(client_socket);
 

@@ -21,11 +21,11 @@ fn main() {
     // Create interface
     let mut config = Config::new(EthernetAddress([0x02, 0x00, 0x00, 0x00, 0x00, 0x01]).into());
     config.random_seed = std::process::id().into();
-    let mut iface = Interface::new(config, &mut device, Instant::now()).unwrap();
+    let mut iface = Interface::new(config, &mut device, Instant::now());
 
     // Create sockets
     let dhcp_socket = dhcpv4::Socket::new();
-    let mut sockets = SocketSet::new(&iface);
+    let mut sockets = SocketSet::new(vec![]);
     let dhcp_handle = sockets.add(dhcp_socket);
 
     while end.is_none_or(|end| Instant::now() < end) {
@@ -55,7 +55,7 @@ fn main() {
             }
             Some(dhcpv4::Event::Deconfigured) => {
                 println!("DHCP lost config!");
-                iface.update_ip_addrs(|addrs| addrs.clear()).unwrap();
+                iface.update_ip_addrs(|addrs| addrs.clear());
                 iface.routes_mut().remove_default_ipv4_route();
             }
         }
@@ -67,10 +67,8 @@ fn main() {
 }
 
 fn set_ipv4_addr(iface: &mut Interface, cidr: Ipv4Cidr) {
-    iface
-        .update_ip_addrs(|addrs| {
-            addrs.clear();
-            addrs.push(IpCidr::Ipv4(cidr)).unwrap();
-        })
-        .unwrap();
+    iface.update_ip_addrs(|addrs| {
+        addrs.clear();
+        addrs.push(IpCidr::Ipv4(cidr)).unwrap();
+    });
 }

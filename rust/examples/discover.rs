@@ -27,9 +27,9 @@ impl Discovery {
         config.random_seed = std::process::id().into();
         // Longer than a packet waits here, so that none is given up.
         config.patience = Duration::from_secs(u64::from(count) + 2);
-        let mut iface = Interface::new(config, &mut device, Instant::now()).unwrap();
-        iface.update_ip_addrs(|list| list.push(own).unwrap()).unwrap();
-        let sockets = SocketSet::new(&iface);
+        let mut iface = Interface::new(config, &mut device, Instant::now());
+        iface.update_ip_addrs(|list| list.push(own).unwrap());
+        let sockets = SocketSet::new(vec![]);
         Discovery { device, iface, sockets, count }
     }
 

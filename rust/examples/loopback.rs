@@ -13,12 +13,10 @@ fn main() {
 
     // Create interface
     let config = Config::new(EthernetAddress([0x02, 0x00, 0x00, 0x00, 0x00, 0x01]).into());
-    let mut iface = Interface::new(config, &mut device, clock).unwrap();
-    iface
-        .update_ip_addrs(|ip_addrs| {
-            ip_addrs.push(IpCidr::new(IpAddress::v4(127, 0, 0, 1), 8)).unwrap();
-        })
-        .unwrap();
+    let mut iface = Interface::new(config, &mut device, clock);
+    iface.update_ip_addrs(|ip_addrs| {
+        ip_addrs.push(IpCidr::new(IpAddress::v4(127, 0, 0, 1), 8)).unwrap();
+    });
 
     // Create sockets
     let server_socket = {
@@ -33,7 +31,7 @@ fn main() {
         tcp::Socket::new(tcp_rx_buffer, tcp_tx_buffer)
     };
 
-    let mut sockets = SocketSet::new(&iface);
+    let mut sockets = SocketSet::new(vec![]);
     let server_handle = sockets.add(server_socket);
     let client_handle = sockets.add(client_socket);
 

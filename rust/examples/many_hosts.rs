@@ -46,9 +46,9 @@ impl Host {
         let mut config = Config::new(EthernetAddress([2, 0, a, b, c, d]).into());
         (config.random_seed, config.sockets) = (i as u64, 1);
         let mut device = MemoryDevice::new(Medium::Ethernet, 1514);
-        let mut iface = Interface::new(config, &mut device, Instant::ZERO).unwrap();
-        iface.update_ip_addrs(|addrs| addrs.push(IpCidr::new(address_of(i), 8)).unwrap()).unwrap();
-        let mut sockets = SocketSet::new(&iface);
+        let mut iface = Interface::new(config, &mut device, Instant::ZERO);
+        iface.update_ip_addrs(|addrs| addrs.push(IpCidr::new(address_of(i), 8)).unwrap());
+        let mut sockets = SocketSet::of(&iface);
         let queue = udp::PacketBuffer::with_capacity(DATAGRAMS, DATAGRAMS * (SHORTEST + LENGTHS));
         let handle = sockets.add(udp::Socket::new(queue, queue));
         sockets.get_mut::<udp::Socket>(handle).bind(PORT).unwrap();

@@ -22,11 +22,11 @@ fn main() {
     let mut config = Config::new(EthernetAddress([0x02, 0x00, 0x00, 0x00, 0x00, 0x01]).into());
     config.random_seed = std::process::id().into();
     config.slaac = true;
-    let mut iface = Interface::new(config, &mut device, Instant::now()).unwrap();
+    let mut iface = Interface::new(config, &mut device, Instant::now());
     let link = Ipv6Cidr::new(Ipv6Address::new(0xfe80, 0, 0, 0, 0, 0, 0, 0), 64);
     let link_local = Ipv6Cidr::from_link_prefix(&link, config.hardware_addr).unwrap();
-    iface.update_ip_addrs(|ip_addrs| ip_addrs.push(link_local.into()).unwrap()).unwrap();
-    let mut sockets = SocketSet::new(&iface);
+    iface.update_ip_addrs(|ip_addrs| ip_addrs.push(link_local.into()).unwrap());
+    let mut sockets = SocketSet::new(vec![]);
 
     let mut known = iface.ip_addrs();
     while end.is_none_or(|end| Instant::now() < end) {

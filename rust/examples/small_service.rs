@@ -45,10 +45,10 @@ impl Page<'_> {
 
 /// Does what became of the lease: the address, the default route, the servers of names.
 fn apply(lease: Option<dhcpv4::Config>, iface: &mut Interface, names: &mut dns::Socket) {
-    iface.update_ip_addrs(|addrs| addrs.clear()).unwrap();
+    iface.update_ip_addrs(|addrs| addrs.clear());
     iface.routes_mut().remove_default_ipv4_route();
     let Some(lease) = lease else { return };
-    iface.update_ip_addrs(|addrs| addrs.push(IpCidr::Ipv4(lease.address)).unwrap()).unwrap();
+    iface.update_ip_addrs(|addrs| addrs.push(IpCidr::Ipv4(lease.address)).unwrap());
     if let Some(router) = lease.router {
         iface.routes_mut().add_default_ipv4_route(router).unwrap();
     }
@@ -173,14 +173,14 @@ fn main() {
     let mut config = Config::new(EthernetAddress([2, 0, 0, 0, 0, 5]).into());
     config.random_seed = std::process::id().into();
     config.slaac = server.is_some();
-    let mut iface = Interface::new(config, &mut device, Instant::now()).unwrap();
-    let mut sockets = SocketSet::new(&iface);
+    let mut iface = Interface::new(config, &mut device, Instant::now());
+    let mut sockets = SocketSet::of(&iface);
     let client = match server {
         None => Some(sockets.add(dhcpv4::Socket::new())),
         Some(_) => {
             let link = Ipv6Cidr::new(Ipv6Address::new(0xfe80, 0, 0, 0, 0, 0, 0, 0), 64);
             let link_local = Ipv6Cidr::from_link_prefix(&link, config.hardware_addr).unwrap();
-            iface.update_ip_addrs(|addrs| addrs.push(link_local.into()).unwrap()).unwrap();
+            iface.update_ip_addrs(|addrs| addrs.push(link_local.into()).unwrap());
             None
         }
     };

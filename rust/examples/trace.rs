@@ -24,9 +24,9 @@ fn main() {
 
     let mut config = Config::new(EthernetAddress([2, 0, 0, 0, 0, 3]).into());
     config.random_seed = std::process::id().into();
-    let mut iface = Interface::new(config, &mut device, Instant::now()).unwrap();
-    iface.update_ip_addrs(|ip_addrs| ip_addrs.push(cidr).unwrap()).unwrap();
-    let mut sockets = SocketSet::new(&iface);
+    let mut iface = Interface::new(config, &mut device, Instant::now());
+    iface.update_ip_addrs(|ip_addrs| ip_addrs.push(cidr).unwrap());
+    let mut sockets = SocketSet::new(vec![]);
     loop {
         let timestamp = Instant::now();
         if end.is_some_and(|end| timestamp >= end) {

@@ -1,4 +1,4 @@
-//! The guard in front of a host: what it drops before the host sees it.
+//! The guard in front of a host: what it drops before the host sees it, and what it leaves of what a frame changed.
 use crate::sys;
 use crate::time::{Duration, Instant};
 use crate::wire::EthernetAddress;
@@ -31,10 +31,13 @@ fn micros(time: Duration) -> u32 {
     u32::try_from(time.total_micros()).unwrap_or(u32::MAX)
 }
 
-/// The guard in front of a host on Ethernet: what it drops before the host sees it, and which answers to strangers it holds
-/// back. [`Settings::new`](crate::Settings::new) has the usual one. Each rule can be off. smoltcp has none such.
+/// The guard in front of a host on Ethernet: what it drops before the host sees it, what it leaves of what a frame changed, and
+/// which answers to strangers it holds back. [`Settings::new`](crate::Settings::new) has the usual one. Each rule can be off.
+/// smoltcp has none such.
 ///
-/// A neighbour is expected if its hardware address is known, or if the host asked for it last, within three seconds.
+/// A neighbour is confirmed if its entry ends later than that of a stranger would who comes now. While fewer than half of the entries
+/// are confirmed, a neighbour's packet confirms it, and so does its answer to a request of the host. An entry that isn't confirmed
+/// gives way to others before one that is.
 #[derive(Clone, Copy, Debug, PartialEq, Eq)]
 #[non_exhaustive]
 pub struct Guard {
@@ -45,14 +48,17 @@ pub struct Guard {
     pub loops: bool,
     /// Whether fragments are dropped: not by the usual guard.
     pub fragments: bool,
-    /// ARP packets and neighbour messages of those that aren't expected.
-    pub neighbors: Option<Rate>,
-    /// Packets to own addresses, other than of UDP and TCP, from those of own networks that aren't known.
-    pub discoveries: Option<Rate>,
-    /// Queries of IGMP and MLD, and none about 224.0.0.1 or ff02::1.
-    pub queries: Option<Rate>,
-    /// For so long after a router was heard as another one than before, no other is.
-    pub routers: Option<Duration>,
+    /// How long a neighbour is known that isn't confirmed: 20 s by the usual guard. `None`: as long as any other, which is 60 s.
+    /// Whole microseconds, at most 4,294 seconds.
+    pub strangers_stay: Option<Duration>,
+    /// Whether sockets and frames take turns in asking for neighbours: while a socket waits for its neighbour, no frame has the host
+    /// ask for its sender within three seconds after one did, unless a socket asked since, or who was asked for is known.
+    pub turns: bool,
+    /// Whether answers that wait stay: a query of IGMP or MLD doesn't take the place of one that has still to report the same, and no
+    /// later, and none about 224.0.0.1 or ff02::1 takes a place.
+    pub reports: bool,
+    /// Whether an advertisement from which no prefix and no router is learnt leaves the neighbours.
+    pub routers: bool,
     /// Echo replies of either ICMP: without a rate by the usual guard.
     pub echo_replies: Option<Rate>,
     /// Errors of either ICMP (RFC 4443 2.4).
@@ -69,34 +75,34 @@ pub struct Guard {
 impl Guard {
     /// What a configuration has in the place of a guard, where there is none.
     pub(crate) const OFF: sys::iface_guard = sys::iface_guard {
-        neighbors: sys::iface_rate { interval: 0, at_once: 0 },
-        discoveries: sys::iface_rate { interval: 0, at_once: 0 },
-        queries: sys::iface_rate { interval: 0, at_once: 0 },
         echo_replies: sys::iface_rate { interval: 0, at_once: 0 },
         errors: sys::iface_rate { interval: 0, at_once: 0 },
         resets: sys::iface_rate { interval: 0, at_once: 0 },
-        routers: 0,
+        strangers_stay: 0,
         on: 0,
         own_addresses: 0,
         loops: 0,
         fragments: 0,
+        turns: 0,
+        reports: 0,
+        routers: 0,
         longest_error: 0,
         defend: 0,
     };
 
     pub(crate) fn to_c(self) -> sys::iface_guard {
         sys::iface_guard {
-            neighbors: Rate::to_c(self.neighbors),
-            discoveries: Rate::to_c(self.discoveries),
-            queries: Rate::to_c(self.queries),
             echo_replies: Rate::to_c(self.echo_replies),
             errors: Rate::to_c(self.errors),
             resets: Rate::to_c(self.resets),
-            routers: self.routers.map_or(0, micros),
+            strangers_stay: self.strangers_stay.map_or(0, micros),
             on: 1,
             own_addresses: u8::from(self.own_addresses),
             loops: u8::from(self.loops),
             fragments: u8::from(self.fragments),
+            turns: u8::from(self.turns),
+            reports: u8::from(self.reports),
+            routers: u8::from(self.routers),
             longest_error: self.longest_error.unwrap_or(0),
             defend: self.defend.map_or(0, micros),
         }
@@ -107,10 +113,10 @@ impl Guard {
             own_addresses: guard.own_addresses != 0,
             loops: guard.loops != 0,
             fragments: guard.fragments != 0,
-            neighbors: Rate::from_c(guard.neighbors),
-            discoveries: Rate::from_c(guard.discoveries),
-            queries: Rate::from_c(guard.queries),
-            routers: (guard.routers != 0).then(|| Duration::from_micros(u64::from(guard.routers))),
+            strangers_stay: (guard.strangers_stay != 0).then(|| Duration::from_micros(u64::from(guard.strangers_stay))),
+            turns: guard.turns != 0,
+            reports: guard.reports != 0,
+            routers: guard.routers != 0,
             echo_replies: Rate::from_c(guard.echo_replies),
             errors: Rate::from_c(guard.errors),
             resets: Rate::from_c(guard.resets),
@@ -131,14 +137,6 @@ pub struct Drops {
     pub own_source: u64,
     /// Messages that tell another hardware address of a pinned neighbour.
     pub pinned: u64,
-    /// Messages of neighbours that aren't expected.
-    pub new_neighbor: u64,
-    /// Packets for whose answer the host would have to ask.
-    pub discovery: u64,
-    /// Queries of IGMP and MLD, beyond their rate, or about 224.0.0.1 or ff02::1.
-    pub query: u64,
-    /// Advertisements of other routers.
-    pub router: u64,
     /// Fragments.
     pub fragment: u64,
     /// Datagrams that could go to and fro for ever.
@@ -157,10 +155,6 @@ impl Drops {
             own_address: drops.own_address,
             own_source: drops.own_source,
             pinned: drops.pinned,
-            new_neighbor: drops.new_neighbor,
-            discovery: drops.discovery,
-            query: drops.query,
-            router: drops.router,
             fragment: drops.fragment,
             loops: drops.loops,
             echo_reply: drops.echo_reply,

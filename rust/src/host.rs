@@ -300,7 +300,7 @@ struct Configured<C> {
 }
 
 impl Settings {
-    /// What `iface_config_init` writes: frames of 1514 octets, 8 sockets, room for 64 neighbours, 8 addresses, 8 routes and
+    /// What `iface_config_init` writes: frames of 1514 octets, 8 sockets, room for 128 neighbours, 8 addresses, 8 routes and
     /// 16 groups, 4 prefixes, 4 routers and 8 packets in fragments, no addresses from routers, a patience of three
     /// seconds, ten seconds for fragments, the start [`Instant::ZERO`], all checksums its own, the seed 0, and a guard.
     pub fn new(hardware_addr: HardwareAddress) -> Settings {
@@ -1366,10 +1366,6 @@ impl Host {
             own_address: 0,
             own_source: 0,
             pinned: 0,
-            new_neighbor: 0,
-            discovery: 0,
-            query: 0,
-            router: 0,
             fragment: 0,
             loops: 0,
             echo_reply: 0,

@@ -8,6 +8,8 @@
 extern crate alloc;
 
 mod checksum;
+#[cfg(feature = "alloc")]
+pub mod config;
 mod guard;
 #[cfg(feature = "rust-heap")]
 mod heap;
@@ -25,6 +27,8 @@ pub mod iface;
 pub mod phy;
 #[cfg(feature = "alloc")]
 pub mod socket;
+#[cfg(feature = "alloc")]
+pub mod storage;
 
 pub use checksum::{Checksum, ChecksumCapabilities};
 pub use guard::{Conflict, Drops, Guard, Rate};

@@ -2,7 +2,7 @@
 //!
 //! Calling any of it is `unsafe`: the header says what the caller keeps. [`Host`](crate::Host) keeps it.
 //!
-//! Sum of the header: 0x1d177a0bd4c4509f
+//! Sum of the header: 0x717aa10d4eec9db6
 #![allow(non_camel_case_types)]
 
 use core::ffi::{c_char, c_void};
@@ -19,7 +19,7 @@ pub const IFACE_BAD_ARGUMENT: u32 = 3;
 pub const IFACE_NO_MEMORY: u32 = 4;
 /// frame_len: not 590 to 1514 on Ethernet, 576 to 1514 without hardware addresses
 pub const IFACE_BAD_MTU: u32 = 5;
-/// a hardware address or an own address that can't be one
+/// a hardware address, an own address or a server that can't be one
 pub const IFACE_NOT_UNICAST: u32 = 6;
 /// a moment below 0 or above 2^62, that of a host's start, a route's end and a hold too
 pub const IFACE_BAD_MOMENT: u32 = 7;
@@ -103,9 +103,9 @@ pub const IFACE_DNS_PENDING: u32 = 0;
 pub const IFACE_DNS_FOUND: u32 = 1;
 /// there is no such name (RCODE 3)
 pub const IFACE_DNS_NO_SUCH_NAME: u32 = 2;
-/// the server failed, or refused: any other RCODE but 0
+/// all servers failed, or refused: any other RCODE but 0
 pub const IFACE_DNS_SERVER_FAILURE: u32 = 3;
-/// the answer didn't fit in one message (TC)
+/// the answer didn't fit in one message (TC), and what did has no address
 pub const IFACE_DNS_TRUNCATED: u32 = 4;
 /// the name has no address of the type that was asked for
 pub const IFACE_DNS_NO_ADDRESS: u32 = 5;
@@ -113,6 +113,8 @@ pub const IFACE_DNS_NO_ADDRESS: u32 = 5;
 pub const IFACE_DNS_TOO_MANY_ALIASES: u32 = 6;
 /// no server answered
 pub const IFACE_DNS_TIMED_OUT: u32 = 7;
+/// the name has addresses, in an answer that didn't fit in one message (TC): it may have others
+pub const IFACE_DNS_FOUND_TRUNCATED: u32 = 8;
 
 /// it is gone; what came before can still be read
 pub const IFACE_CLOSED: u32 = 0;
@@ -159,7 +161,7 @@ pub const IFACE_DNS_SERVERS: usize = 3;
 /// How many addresses of a result there are at most.
 pub const IFACE_DNS_ADDRESSES: usize = 4;
 /// The version of the header.
-pub const IFACE_VERSION: u32 = 0x000e0007;
+pub const IFACE_VERSION: u32 = 0x000e0008;
 /// Any address, for the end at which a socket listens.
 pub const IFACE_ANY: iface_address = iface_address { version: 0, octets: [0; 16] };
 
@@ -275,24 +277,20 @@ pub struct iface_rate {
     pub at_once: u32,
 }
 
-/// The guard in front of a host on Ethernet: what it drops before the host sees it, and which answers to strangers it holds back. Each rule has its switch; a rate is off by an interval of 0. A comment ends with what `iface_config_init` sets. A neighbour is expected if its hardware address is known, or if the host asked for it last, within three seconds.
+/// The guard in front of a host on Ethernet: what it drops before the host sees it, what it leaves of what a frame changed, and which answers to strangers it holds back. Each rule has its switch; a rate is off by an interval of 0. A comment ends with what `iface_config_init` sets.
+///
+/// A neighbour is confirmed if its entry ends later than that of a stranger would who comes now. While fewer than half of the entries are confirmed, a neighbour's packet confirms it, and so does its answer to a request of the host. An entry that isn't confirmed gives way to others before one that is.
 #[repr(C)]
 #[derive(Clone, Copy, Debug)]
 pub struct iface_guard {
-    /// ARP packets for own addresses and neighbour messages of those that aren't expected: 500,000 and 8
-    pub neighbors: iface_rate,
-    /// packets to own addresses, other than of UDP and TCP, from those of own networks that aren't known: 2,000,000 and 1
-    pub discoveries: iface_rate,
-    /// queries of IGMP and MLD, and none about 224.0.0.1 or ff02::1: 1,000,000 and 1
-    pub queries: iface_rate,
     /// echo replies of either ICMP: 0 and 0
     pub echo_replies: iface_rate,
     /// errors of either ICMP (RFC 4443, 2.4): 10,000 and 10
     pub errors: iface_rate,
     /// resets of TCP: 10,000 and 10
     pub resets: iface_rate,
-    /// for so many microseconds after a router was heard as another one than before, no other is; 0 sets no bound: 60,000,000
-    pub routers: u32,
+    /// how long a neighbour is known that isn't confirmed, in microseconds; 0: as long as any other, which is 60 s: 20,000,000
+    pub strangers_stay: u32,
     /// 0: there is no guard, as without hardware addresses: 1
     pub on: u8,
     /// not 0: drops what claims an own address for another hardware address than the own one (RFC 5227, 2.4), or comes from one by another: 1
@@ -301,6 +299,12 @@ pub struct iface_guard {
     pub loops: u8,
     /// not 0: drops fragments: 0
     pub fragments: u8,
+    /// not 0: while a socket waits for its neighbour, no frame has the host ask for its sender within three seconds after one did, unless a socket asked since, or who was asked for is known: 1
+    pub turns: u8,
+    /// not 0: a query of IGMP or MLD doesn't take the place of an answer that waits, if that one has still to report the same, and no later, or if the query is about 224.0.0.1 or ff02::1: 1
+    pub reports: u8,
+    /// not 0: an advertisement from which no prefix and no router is learnt leaves the neighbours: 1
+    pub routers: u8,
     /// an error may be so many times as long as the frame that it answers; 0 sets no bound: 3
     pub longest_error: u32,
     /// a claim of an own IPv4 address that is dropped is answered by an announcement of it (RFC 5227, 2.4 c), unless one was in so many microseconds before; 0 announces nothing: 0
@@ -375,14 +379,6 @@ pub struct iface_drops {
     pub own_source: u64,
     /// messages that tell another hardware address of a pinned neighbour
     pub pinned: u64,
-    /// by the rate neighbors
-    pub new_neighbor: u64,
-    /// by the rate discoveries
-    pub discovery: u64,
-    /// by the rate queries, or about all hosts
-    pub query: u64,
-    /// advertisements of other routers
-    pub router: u64,
     /// `fragment`.
     pub fragment: u64,
     /// `loops`.
@@ -457,7 +453,7 @@ pub struct iface_streams_config {
     pub table_key: [u64; 2],
     /// how long nothing arrives before a peer is probed; 0 for never: 0
     pub keep_alive: u64,
-    /// how long what was sent may stay unacknowledged, which is asked each time before it is sent again; 0 for twelve tries: 0
+    /// how long a peer may leave what was sent unanswered, and unacknowledged while its window has room for it; 0 for twelve tries: 0
     pub timeout: u64,
     /// how long an acknowledgement of octets in order may wait: 10,000
     pub ack_delay: u64,
@@ -531,15 +527,15 @@ impl iface_streams {
 
 const _: () = assert!(size_of::<iface_address>() == 17);
 const _: () = assert!(size_of::<iface_endpoint>() == 20);
-const _: () = assert!(size_of::<iface_config>() == 152);
+const _: () = assert!(size_of::<iface_config>() == 136);
 const _: () = assert!(size_of::<iface>() == 16);
 const _: () = assert!(size_of::<iface_cidr>() == 18);
 const _: () = assert!(size_of::<iface_counts>() == 32);
 const _: () = assert!(size_of::<iface_queue>() == 20);
 const _: () = assert!(size_of::<iface_checksums>() == 5);
 const _: () = assert!(size_of::<iface_rate>() == 8);
-const _: () = assert!(size_of::<iface_guard>() == 64);
-const _: () = assert!(size_of::<iface_drops>() == 96);
+const _: () = assert!(size_of::<iface_guard>() == 44);
+const _: () = assert!(size_of::<iface_drops>() == 64);
 const _: () = assert!(size_of::<iface_lease>() == 112);
 const _: () = assert!(size_of::<iface_dhcp>() == 16);
 const _: () = assert!(size_of::<iface_dns_answer>() == 72);
@@ -551,7 +547,7 @@ const _: () = assert!(size_of::<iface_rooms>() == 16);
 const _: () = assert!(size_of::<iface_segment>() == 32);
 
 unsafe extern "C" {
-    /// Writes what most programs want: frames of 1514 octets on Ethernet, 8 sockets, 64 neighbours, no addresses from routers, a patience of 3 s (three requests, a second apart: RFC 4861, 10), 10 s for fragments, and a guard. The start is 0, the seed is 0, and the hardware address all zeros: set the last two.
+    /// Writes what most programs want: frames of 1514 octets on Ethernet, 8 sockets, 128 neighbours, no addresses from routers, a patience of 3 s (three requests, a second apart: RFC 4861, 10), 10 s for fragments, and a guard. The start is 0, the seed is 0, and the hardware address all zeros: set the last two.
     pub fn iface_config_init(config: *mut iface_config);
     /// What `iface_new` calls, with the version of the header that the program was built with.
     pub fn iface_new_for(host: *mut iface, config: *const iface_config, version: u32) -> u32;
@@ -689,11 +685,11 @@ unsafe extern "C" {
     pub fn iface_dhcp_reset(client: *mut iface_dhcp) -> u32;
     /// Frees a client: the handle owns none from then on. If the other handle owns a host, the client's sockets there are closed. What the client gave the host stays: call `iface_dhcp_reset` and `iface_dhcp_apply` before. NO_CLIENT.
     pub fn iface_dhcp_free(client: *mut iface_dhcp, host: *mut iface) -> u32;
-    /// Makes a client for so many queries at once, which the handle owns from then on. key is 16 random octets, a secret: the numbers and ports of queries come from it, and who doesn't know it can't tell the next ones from those before (RFC 5452, 9.2). servers is an array of `IFACE_DNS_SERVERS` addresses, in the order in which they are asked. Those of version 0, as `IFACE_ANY`, are left out; so the servers of a lease may be handed over as they are. HAS_CLIENT, BAD_ARGUMENT (a server whose version is neither 0, 4 nor 6), NO_MEMORY.
+    /// Makes a client for so many queries at once, which the handle owns from then on. key is 16 random octets, a secret: the numbers and ports of queries come from it, and who doesn't know it can't tell the next ones from those before (RFC 5452, 9.2). servers is an array of `IFACE_DNS_SERVERS` addresses, in the order in which they are asked. Those of version 0, as `IFACE_ANY`, are left out; so the servers of a lease may be handed over as they are. HAS_CLIENT, BAD_ARGUMENT (a server whose version is neither 0, 4 nor 6), NOT_UNICAST (a server that can't be one), NO_MEMORY.
     pub fn iface_dns_new(dns: *mut iface_dns, queries: u32, key: *const u64, servers: *const iface_address) -> u32;
-    /// Sets the servers, as `iface_dns_new` has them, in place of those before. Queries that wait go on with the new ones: each asks the one whose turn it is, and no answer of another counts; without a server they time out. BAD_ARGUMENT, NO_CLIENT, NO_MEMORY.
+    /// Sets the servers, as `iface_dns_new` has them, in place of those before. Queries that wait go on with the new ones: each asks the one whose turn it is, and no answer of another counts; without a server they time out. BAD_ARGUMENT, NO_CLIENT, NOT_UNICAST, NO_MEMORY.
     pub fn iface_dns_servers(dns: *mut iface_dns, servers: *const iface_address) -> u32;
-    /// Starts a query for a name, as "www.example.com" with 15: length octets, of which a dot at the end is left out. Labels between dots have 1 to 63 octets of any value, and the name is at most 253 octets long (RFC 1035, 2.3.4). query_type is of enum `iface_dns_type`. Writes the query's number, the least that names none. The query stays until it is cancelled. BAD_ARGUMENT (the type), NO_CLIENT, NO_HOST, BAD_MOMENT, BAD_NAME (a label that is empty or too long, or too long a name), NO_SERVER, TABLE_FULL (each number names a query; all sockets are open), NO_MEMORY.
+    /// Starts a query for a name, as "www.example.com" with 15: length octets, of which a dot at the end is left out. Labels between dots have 1 to 63 octets of any value, and the name is at most 253 octets long (RFC 1035, 2.3.4). query_type is of enum `iface_dns_type`. Writes the query's number, the least that names none. The query stays until it is cancelled. A name that is an address in text, as "192.0.2.1" or "2001:db8::1", asks nobody: its query has the result at once. BAD_ARGUMENT (the type), NO_CLIENT, NO_HOST, BAD_MOMENT, BAD_NAME (a label that is empty or too long, or too long a name), NO_SERVER, TABLE_FULL (each number names a query; all sockets are open), NO_MEMORY.
     pub fn iface_dns_start(dns: *mut iface_dns, host: *mut iface, now: i64, name: *const c_char, length: usize, query_type: u32, query: *mut usize) -> u32;
     /// Does what is due: queries take what came to their sockets, queue what they send now, and give up after their time. The socket of a query that waits no longer is closed. A message for which there is no room counts as lost. NO_CLIENT, NO_HOST, BAD_MOMENT.
     pub fn iface_dns_poll(dns: *mut iface_dns, host: *mut iface, now: i64) -> u32;
@@ -723,9 +719,9 @@ unsafe extern "C" {
     pub fn iface_stream_close_listener(tcp: *mut iface_streams, listener: usize) -> u32;
     /// Opens a connection to a peer, from a port of one own address; or of the one that `iface_source_for` writes, if that of local is none. Writes its name. The next `iface_streams_poll` sends the SYN, and `iface_stream_state` tells what becomes of it. An address of local that the host doesn't have ends it then, as if aborted. BAD_ARGUMENT, NO_STREAMS, NO_HOST, BAD_MOMENT, BAD_PORT (also the peer's), NOT_THERE (no own address of this family), BAD_ADDRESS (one that isn't unicast, or they are of two families), IN_USE (choose another port), TABLE_FULL (each place has a connection).
     pub fn iface_stream_connect(tcp: *mut iface_streams, host: *mut iface, now: i64, local: *const iface_endpoint, remote: *const iface_endpoint, stream: *mut iface_stream) -> u32;
-    /// Queues the first octets, as many as there is room for, and writes how many: 0 once the program closed, or the connection is gone.
+    /// Queues the first octets, as many as there is room for, and writes how many: 0 once the program closed, or the connection is gone. Where it is 0, `iface_streams_poll_at` says what it said before.
     pub fn iface_stream_send(tcp: *mut iface_streams, stream: *const iface_stream, octets: *const u8, length: usize, count: *mut usize) -> u32;
-    /// Takes the octets that came, in order and as many as there is room for, and writes how many: 0 where none came, and where no more come, which `iface_stream_state` tells apart.
+    /// Takes the octets that came, in order and as many as there is room for, and writes how many: 0 where none came, and where no more come, which `iface_stream_state` tells apart. Where it is 0, `iface_streams_poll_at` says what it said before.
     pub fn iface_stream_receive(tcp: *mut iface_streams, stream: *const iface_stream, out: *mut u8, room: usize, count: *mut usize) -> u32;
     /// Writes what the call above does, and leaves the octets there.
     pub fn iface_stream_peek(tcp: *mut iface_streams, stream: *const iface_stream, out: *mut u8, room: usize, count: *mut usize) -> u32;

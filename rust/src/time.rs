@@ -1,6 +1,6 @@
 //! Instants and spans of time, in microseconds.
 use core::fmt;
-use core::ops::{Add, AddAssign, Sub, SubAssign};
+use core::ops::{Add, AddAssign, Div, DivAssign, Mul, MulAssign, Shl, ShlAssign, Shr, ShrAssign, Sub, SubAssign};
 
 /// An instant from 0 to 2^62 microseconds since any origin: those that the library takes.
 ///
@@ -45,14 +45,15 @@ impl Instant {
         Instant::from_micros_const(secs.into().saturating_mul(1_000_000))
     }
 
-    /// The time since the first call, by the system's monotonic clock. smoltcp's is the time since 1970, by the
-    /// system's clock, which may be set back.
+    /// The time since 1970: at the first call by the system's clock, and from then on by the one that never goes back.
+    /// smoltcp's is always by the former, which may be set back.
     #[cfg(feature = "std")]
     pub fn now() -> Instant {
         use std::sync::OnceLock;
-        static START: OnceLock<std::time::Instant> = OnceLock::new();
-        let micros = START.get_or_init(std::time::Instant::now).elapsed().as_micros();
-        Instant::from_micros_const(i64::try_from(micros).unwrap_or(i64::MAX))
+        use std::time::{Instant as Clock, SystemTime};
+        static START: OnceLock<(Clock, Instant)> = OnceLock::new();
+        let (clock, start) = START.get_or_init(|| (Clock::now(), SystemTime::now().into()));
+        *start + clock.elapsed().into()
     }
 
     /// The microseconds since the origin.
@@ -78,6 +79,30 @@ impl Instant {
     /// The microseconds behind the whole seconds.
     pub const fn micros(&self) -> i64 {
         self.0 % 1_000_000
+    }
+}
+
+#[cfg(feature = "std")]
+impl From<std::time::Instant> for Instant {
+    /// The time since an instant of the system's, as smoltcp's.
+    fn from(start: std::time::Instant) -> Instant {
+        Instant::ZERO + start.elapsed().into()
+    }
+}
+
+#[cfg(feature = "std")]
+impl From<std::time::SystemTime> for Instant {
+    /// The time since 1970: none before.
+    fn from(time: std::time::SystemTime) -> Instant {
+        Instant::ZERO + time.duration_since(std::time::UNIX_EPOCH).unwrap_or_default().into()
+    }
+}
+
+#[cfg(feature = "std")]
+impl From<Instant> for std::time::SystemTime {
+    /// So long after 1970.
+    fn from(instant: Instant) -> std::time::SystemTime {
+        std::time::UNIX_EPOCH + (instant - Instant::ZERO).into()
     }
 }
 
@@ -126,11 +151,21 @@ impl Duration {
     pub const fn secs(&self) -> u64 {
         self.0 / 1_000_000
     }
+
+    /// The whole milliseconds behind the whole seconds.
+    pub const fn millis(&self) -> u64 {
+        self.0 / 1_000 % 1_000
+    }
+
+    /// The microseconds behind the whole seconds.
+    pub const fn micros(&self) -> u64 {
+        self.0 % 1_000_000
+    }
 }
 
 impl fmt::Display for Duration {
     fn fmt(&self, f: &mut fmt::Formatter<'_>) -> fmt::Result {
-        write!(f, "{}.{:03}s", self.secs(), self.total_millis() % 1_000)
+        write!(f, "{}.{:03}s", self.secs(), self.millis())
     }
 }
 
@@ -198,4 +233,63 @@ impl Sub<Duration> for Duration {
     fn sub(self, other: Duration) -> Duration {
         Duration(self.0.saturating_sub(other.0))
     }
+}
+
+impl Mul<u32> for Duration {
+    type Output = Duration;
+
+    /// The span so many times, but at most the longest.
+    fn mul(self, count: u32) -> Duration {
+        Duration(self.0.saturating_mul(count.into()))
+    }
+}
+
+impl Div<u32> for Duration {
+    type Output = Duration;
+
+    /// One of so many equal parts, in whole microseconds.
+    ///
+    /// # Panics
+    /// If there are none.
+    fn div(self, parts: u32) -> Duration {
+        Duration(self.0 / u64::from(parts))
+    }
+}
+
+impl Shl<u32> for Duration {
+    type Output = Duration;
+
+    /// The span doubled so often, but at most the longest.
+    fn shl(self, count: u32) -> Duration {
+        Duration(if self.0.leading_zeros() < count { u64::MAX } else { self.0.checked_shl(count).unwrap_or(0) })
+    }
+}
+
+impl Shr<u32> for Duration {
+    type Output = Duration;
+
+    /// The span halved so often, in whole microseconds.
+    fn shr(self, count: u32) -> Duration {
+        Duration(self.0.checked_shr(count).unwrap_or(0))
+    }
+}
+
+/// The operators that change a span.
+macro_rules! assign {
+    ($($form:ident $call:ident $other:ty: $operator:tt)*) => {
+        $(impl $form<$other> for Duration {
+            fn $call(&mut self, other: $other) {
+                *self = *self $operator other;
+            }
+        })*
+    };
+}
+
+assign! {
+    AddAssign add_assign Duration: +
+    SubAssign sub_assign Duration: -
+    MulAssign mul_assign u32: *
+    DivAssign div_assign u32: /
+    ShlAssign shl_assign u32: <<
+    ShrAssign shr_assign u32: >>
 }

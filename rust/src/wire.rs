@@ -4,29 +4,31 @@
 //! packet that is well formed: `parse` reads it, `emit` writes it. These are of this crate, and no proof is about them:
 //! the library has its own, and reads and writes by these alone. They are for programs with ICMP and raw sockets, and
 //! for devices that look at frames.
-use core::cmp::Ordering;
 use core::fmt;
 use core::net::{IpAddr, SocketAddr, SocketAddrV4, SocketAddrV6};
-use core::ops::{Add, AddAssign, Sub};
 use core::str::FromStr;
 
 pub use core::net::{Ipv4Addr as Ipv4Address, Ipv6Addr as Ipv6Address};
 
 #[macro_use]
 mod forms;
+mod address_ext;
 mod arp;
 mod dns;
 mod ethernet;
 mod icmpv4;
 mod icmpv6;
 mod igmp;
+mod ip;
 mod ipv4;
 mod ipv6;
 mod mld;
 mod ndisc;
-mod pretty_print;
+pub mod pretty_print;
+mod tcp;
 mod udp;
 
+pub use address_ext::{Ipv4AddressExt, Ipv6AddressExt, Ipv6MulticastScope};
 pub use arp::{ArpHardware, ArpOperation, ArpPacket, ArpRepr};
 pub use dns::DnsQueryType;
 pub use ethernet::{ETHERNET_HEADER_LEN, EthernetFrame, EthernetProtocol, EthernetRepr};
@@ -38,6 +40,7 @@ pub use icmpv6::{
     Icmpv6DstUnreachable, Icmpv6Message, Icmpv6Packet, Icmpv6ParamProblem, Icmpv6Repr, Icmpv6TimeExceeded,
 };
 pub use igmp::{IgmpMessage, IgmpPacket, IgmpRepr, IgmpVersion};
+pub use ip::{IcmpRepr, IpRepr};
 pub use ipv4::{IPV4_HEADER_LEN, IPV4_MIN_MTU, Ipv4Packet, Ipv4Repr};
 pub use ipv6::{IPV6_HEADER_LEN, IPV6_MIN_MTU, Ipv6Packet, Ipv6Repr};
 pub use mld::{MldAddressRecord, MldAddressRecordRepr, MldRecordType, MldRepr};
@@ -46,7 +49,35 @@ pub use ndisc::{
     NdiscRedirectedHeader, NdiscRepr, NdiscRouterFlags, RawHardwareAddress,
 };
 pub use pretty_print::{PrettyPrint, PrettyPrinter};
+pub use tcp::{TCP_HEADER_LEN, TcpControl, TcpOption, TcpPacket, TcpRepr, TcpSeqNumber, TcpTimestampRepr};
 pub use udp::{UDP_HEADER_LEN, UdpPacket, UdpRepr};
+
+/// The octets of the longest hardware address.
+pub const MAX_HARDWARE_ADDRESS_LEN: usize = 6;
+
+/// The group of all hosts (RFC 1112, 4).
+pub const IPV4_MULTICAST_ALL_SYSTEMS: Ipv4Address = Ipv4Address::new(224, 0, 0, 1);
+
+/// The group of all routers (RFC 1256, 3).
+pub const IPV4_MULTICAST_ALL_ROUTERS: Ipv4Address = Ipv4Address::new(224, 0, 0, 2);
+
+/// The group of all hosts on a link (RFC 4291, 2.7.1).
+pub const IPV6_LINK_LOCAL_ALL_NODES: Ipv6Address = Ipv6Address::new(0xff02, 0, 0, 0, 0, 0, 0, 1);
+
+/// The group of all routers on a link (RFC 4291, 2.7.1).
+pub const IPV6_LINK_LOCAL_ALL_ROUTERS: Ipv6Address = Ipv6Address::new(0xff02, 0, 0, 0, 0, 0, 0, 2);
+
+/// The group to which hosts report their groups (RFC 3810, 5.2.14).
+pub const IPV6_LINK_LOCAL_ALL_MLDV2_ROUTERS: Ipv6Address = Ipv6Address::new(0xff02, 0, 0, 0, 0, 0, 0, 0x16);
+
+/// The port of a client of DHCP (RFC 2131, 4.1).
+pub const DHCP_CLIENT_PORT: u16 = 68;
+
+/// The port of a server of DHCP (RFC 2131, 4.1).
+pub const DHCP_SERVER_PORT: u16 = 67;
+
+/// How many servers of names a lease has at most.
+pub const DHCP_MAX_DNS_SERVER_COUNT: usize = 3;
 
 /// Octets that aren't a packet of the form that they are read as, or one with a wrong checksum.
 #[derive(Clone, Copy, Debug, PartialEq, Eq)]
@@ -93,72 +124,6 @@ impl fmt::Display for IpVersion {
     }
 }
 
-/// What a segment of TCP does to its connection (RFC 9293, 3.1): the one of these flags that is set.
-#[derive(Clone, Copy, Debug, PartialEq, Eq, Hash)]
-pub enum TcpControl {
-    /// None is set.
-    None,
-    /// What came is to be handed on.
-    Psh,
-    /// It begins.
-    Syn,
-    /// It ends in this direction.
-    Fin,
-    /// It is reset.
-    Rst,
-}
-
-/// A sequence number of TCP, modulo 2^32 (RFC 9293, 3.4). One number is less than another if it is up to half of the
-/// range before it.
-#[derive(Clone, Copy, Debug, Default, PartialEq, Eq, Hash)]
-pub struct TcpSeqNumber(pub i32);
-
-impl fmt::Display for TcpSeqNumber {
-    fn fmt(&self, f: &mut fmt::Formatter<'_>) -> fmt::Result {
-        (self.0 as u32).fmt(f)
-    }
-}
-
-impl Add<usize> for TcpSeqNumber {
-    type Output = TcpSeqNumber;
-
-    /// The number so many octets on, modulo 2^32: where smoltcp panics at more than 2^31, this does not.
-    fn add(self, octets: usize) -> TcpSeqNumber {
-        TcpSeqNumber(self.0.wrapping_add_unsigned(octets as u32))
-    }
-}
-
-impl AddAssign<usize> for TcpSeqNumber {
-    fn add_assign(&mut self, octets: usize) {
-        *self = *self + octets;
-    }
-}
-
-impl Sub<usize> for TcpSeqNumber {
-    type Output = TcpSeqNumber;
-
-    /// The number so many octets before, modulo 2^32.
-    fn sub(self, octets: usize) -> TcpSeqNumber {
-        TcpSeqNumber(self.0.wrapping_sub_unsigned(octets as u32))
-    }
-}
-
-impl Sub<TcpSeqNumber> for TcpSeqNumber {
-    type Output = usize;
-
-    /// How many octets on it is from another, modulo 2^32: where smoltcp panics at a number before the other, this does
-    /// not.
-    fn sub(self, other: TcpSeqNumber) -> usize {
-        self.0.wrapping_sub(other.0) as u32 as usize
-    }
-}
-
-impl PartialOrd for TcpSeqNumber {
-    fn partial_cmp(&self, other: &TcpSeqNumber) -> Option<Ordering> {
-        self.0.wrapping_sub(other.0).partial_cmp(&0)
-    }
-}
-
 enum_with_unknown! {
     /// A protocol over IP, by its number.
     pub enum IpProtocol(u8) {
@@ -186,6 +151,26 @@ enum_with_unknown! {
         Ipv6NoNxt = 59,
         /// Destination options of IPv6.
         Ipv6Opts = 60,
+    }
+}
+
+impl fmt::Display for IpProtocol {
+    fn fmt(&self, f: &mut fmt::Formatter<'_>) -> fmt::Result {
+        f.write_str(match self {
+            IpProtocol::HopByHop => "Hop-by-Hop",
+            IpProtocol::Icmp => "ICMP",
+            IpProtocol::Igmp => "IGMP",
+            IpProtocol::Tcp => "TCP",
+            IpProtocol::Udp => "UDP",
+            IpProtocol::Ipv6Route => "IPv6-Route",
+            IpProtocol::Ipv6Frag => "IPv6-Frag",
+            IpProtocol::IpSecEsp => "IPsec-ESP",
+            IpProtocol::IpSecAh => "IPsec-AH",
+            IpProtocol::Icmpv6 => "ICMPv6",
+            IpProtocol::Ipv6NoNxt => "IPv6-NoNxt",
+            IpProtocol::Ipv6Opts => "IPv6-Opts",
+            IpProtocol::Unknown(number) => return write!(f, "0x{number:02x}"),
+        })
     }
 }
 
@@ -258,6 +243,38 @@ pub enum HardwareAddress {
     Ip,
     /// An address on Ethernet.
     Ethernet(EthernetAddress),
+}
+
+impl HardwareAddress {
+    /// Its octets: none where the medium has no hardware addresses.
+    pub const fn as_bytes(&self) -> &[u8] {
+        match self {
+            HardwareAddress::Ip => &[],
+            HardwareAddress::Ethernet(address) => address.as_bytes(),
+        }
+    }
+
+    /// Whether it is one host's.
+    ///
+    /// # Panics
+    /// Where the medium has no hardware addresses, as smoltcp's.
+    pub fn is_unicast(&self) -> bool {
+        match self {
+            HardwareAddress::Ip => panic!("the medium has no hardware addresses"),
+            HardwareAddress::Ethernet(address) => address.is_unicast(),
+        }
+    }
+
+    /// Whether it is all hosts'.
+    ///
+    /// # Panics
+    /// Where the medium has no hardware addresses, as smoltcp's.
+    pub fn is_broadcast(&self) -> bool {
+        match self {
+            HardwareAddress::Ip => panic!("the medium has no hardware addresses"),
+            HardwareAddress::Ethernet(address) => address.is_broadcast(),
+        }
+    }
 }
 
 impl From<EthernetAddress> for HardwareAddress {

@@ -28,8 +28,8 @@ impl Link {
         let mut device = MemoryDevice::new(Medium::Ethernet, 1514);
         let mut config = Config::new(EthernetAddress(OWN).into());
         config.sockets = 2;
-        let mut iface = Interface::new(config, &mut device, Instant::ZERO).unwrap();
-        let mut sockets = SocketSet::new(&iface);
+        let mut iface = Interface::new(config, &mut device, Instant::ZERO);
+        let mut sockets = SocketSet::of(&iface);
         let handle = sockets.add(dhcpv4::Socket::new());
         assert_eq!(iface.poll_delay(Instant::ZERO, &sockets), Some(Duration::ZERO));
         let mut link = Link { device, iface, sockets, handle };
@@ -81,7 +81,7 @@ impl Link {
 
     fn set_address(&mut self, config: &dhcpv4::Config) {
         let address = IpCidr::Ipv4(config.address);
-        self.iface.update_ip_addrs(|list| list.push(address).unwrap()).unwrap();
+        self.iface.update_ip_addrs(|list| list.push(address).unwrap());
     }
 }
 
@@ -159,6 +159,26 @@ fn a_refusal_and_a_reset_begin_anew() {
     assert_eq!(link.lease(next.max(later + Duration::from_secs(5))).address, config.address);
 }
 
+/// smoltcp's documentation of `set_max_lease_duration`: a lease is capped, if the server gave it for longer.
+#[test]
+fn a_lease_is_given_up_after_the_longest_time() {
+    let mut link = Link::new();
+    let now = Instant::from_secs(5);
+    let longest = Some(Duration::from_secs(10));
+    link.sockets.get_mut::<dhcpv4::Socket>(link.handle).set_max_lease_duration(longest);
+    assert_eq!(link.sockets.get::<dhcpv4::Socket>(link.handle).max_lease_duration(), longest);
+    let config = link.lease(now);
+    assert_eq!(link.iface.poll_at(now, &link.sockets), Some(Instant::from_secs(15)));
+    link.poll(Instant::from_micros(14_999_999), None);
+    assert_eq!(link.event(), None);
+    link.poll(Instant::from_secs(15), None);
+    assert_eq!(link.event(), Some(dhcpv4::Event::Deconfigured));
+    link.sockets.get_mut::<dhcpv4::Socket>(link.handle).set_max_lease_duration(None);
+    assert_eq!(link.lease(Instant::from_secs(20)).address, config.address);
+    link.poll(Instant::from_secs(40), None);
+    assert_eq!(link.event(), None);
+}
+
 /// Frames as slices do the same, without a device.
 #[test]
 fn frames_as_slices() {
@@ -176,8 +196,8 @@ fn frames_as_slices() {
 #[test]
 fn it_needs_hardware_addresses_and_a_place() {
     let mut device = MemoryDevice::new(Medium::Ip, 1500);
-    let iface = Interface::new(Config::new(HardwareAddress::Ip), &mut device, Instant::ZERO).unwrap();
-    let mut sockets = SocketSet::new(&iface);
+    let iface = Interface::new(Config::new(HardwareAddress::Ip), &mut device, Instant::ZERO);
+    let mut sockets = SocketSet::of(&iface);
     assert_eq!(sockets.try_add(dhcpv4::Socket::new()).unwrap_err().error, Error::NotThere);
     let mut link = Link::new();
     let room = udp::PacketBuffer::with_capacity(1, 64);
@@ -219,8 +239,8 @@ fn it_goes_from_set_to_set() {
 fn each_client_has_its_numbers() {
     let number = |count: usize| {
         let mut device = MemoryDevice::new(Medium::Ethernet, 1514);
-        let mut iface = Interface::new(Config::new(EthernetAddress(OWN).into()), &mut device, Instant::ZERO).unwrap();
-        let mut sockets = SocketSet::new(&iface);
+        let mut iface = Interface::new(Config::new(EthernetAddress(OWN).into()), &mut device, Instant::ZERO);
+        let mut sockets = SocketSet::of(&iface);
         for _ in 0..count {
             let other = sockets.add(dhcpv4::Socket::new());
             sockets.remove(other);

@@ -566,14 +566,12 @@ fn the_library_reads_and_writes_the_same() {
     use fumitorygate::time::Instant;
     let (own, peer) = (EthernetAddress([2, 0, 0, 0, 0, 1]), EthernetAddress([2, 0, 0, 0, 0, 2]));
     let mut device = MemoryDevice::new(Medium::Ethernet, 1514);
-    let mut iface = Interface::new(Config::new(own.into()), &mut device, Instant::ZERO).unwrap();
-    iface
-        .update_ip_addrs(|list| {
-            list.push("192.168.1.2/24".parse().unwrap()).unwrap();
-            list.push("fe80::2/64".parse().unwrap()).unwrap();
-        })
-        .unwrap();
-    let mut sockets = SocketSet::new(&iface);
+    let mut iface = Interface::new(Config::new(own.into()), &mut device, Instant::ZERO);
+    iface.update_ip_addrs(|list| {
+        list.push("192.168.1.2/24".parse().unwrap()).unwrap();
+        list.push("fe80::2/64".parse().unwrap()).unwrap();
+    });
+    let mut sockets = SocketSet::of(&iface);
     let framed = |ethertype, packet: &[u8]| {
         let mut frame = vec![0; 14 + packet.len()];
         let mut view = EthernetFrame::new_unchecked(&mut frame[..]);
@@ -675,8 +673,9 @@ fn frames_are_written_as_text() {
         lines,
         [
             "-> EthernetII src=02-00-00-00-00-01 dst=02-00-00-00-00-02 type=IPv4",
-            "  \\ IPv4 src=192.168.1.1 dst=192.168.1.2 proto=Udp",
-            "    \\ UDP src=48896 dst=53 len=4",
+            "    \\ IPv4 src=192.168.1.1 dst=192.168.1.2 proto=UDP",
+            "     \\ UDP src=48896 dst=53 len=4",
+            "      \\ DNS (truncated)",
         ]
     );
 }

@@ -41,7 +41,7 @@ fn the_settings_are_those_of_the_table() {
     assert_eq!(settings.reassembly_timeout, Duration::from_micros(10_000_000));
     assert_eq!(settings.frame_len, 1514);
     assert_eq!(settings.sockets, 8);
-    assert_eq!(settings.neighbors, 64);
+    assert_eq!(settings.neighbors, 128);
     assert_eq!(settings.start, Instant::ZERO);
     assert!(!settings.slaac);
     assert_eq!(settings.burst, None);
@@ -510,7 +510,7 @@ fn the_source_is_the_one_of_the_rfc() {
 #[test]
 fn neighbors_are_read_by_rising_ends() {
     let mut few = settings();
-    few.neighbors = 0;
+    (few.neighbors, few.guard) = (0, None);
     let mut node = Node::of(&few, &[CIDR]);
     let known = |node: &mut Node| {
         (0..)

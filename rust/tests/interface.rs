@@ -25,9 +25,9 @@ fn interface() -> (MemoryDevice, Interface, SocketSet<'static>) {
     let mut device = MemoryDevice::new(Medium::Ethernet, 1514);
     let mut config = Config::new(EthernetAddress(OWN).into());
     config.sockets = 2;
-    let mut iface = Interface::new(config, &mut device, Instant::ZERO).unwrap();
-    iface.update_ip_addrs(|list| list.push(IpCidr::new(SELF.into(), 24)).unwrap()).unwrap();
-    let sockets = SocketSet::new(&iface);
+    let mut iface = Interface::new(config, &mut device, Instant::ZERO);
+    iface.update_ip_addrs(|list| list.push(IpCidr::new(SELF.into(), 24)).unwrap());
+    let sockets = SocketSet::of(&iface);
     (device, iface, sockets)
 }
 
@@ -57,14 +57,16 @@ fn a_guard_tells_of_conflicts() {
         let mut config = Config::new(HardwareAddress::Ethernet(EthernetAddress(OWN)));
         let usual = config.guard.unwrap();
         assert!(usual.own_addresses && usual.loops && !usual.fragments);
-        let rate = Rate { interval: Duration::from_millis(500), at_once: 8 };
-        assert_eq!((usual.neighbors, usual.routers), (Some(rate), Some(Duration::from_secs(60))));
+        let rate = Rate { interval: Duration::from_millis(10), at_once: 10 };
+        assert_eq!((usual.echo_replies, usual.errors, usual.resets), (None, Some(rate), Some(rate)));
+        assert_eq!(usual.strangers_stay, Some(Duration::from_secs(20)));
+        assert!(usual.turns && usual.reports && usual.routers);
         if !is_on {
             config.guard = None;
         }
-        let mut iface = Interface::new(config, &mut device, Instant::ZERO).unwrap();
-        iface.update_ip_addrs(|list| list.push(IpCidr::new(SELF.into(), 24)).unwrap()).unwrap();
-        let mut sockets = SocketSet::new(&iface);
+        let mut iface = Interface::new(config, &mut device, Instant::ZERO);
+        iface.update_ip_addrs(|list| list.push(IpCidr::new(SELF.into(), 24)).unwrap());
+        let mut sockets = SocketSet::of(&iface);
         let now = Instant::from_secs(5);
         device.incoming.push_back(claim.clone());
         iface.poll(now, &mut device, &mut sockets);
@@ -72,6 +74,22 @@ fn a_guard_tells_of_conflicts() {
         let conflict = Conflict { hardware_addr: EthernetAddress([2, 0, 0, 0, 0, 66]), at: now };
         assert_eq!(iface.guard_conflict(), is_on.then_some(conflict));
         assert_eq!(iface.neighbors().len(), usize::from(!is_on));
+    }
+}
+
+/// `docs/C.md`, A guard: a neighbour that told its hardware address alone is known for `strangers_stay`, one that spoke for a minute.
+#[test]
+fn a_stranger_stays_for_less() {
+    for (stay, until) in [(Some(Duration::from_secs(20)), 25), (Some(Duration::from_secs(2)), 7), (None, 65)] {
+        let mut device = MemoryDevice::new(Medium::Ethernet, 1514);
+        let mut config = Config::new(HardwareAddress::Ethernet(EthernetAddress(OWN)));
+        config.guard.as_mut().unwrap().strangers_stay = stay;
+        let mut iface = Interface::new(config, &mut device, Instant::ZERO);
+        iface.update_ip_addrs(|list| list.push(IpCidr::new(SELF.into(), 24)).unwrap());
+        let mut sockets = SocketSet::of(&iface);
+        device.incoming.push_back(arp(2, PEER_LINK, PEER, OWN, SELF));
+        iface.poll(Instant::from_secs(5), &mut device, &mut sockets);
+        assert_eq!(iface.neighbors()[0].expires_at, Instant::from_secs(until));
     }
 }
 
@@ -84,9 +102,9 @@ fn a_pinned_neighbor_stays() {
     let config = Config::new(HardwareAddress::Ethernet(EthernetAddress(OWN)));
     let usual = config.guard.unwrap();
     assert_eq!((usual.longest_error, usual.defend), (Some(3), None));
-    let mut iface = Interface::new(config, &mut device, Instant::ZERO).unwrap();
-    iface.update_ip_addrs(|list| list.push(IpCidr::new(SELF.into(), 24)).unwrap()).unwrap();
-    let mut sockets = SocketSet::new(&iface);
+    let mut iface = Interface::new(config, &mut device, Instant::ZERO);
+    iface.update_ip_addrs(|list| list.push(IpCidr::new(SELF.into(), 24)).unwrap());
+    let mut sockets = SocketSet::of(&iface);
     assert_eq!(iface.guard_unpin(PEER), Err(Error::NotThere));
     assert_eq!(iface.guard_pin(PEER, EthernetAddress([3, 0, 0, 0, 0, 2])), Err(Error::NotUnicast));
     iface.guard_pin(PEER, pinned).unwrap();
@@ -109,7 +127,7 @@ fn a_pinned_neighbor_stays() {
 #[test]
 fn an_interface_is_refused_with_its_reason() {
     let made = |hardware: HardwareAddress, medium, mtu| {
-        Interface::new(Config::new(hardware), &mut MemoryDevice::new(medium, mtu), Instant::ZERO).map(|_| ())
+        Interface::try_new(Config::new(hardware), &mut MemoryDevice::new(medium, mtu), Instant::ZERO).map(|_| ())
     };
     let own = HardwareAddress::Ethernet(EthernetAddress(OWN));
     assert_eq!(made(own, Medium::Ethernet, 1514), Ok(()));
@@ -127,9 +145,9 @@ fn an_interface_is_refused_with_its_reason() {
 fn no_frame_is_longer_than_ethernet_has_them() {
     for (payload, frames) in [(1472, vec![1514]), (1473, vec![1514, 35])] {
         let mut device = MemoryDevice::new(Medium::Ethernet, 9000);
-        let mut iface = Interface::new(Config::new(EthernetAddress(OWN).into()), &mut device, Instant::ZERO).unwrap();
-        iface.update_ip_addrs(|list| list.push(IpCidr::new(SELF.into(), 24)).unwrap()).unwrap();
-        let mut sockets = SocketSet::new(&iface);
+        let mut iface = Interface::new(Config::new(EthernetAddress(OWN).into()), &mut device, Instant::ZERO);
+        iface.update_ip_addrs(|list| list.push(IpCidr::new(SELF.into(), 24)).unwrap());
+        let mut sockets = SocketSet::of(&iface);
         let mut socket = udp::Socket::new(buffer(), udp::PacketBuffer::with_capacity(1, 4096));
         socket.bind(7).unwrap();
         let handle = sockets.add(socket);
@@ -150,17 +168,15 @@ fn addresses_are_read_back_and_a_refused_list_changes_nothing() {
     let (_, mut iface, _) = interface();
     let all: Vec<IpCidr> =
         ["192.168.69.1/24", "fe80::1/64", "10.0.0.1/8", "0.0.0.0/0"].iter().map(|text| text.parse().unwrap()).collect();
-    iface.update_ip_addrs(|list| all[1..].iter().for_each(|cidr| list.push(*cidr).unwrap())).unwrap();
+    iface.update_ip_addrs(|list| all[1..].iter().for_each(|cidr| list.push(*cidr).unwrap()));
     assert_eq!(*iface.ip_addrs(), all[..]);
     let link_local = Ipv6Address::new(0xfe80, 0, 0, 0, 0, 0, 0, 1);
     assert_eq!((iface.ipv4_addr(), iface.ipv6_addr()), (Some(SELF), Some(link_local)));
-    iface
-        .update_ip_addrs(|list| {
-            list.retain(|cidr| *cidr != all[1]);
-        })
-        .unwrap();
+    iface.update_ip_addrs(|list| {
+        list.retain(|cidr| *cidr != all[1]);
+    });
     assert_eq!(*iface.ip_addrs(), [all[0], all[2], all[3]]);
-    let refused = iface.update_ip_addrs(|list| {
+    let refused = iface.try_update_ip_addrs(|list| {
         list.clear();
         list.push(all[1]).unwrap();
         list.push("224.0.0.1/4".parse().unwrap()).unwrap();
@@ -168,12 +184,10 @@ fn addresses_are_read_back_and_a_refused_list_changes_nothing() {
     assert_eq!(refused, Err(Error::NotUnicast));
     assert_eq!(*iface.ip_addrs(), [all[0], all[2], all[3]]);
     assert!(iface.has_ip_addr(SELF) && !iface.has_ip_addr(PEER));
-    iface
-        .update_ip_addrs(|list| {
-            assert_eq!((list.remove(0), list.pop()), (all[0], Some(all[3])));
-            list[0] = all[1];
-        })
-        .unwrap();
+    iface.update_ip_addrs(|list| {
+        assert_eq!((list.remove(0), list.pop()), (all[0], Some(all[3])));
+        list[0] = all[1];
+    });
     assert_eq!(*iface.ip_addrs(), [all[1]]);
 }
 
@@ -182,12 +196,10 @@ fn an_address_twice_is_kept_in_its_order() {
     let (_, mut iface, _) = interface();
     let (a, b) = (IpCidr::new(SELF.into(), 24), IpCidr::new(PEER.into(), 24));
     for list in [vec![a, b, a], vec![a, b], vec![a, b, a], vec![a, a, b], vec![b, a, a], vec![a], vec![]] {
-        iface
-            .update_ip_addrs(|old| {
-                old.clear();
-                list.iter().for_each(|cidr| old.push(*cidr).unwrap());
-            })
-            .unwrap();
+        iface.update_ip_addrs(|old| {
+            old.clear();
+            list.iter().for_each(|cidr| old.push(*cidr).unwrap());
+        });
         assert_eq!(*iface.ip_addrs(), list[..]);
     }
 }
@@ -263,8 +275,7 @@ fn sockets_go_in_and_out() {
     let (mut device, mut iface, mut sockets) = interface();
     let mut socket = udp::Socket::new(buffer(), buffer());
     socket.bind(7).unwrap();
-    assert_eq!(socket.send_slice(b"x", (PEER, 9)), Err(udp::SendError::BufferFull));
-    assert!(socket.is_open() && !socket.can_recv());
+    assert!(socket.is_open() && socket.can_send() && !socket.can_recv());
     let handle = sockets.add(socket);
     device.incoming.push_back(datagram(b"one"));
     iface.poll(millis(1), &mut device, &mut sockets);
@@ -406,7 +417,7 @@ fn groups_and_routes_have_their_errors() {
     iface.poll(Instant::ZERO, &mut device, &mut sockets);
     assert_eq!(device.sent.len(), 16);
     iface.leave_multicast_group(Ipv4Address::new(239, 0, 0, 1)).unwrap();
-    let mut routes = iface.routes_mut();
+    let routes = iface.routes_mut();
     for n in 1..8 {
         routes.add(IpCidr::new(IpAddress::v4(10, n, 0, 0), 16), PEER.into()).unwrap();
     }
@@ -524,25 +535,23 @@ fn the_source_for_a_destination_is_told() {
     let (_, mut iface, _) = interface();
     let doc = |net, last| Ipv6Address::new(0x2001, 0xdb8, net, 0, 0, 0, 0, last);
     assert_eq!(iface.get_source_address_ipv6(&doc(1, 1)), Ipv6Address::LOCALHOST);
-    iface
-        .update_ip_addrs(|list| {
-            for text in ["10.0.0.1/8", "2001:db8:1::2/64", "2001:db8:3::2/64"] {
-                list.push(text.parse().unwrap()).unwrap();
-            }
-        })
-        .unwrap();
+    iface.update_ip_addrs(|list| {
+        for text in ["10.0.0.1/8", "2001:db8:1::2/64", "2001:db8:3::2/64"] {
+            list.push(text.parse().unwrap()).unwrap();
+        }
+    });
     let (near, far) = (Ipv4Address::new(10, 1, 2, 3), Ipv4Address::new(8, 8, 8, 8));
     assert_eq!(iface.get_source_address_ipv4(&near), Some(Ipv4Address::new(10, 0, 0, 1)));
     assert_eq!(iface.get_source_address_ipv4(&far), Some(SELF));
     assert_eq!(iface.get_source_address_ipv6(&doc(1, 1)), doc(1, 2));
     assert_eq!(iface.get_source_address(&far.into()), Some(SELF.into()));
     assert_eq!(iface.get_source_address(&doc(1, 1).into()), Some(doc(1, 2).into()));
-    iface.update_ip_addrs(|list| list.clear()).unwrap();
+    iface.update_ip_addrs(|list| list.clear());
     assert_eq!((iface.get_source_address(&far.into()), iface.get_source_address_ipv4(&near)), (None, None));
 }
 
-/// smoltcp: `neighbor`, `test_fill` and `test_flush`: an entry lasts a minute, and new addresses flush, though they are
-/// the old ones. `docs/C.md`, Counters.
+/// smoltcp: `neighbor`, `test_fill` and `test_flush`: an entry lasts a minute, behind a guard for twenty seconds at first, and
+/// new addresses flush, though they are the old ones. `docs/C.md`, Counters, A guard.
 #[test]
 fn neighbors_and_counters_are_read() {
     let (mut device, mut iface, mut sockets) = interface();
@@ -550,10 +559,10 @@ fn neighbors_and_counters_are_read() {
     iface.poll(millis(5), &mut device, &mut sockets);
     let known = iface.neighbors();
     assert_eq!((known.len(), known[0].protocol_addr, known[0].hardware_addr.0), (1, PEER.into(), PEER_LINK));
-    assert_eq!(known[0].expires_at, millis(60_005));
+    assert_eq!(known[0].expires_at, millis(20_005));
     let counters = iface.counters();
     assert_eq!((counters.frames_in, counters.frames_out, counters.given_up, counters.no_memory), (1, 1, 0, 0));
-    assert_eq!(iface.update_ip_addrs(|_| ()), Ok(()));
+    assert_eq!(iface.try_update_ip_addrs(|_| ()), Ok(()));
     assert!(iface.neighbors().is_empty());
 }
 
@@ -658,9 +667,9 @@ fn an_interface_begins_at_the_instant_that_is_given() {
     let mut device = MemoryDevice::new(Medium::Ethernet, 1514);
     let mut config = Config::new(EthernetAddress(OWN).into());
     config.slaac = true;
-    let mut iface = Interface::new(config, &mut device, now).unwrap();
-    iface.update_ip_addrs(|list| list.push("fe80::1/64".parse().unwrap()).unwrap()).unwrap();
-    let mut sockets = SocketSet::new(&iface);
+    let mut iface = Interface::new(config, &mut device, now);
+    iface.update_ip_addrs(|list| list.push("fe80::1/64".parse().unwrap()).unwrap());
+    let mut sockets = SocketSet::of(&iface);
     assert_eq!(iface.poll_delay(now, &sockets), Some(Duration::ZERO));
     assert_eq!(iface.poll(now, &mut device, &mut sockets), PollResult::None);
     assert!(device.sent.iter().any(|frame| common::seen(frame) == common::Seen::SolicitsRouters));
@@ -671,10 +680,10 @@ fn an_interface_begins_at_the_instant_that_is_given() {
 fn what_is_set_later_is_read_back() {
     let (mut device, mut iface, mut sockets) = interface();
     let (own, peer) = (HardwareAddress::Ethernet(EthernetAddress(OWN)), EthernetAddress(PEER_LINK).into());
-    assert_eq!(iface.set_hardware_addr(EthernetAddress::BROADCAST.into()), Err(Error::NotUnicast));
-    assert_eq!(iface.set_hardware_addr(HardwareAddress::Ip), Err(Error::BadArgument));
+    assert_eq!(iface.try_set_hardware_addr(EthernetAddress::BROADCAST.into()), Err(Error::NotUnicast));
+    assert_eq!(iface.try_set_hardware_addr(HardwareAddress::Ip), Err(Error::BadArgument));
     assert_eq!(iface.hardware_addr(), own);
-    assert_eq!(iface.set_hardware_addr(peer), Ok(()));
+    assert_eq!(iface.try_set_hardware_addr(peer), Ok(()));
     assert_eq!(iface.hardware_addr(), peer);
     assert_eq!(iface.reassembly_timeout(), Duration::from_secs(10));
     assert_eq!(iface.set_reassembly_timeout(Duration::from_secs(60)), Ok(()));
@@ -691,8 +700,11 @@ fn what_is_set_later_is_read_back() {
     assert_eq!(iface.slaac_updated_at(), Instant::ZERO);
 
     let mut device = Loopback::new(Medium::Ip);
-    let mut iface = Interface::new(Config::new(HardwareAddress::Ip), &mut device, Instant::ZERO).unwrap();
-    assert_eq!((iface.hardware_addr(), iface.set_hardware_addr(own)), (HardwareAddress::Ip, Err(Error::BadArgument)));
+    let mut iface = Interface::new(Config::new(HardwareAddress::Ip), &mut device, Instant::ZERO);
+    assert_eq!(
+        (iface.hardware_addr(), iface.try_set_hardware_addr(own)),
+        (HardwareAddress::Ip, Err(Error::BadArgument))
+    );
 }
 
 /// `docs/C.md`, A neighbour that doesn't answer.
@@ -722,9 +734,9 @@ fn the_patience_is_the_one_that_is_set() {
         let mut device = MemoryDevice::new(Medium::Ethernet, 1514);
         let mut config = Config::new(EthernetAddress(OWN).into());
         config.patience = patience;
-        let mut iface = Interface::new(config, &mut device, Instant::ZERO).unwrap();
-        iface.update_ip_addrs(|list| list.push(IpCidr::new(SELF.into(), 24)).unwrap()).unwrap();
-        let mut sockets = SocketSet::new(&iface);
+        let mut iface = Interface::new(config, &mut device, Instant::ZERO);
+        iface.update_ip_addrs(|list| list.push(IpCidr::new(SELF.into(), 24)).unwrap());
+        let mut sockets = SocketSet::of(&iface);
         let handle = sockets.add(udp::Socket::new(buffer(), buffer()));
         let socket = sockets.get_mut::<udp::Socket>(handle);
         socket.bind(7).unwrap();
@@ -786,9 +798,9 @@ fn what_is_looked_at_keeps_its_place() {
 #[test]
 fn segments_go_from_socket_to_socket() {
     let mut device = Loopback::new(Medium::Ip);
-    let mut iface = Interface::new(Config::new(HardwareAddress::Ip), &mut device, Instant::ZERO).unwrap();
-    iface.update_ip_addrs(|list| list.push(IpCidr::new(SELF.into(), 24)).unwrap()).unwrap();
-    let mut sockets = SocketSet::new(&iface);
+    let mut iface = Interface::new(Config::new(HardwareAddress::Ip), &mut device, Instant::ZERO);
+    iface.update_ip_addrs(|list| list.push(IpCidr::new(SELF.into(), 24)).unwrap());
+    let mut sockets = SocketSet::of(&iface);
     let ends = [IpEndpoint::new(SELF.into(), 80), IpEndpoint::new(SELF.into(), 1024)];
     let mut socket = segment::Socket::new(buffer(), buffer());
     assert_eq!(socket.bind(0, None), Err(segment::BindError::Unaddressable));
@@ -850,7 +862,7 @@ fn interface_and_sockets_may_be_in_different_threads() {
     let adds = std::thread::spawn(move || {
         for n in 0..2_000 {
             let cidr = IpCidr::new(IpAddress::v4(10, 0, (n / 250) as u8, (n % 250 + 1) as u8), 8);
-            iface.update_ip_addrs(|list| list.truncate_to_one_and_push(cidr)).unwrap();
+            iface.update_ip_addrs(|list| list.truncate_to_one_and_push(cidr));
             assert_eq!(iface.ip_addrs()[1], cidr);
         }
     });
@@ -882,14 +894,12 @@ fn lists_have_the_room_of_the_configuration() {
         let mut device = Loopback::new(Medium::Ip);
         let mut config = Config::new(HardwareAddress::Ip);
         (config.addresses, config.routes) = asked;
-        let mut iface = Interface::new(config, &mut device, Instant::ZERO).unwrap();
+        let mut iface = Interface::new(config, &mut device, Instant::ZERO);
         let cidr = |n: usize| IpCidr::new(IpAddress::v4(10, 0, n as u8, 1), 24);
-        iface
-            .update_ip_addrs(|list| {
-                (0..addresses).for_each(|n| list.push(cidr(n)).unwrap());
-                assert_eq!(list.push(cidr(99)), Err(cidr(99)));
-            })
-            .unwrap();
+        iface.update_ip_addrs(|list| {
+            (0..addresses).for_each(|n| list.push(cidr(n)).unwrap());
+            assert_eq!(list.push(cidr(99)), Err(cidr(99)));
+        });
         assert_eq!(iface.ip_addrs().len(), addresses);
         let route = |n: usize| Route { cidr: cidr(n), ..Route::new_ipv4_gateway(PEER) };
         iface.routes_mut().update(|list| {
@@ -905,9 +915,9 @@ fn lists_have_the_room_of_the_configuration() {
 #[test]
 fn a_medium_without_hardware_addresses_loops_back() {
     let mut device = Loopback::new(Medium::Ip);
-    let mut iface = Interface::new(Config::new(HardwareAddress::Ip), &mut device, Instant::ZERO).unwrap();
-    iface.update_ip_addrs(|list| list.push(IpCidr::new(SELF.into(), 24)).unwrap()).unwrap();
-    let mut sockets = SocketSet::new(&iface);
+    let mut iface = Interface::new(Config::new(HardwareAddress::Ip), &mut device, Instant::ZERO);
+    iface.update_ip_addrs(|list| list.push(IpCidr::new(SELF.into(), 24)).unwrap());
+    let mut sockets = SocketSet::of(&iface);
     let handle = sockets.add(udp::Socket::new(buffer(), buffer()));
     let socket = sockets.get_mut::<udp::Socket>(handle);
     socket.bind(7).unwrap();

@@ -7,7 +7,7 @@ use common::{OWN, arp};
 use fumitorygate::ChecksumCapabilities;
 use fumitorygate::iface::{Config, Interface, SocketSet};
 use fumitorygate::phy::{Medium, MemoryDevice};
-use fumitorygate::socket::{Lent, SendError, icmp, raw, udp};
+use fumitorygate::socket::{SendError, icmp, raw, udp};
 use fumitorygate::time::Instant;
 use fumitorygate::wire::{
     EthernetAddress, HardwareAddress, Icmpv4Packet, Icmpv4Repr, IpAddress, IpEndpoint, IpProtocol, IpVersion,
@@ -22,19 +22,17 @@ fn interface(medium: Medium, mtu: usize) -> (MemoryDevice, Interface, SocketSet<
     let mut device = MemoryDevice::new(medium, mtu);
     let own = match medium {
         Medium::Ethernet => EthernetAddress(OWN).into(),
-        Medium::Ip => HardwareAddress::Ip,
+        _ => HardwareAddress::Ip,
     };
-    let mut iface = Interface::new(Config::new(own), &mut device, Instant::ZERO).unwrap();
-    iface
-        .update_ip_addrs(|list| {
-            list.push("192.168.69.1/24".parse().unwrap()).unwrap();
-            list.push("fe80::1/64".parse().unwrap()).unwrap();
-        })
-        .unwrap();
+    let mut iface = Interface::new(Config::new(own), &mut device, Instant::ZERO);
+    iface.update_ip_addrs(|list| {
+        list.push("192.168.69.1/24".parse().unwrap()).unwrap();
+        list.push("fe80::1/64".parse().unwrap()).unwrap();
+    });
     if medium == Medium::Ethernet {
         device.incoming.push_back(arp(1, PEER_LINK, PEER, [0; 6], SELF));
     }
-    let mut sockets = SocketSet::new(&iface);
+    let mut sockets = SocketSet::of(&iface);
     iface.poll(Instant::ZERO, &mut device, &mut sockets);
     device.sent.clear();
     (device, iface, sockets)
@@ -54,7 +52,7 @@ fn outcome(
 ) -> (Result<(), SendError>, usize) {
     let (_, _, mut sockets) = interface(link.0, link.1);
     let (rx, tx, data) = (buffer(1, 0), buffer(2, 5000), vec![7; size]);
-    let write = |mut lent: Lent<'_>| lent.copy_from_slice(&data);
+    let write = |lent: &mut [u8]| lent.copy_from_slice(&data);
     match kind {
         "UDP" => {
             let handle = sockets.add(udp::Socket::new(rx, tx));
@@ -111,13 +109,15 @@ fn nothing_is_lent_where_nothing_can_be_sent() {
     let mut socket = udp::Socket::new(buffer(1, 100), buffer(2, 100));
     assert_eq!(socket.send(1, end).err(), Some(SendError::Unaddressable));
     socket.bind(7).unwrap();
-    assert_eq!(socket.send(1, end).err(), Some(SendError::BufferFull));
+    assert_eq!(socket.send(101, end).err(), Some(SendError::BufferFull));
+    assert_eq!(socket.send(1, (PEER, 0)).err(), Some(SendError::Unaddressable));
+    let _ = socket.send(60, end).unwrap();
+    assert_eq!(socket.send(41, end).err(), Some(SendError::BufferFull));
     let handle = sockets.add(socket);
     let socket = sockets.get_mut::<udp::Socket>(handle);
     assert_eq!(socket.send(101, end).err(), Some(SendError::BufferFull));
-    drop(socket.send(60, end).unwrap());
     assert_eq!(socket.send(41, end).err(), Some(SendError::BufferFull));
-    drop(socket.send(0, end).unwrap());
+    let _ = socket.send(0, end).unwrap();
     assert_eq!(socket.send(0, end).err(), Some(SendError::BufferFull));
     assert_eq!(socket.send_queue(), 60);
 }
@@ -134,10 +134,8 @@ fn what_is_lent_is_sent() {
     let lent = socket.send(repr.buffer_len(), PEER.into()).unwrap();
     let mut packet = Icmpv4Packet::new_unchecked(lent);
     repr.emit(&mut packet, &ChecksumCapabilities::ignored());
-    drop(packet);
-    let mut lent = sockets.get_mut::<icmp::Socket>(handle).send(12, PEER.into()).unwrap();
+    let lent = sockets.get_mut::<icmp::Socket>(handle).send(12, PEER.into()).unwrap();
     lent[..2].copy_from_slice(&[8, 0]);
-    drop(lent);
     iface.poll(Instant::ZERO, &mut device, &mut sockets);
     iface.poll(Instant::ZERO, &mut device, &mut sockets);
     let caps = ChecksumCapabilities::default();

@@ -177,9 +177,9 @@ fn an_interface_is_over_devices_over_devices() {
     let mut file = Vec::new();
     let device = PcapWriter::new(FaultInjector::new(device, 1), &mut file, PcapMode::Both);
     let mut device = Tracer::new(device, |_, packet| assert!(packet.to_string().contains("ARP type=Ethernet+IPv4")));
-    let mut iface = Interface::new(Config::new(own.into()), &mut device, Instant::ZERO).unwrap();
-    iface.update_ip_addrs(|list| list.push("10.0.0.1/8".parse().unwrap()).unwrap()).unwrap();
-    let mut sockets = SocketSet::new(&iface);
+    let mut iface = Interface::new(Config::new(own.into()), &mut device, Instant::ZERO);
+    iface.update_ip_addrs(|list| list.push("10.0.0.1/8".parse().unwrap()).unwrap());
+    let mut sockets = SocketSet::of(&iface);
     iface.poll(Instant::ZERO, &mut device, &mut sockets);
     let sent = device.into_inner().into_inner().into_inner().sent;
     assert_eq!(sent.len(), 1);

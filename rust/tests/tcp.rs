@@ -39,9 +39,9 @@ fn socket() -> tcp::Socket<'static> {
 impl Node {
     fn new(address: Ipv4Address, config: Config) -> Node {
         let mut device = MemoryDevice::new(Medium::Ip, 1500);
-        let mut iface = Interface::new(config, &mut device, Instant::ZERO).unwrap();
-        iface.update_ip_addrs(|list| list.push(IpCidr::new(address.into(), 24)).unwrap()).unwrap();
-        let sockets = SocketSet::new(&iface);
+        let mut iface = Interface::new(config, &mut device, Instant::ZERO);
+        iface.update_ip_addrs(|list| list.push(IpCidr::new(address.into(), 24)).unwrap());
+        let sockets = SocketSet::of(&iface);
         Node { device, iface, sockets }
     }
 
@@ -263,7 +263,7 @@ fn sockets_connect_over_ipv6() {
     let mut world = World::new();
     let [own, peer] = [1, 2].map(|last| IpAddress::v6(0xfd00, 0, 0, 0, 0, 0, 0, last));
     for (node, address) in [(&mut world.server, own), (&mut world.client, peer)] {
-        node.iface.update_ip_addrs(|list| list.push(IpCidr::new(address, 64)).unwrap()).unwrap();
+        node.iface.update_ip_addrs(|list| list.push(IpCidr::new(address, 64)).unwrap());
     }
     let (server, client) = (world.server.sockets.add(socket()), world.client.sockets.add(socket()));
     world.server.get(server).listen((own, 7)).unwrap();
@@ -558,9 +558,9 @@ fn an_absent_neighbour_ends_no_poll() {
     let mut device = MemoryDevice::new(Medium::Ethernet, 1514);
     let mut own = config();
     own.hardware_addr = EthernetAddress([2, 0, 0, 0, 0, 1]).into();
-    let mut iface = Interface::new(own, &mut device, Instant::ZERO).unwrap();
-    iface.update_ip_addrs(|list| list.push(IpCidr::new(CLIENT.into(), 24)).unwrap()).unwrap();
-    let mut sockets = SocketSet::new(&iface);
+    let mut iface = Interface::new(own, &mut device, Instant::ZERO);
+    iface.update_ip_addrs(|list| list.push(IpCidr::new(CLIENT.into(), 24)).unwrap());
+    let mut sockets = SocketSet::of(&iface);
     let handles = [49152, 49153].map(|port| {
         let handle = sockets.add(socket());
         let socket = sockets.get_mut::<tcp::Socket>(handle);
@@ -644,7 +644,7 @@ fn rest() {
 #[test]
 fn another_thread_serves() {
     let mut world = World::new();
-    let mut sockets: SocketSet<'static> = SocketSet::new(&world.server.iface);
+    let mut sockets: SocketSet<'static> = SocketSet::of(&world.server.iface);
     let client = world.client.sockets.add(socket());
     let server = std::thread::spawn(move || {
         let handle = sockets.add(socket());

@@ -56,9 +56,9 @@ impl World {
 /// An interface that knows its peer, with a socket whose queues hold one packet.
 fn world() -> (World, fumitorygate::iface::SocketHandle) {
     let mut device = MemoryDevice::new(Medium::Ethernet, 1514);
-    let mut iface = Interface::new(Config::new(EthernetAddress(OWN).into()), &mut device, Instant::ZERO).unwrap();
-    iface.update_ip_addrs(|list| list.push("192.168.69.1/24".parse().unwrap()).unwrap()).unwrap();
-    let mut sockets = SocketSet::new(&iface);
+    let mut iface = Interface::new(Config::new(EthernetAddress(OWN).into()), &mut device, Instant::ZERO);
+    iface.update_ip_addrs(|list| list.push("192.168.69.1/24".parse().unwrap()).unwrap());
+    let mut sockets = SocketSet::of(&iface);
     let buffer = udp::PacketBuffer::with_capacity(1, 512);
     let mut socket = udp::Socket::new(buffer, buffer);
     socket.bind(7).unwrap();

@@ -27,10 +27,10 @@ impl Node {
     fn new(last: u8) -> Node {
         let mut device = MemoryDevice::new(Medium::Ethernet, 1514);
         let config = Config::new(EthernetAddress([2, 0, 0, 0, 0, last]).into());
-        let mut iface = Interface::new(config, &mut device, Instant::ZERO).unwrap();
+        let mut iface = Interface::new(config, &mut device, Instant::ZERO);
         let cidr = IpCidr::new(IpAddress::v4(192, 168, 69, last), 24);
-        iface.update_ip_addrs(|ip_addrs| ip_addrs.push(cidr).unwrap()).unwrap();
-        let mut sockets = SocketSet::new(&iface);
+        iface.update_ip_addrs(|ip_addrs| ip_addrs.push(cidr).unwrap());
+        let mut sockets = SocketSet::of(&iface);
         let buffer = udp::PacketBuffer::with_capacity(4, 4096);
         let mut socket = udp::Socket::new(buffer, buffer);
         socket.bind(7777).unwrap();

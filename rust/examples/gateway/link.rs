@@ -42,17 +42,15 @@ impl Link {
         // A second for each socket that may wait.
         config.patience = Duration::from_secs(PROBES as u64 + 2);
         let mut shape = MemoryDevice::new(Medium::Ethernet, 14 + mtu);
-        let mut iface = Interface::new(config, &mut shape, Instant::now()).unwrap();
+        let mut iface = Interface::new(config, &mut shape, Instant::now());
         let prefix = Ipv6Cidr::new("fe80::".parse().unwrap(), 64);
         let link_local = Ipv6Cidr::from_link_prefix(&prefix, HardwareAddress::Ethernet(hardware)).unwrap();
-        iface
-            .update_ip_addrs(|list| {
-                own.split(',').for_each(|word| list.push(word.parse().expect("OWN/PREFIX")).unwrap());
-                list.push(IpCidr::Ipv6(link_local)).unwrap();
-            })
-            .unwrap();
+        iface.update_ip_addrs(|list| {
+            own.split(',').for_each(|word| list.push(word.parse().expect("OWN/PREFIX")).unwrap());
+            list.push(IpCidr::Ipv6(link_local)).unwrap();
+        });
         iface.set_any_ip(true);
-        let mut sockets = SocketSet::new(&iface);
+        let mut sockets = SocketSet::of(&iface);
         let errors =
             [(IpVersion::Ipv4, IpProtocol::Icmp), (IpVersion::Ipv6, IpProtocol::Icmpv6)].map(|(version, kind)| {
                 let [rx, tx] =

@@ -14,9 +14,9 @@ pub struct DnsQuery(usize);
 pub enum DnsFailure {
     /// There is no such name.
     NoSuchName,
-    /// The server failed, or refused.
+    /// All servers failed, or refused.
     ServerFailure,
-    /// The answer didn't fit in one message.
+    /// The answer didn't fit in one message, and what did has no address.
     Truncated,
     /// The name has no address of the type that was asked for.
     NoAddress,
@@ -33,6 +33,8 @@ pub enum DnsResult {
     Pending,
     /// The first addresses of the name, from the first place on.
     Addresses([Option<IpAddress>; sys::IFACE_DNS_ADDRESSES]),
+    /// The same, of an answer that didn't fit in one message: the name may have others.
+    TruncatedAddresses([Option<IpAddress>; sys::IFACE_DNS_ADDRESSES]),
     /// There are none.
     Failed(DnsFailure),
 }
@@ -43,11 +45,11 @@ impl DnsResult {
         sys::iface_dns_answer { state: 0, addresses: [NO_ADDRESS; sys::IFACE_DNS_ADDRESSES] };
 
     fn from_c(result: &sys::iface_dns_answer) -> DnsResult {
+        let list = || result.addresses.each_ref().map(|address| (address.version != 0).then(|| from_c(address)));
         match result.state {
             sys::IFACE_DNS_PENDING => DnsResult::Pending,
-            sys::IFACE_DNS_FOUND => DnsResult::Addresses(
-                result.addresses.each_ref().map(|address| (address.version != 0).then(|| from_c(address))),
-            ),
+            sys::IFACE_DNS_FOUND => DnsResult::Addresses(list()),
+            sys::IFACE_DNS_FOUND_TRUNCATED => DnsResult::TruncatedAddresses(list()),
             sys::IFACE_DNS_NO_SUCH_NAME => DnsResult::Failed(DnsFailure::NoSuchName),
             sys::IFACE_DNS_TRUNCATED => DnsResult::Failed(DnsFailure::Truncated),
             sys::IFACE_DNS_NO_ADDRESS => DnsResult::Failed(DnsFailure::NoAddress),
@@ -78,7 +80,7 @@ impl DnsResult {
 /// }
 /// match names.result(query)? {
 ///     DnsResult::Pending => {}
-///     DnsResult::Addresses(addresses) => println!("{addresses:?}"),
+///     DnsResult::Addresses(list) | DnsResult::TruncatedAddresses(list) => println!("{list:?}"),
 ///     DnsResult::Failed(why) => println!("{why:?}"),
 /// }
 /// let wake = names.poll_at().into_iter().chain(host.poll_at(now)).min();

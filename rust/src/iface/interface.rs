@@ -1,11 +1,11 @@
 //! Interfaces.
-use super::{Addresses, RouteList, Routes, SocketSet};
+use super::{Addresses, Context, RouteList, Routes, SocketSet};
 use crate::guard::{Conflict, Drops, Guard};
 use crate::host::{Counters, Error, FRAME_ROOM, Frame, Host, Neighbor, Settings};
 use crate::phy::{Device, DeviceCapabilities, Medium, RxToken, TxToken};
 use crate::shared::{Shared, TCP_SOCKETS, TcpConfig};
 use crate::time::{Duration, Instant};
-use crate::wire::{ETHERNET_HEADER_LEN, EthernetAddress, HardwareAddress, IpAddress, IpCidr, Ipv4Address, Ipv6Address};
+use crate::wire::{EthernetAddress, HardwareAddress, IpAddress, Ipv4Address, Ipv6Address};
 use alloc::boxed::Box;
 use alloc::vec::Vec;
 use core::fmt;
@@ -54,7 +54,7 @@ pub struct Config {
 }
 
 impl Config {
-    /// What most programs want, but for the seed, which is 0: 8 sockets, room for 64 neighbours, 8 addresses, 8 routes and
+    /// What most programs want, but for the seed, which is 0: 8 sockets, room for 128 neighbours, 8 addresses, 8 routes and
     /// 16 groups, 4 prefixes, 4 routers and 8 packets in fragments, no addresses from routers, a patience of three
     /// seconds, ten seconds for fragments, and a guard. It is what `iface_config_init` writes.
     pub fn new(hardware_addr: HardwareAddress) -> Config {
@@ -82,7 +82,7 @@ impl Config {
         let mut settings = Settings::new(self.hardware_addr);
         settings.random_seed = self.random_seed;
         // Never more than FRAME_ROOM, which has 32 bits.
-        settings.frame_len = capabilities.max_transmission_unit.min(FRAME_ROOM) as u32;
+        settings.frame_len = capabilities.max_transmission_unit as u32;
         settings.slaac = self.slaac;
         settings.sockets = self.sockets.saturating_add(TCP_SOCKETS);
         settings.neighbors = self.neighbors;
@@ -151,10 +151,6 @@ impl From<Error> for MulticastError {
     }
 }
 
-/// What [`tcp::Socket::connect`](crate::socket::tcp::Socket::connect) takes, to know the interface.
-#[derive(Debug)]
-pub struct Context(pub(crate) Shared);
-
 /// A network interface.
 ///
 /// It goes to another thread, with its sockets:
@@ -191,33 +187,45 @@ pub struct Interface {
     /// Whether a client of DHCP has an event, or one of DNS a result, that wasn't told by `sockets_changed`.
     is_news: bool,
     addr_room: usize,
-    route_room: usize,
+    routes: Routes,
 }
 
 impl Interface {
     /// An interface over a device, whose medium, length of frames and checksums it takes. It begins at `now`.
     ///
+    /// # Panics
+    /// If the hardware address isn't of the device's medium, or isn't unicast, as smoltcp's; and where else
+    /// [`try_new`](Interface::try_new) has an error.
+    pub fn new(config: Config, device: &mut (impl Device + ?Sized), now: Instant) -> Interface {
+        Interface::try_new(config, device, now).unwrap_or_else(|error| panic!("making an interface: {error}"))
+    }
+
+    /// An interface over a device, as [`new`](Interface::new) makes one. smoltcp has none such.
+    ///
     /// # Errors
     /// [`Error::BadArgument`] if the hardware address isn't of the device's medium; [`Error::NotUnicast`],
     /// [`Error::BadMtu`], [`Error::BadTimeout`], [`Error::NoMemory`], [`Error::OtherVersion`].
-    pub fn new(config: Config, device: &mut (impl Device + ?Sized), now: Instant) -> Result<Interface, Error> {
-        let capabilities = device.capabilities();
-        if (capabilities.medium == Medium::Ip) != (config.hardware_addr == HardwareAddress::Ip) {
-            return Err(Error::BadArgument);
+    pub fn try_new(config: Config, device: &mut (impl Device + ?Sized), now: Instant) -> Result<Interface, Error> {
+        let mut capabilities = device.capabilities();
+        capabilities.max_transmission_unit = capabilities.max_transmission_unit.min(FRAME_ROOM);
+        match (capabilities.medium, config.hardware_addr) {
+            (Medium::Ip, HardwareAddress::Ip) | (Medium::Ethernet, HardwareAddress::Ethernet(_)) => {}
+            _ => return Err(Error::BadArgument),
         }
         let settings = config.settings(&capabilities, now);
         let host = Host::new(&settings)?;
-        let header_len = if capabilities.medium == Medium::Ip { 0 } else { ETHERNET_HEADER_LEN };
-        let ip_mtu = settings.frame_len as usize - header_len;
-        let host = Shared::new(host, ip_mtu, &config, now);
+        let host = Shared::new(host, capabilities.ip_mtu(), &config, now);
         Ok(Interface {
             context: Context(host.clone()),
+            routes: Routes {
+                host: host.clone(),
+                room: if config.routes == 0 { 4 } else { config.routes.min(32) as usize },
+            },
             host,
             out: Box::new([0; FRAME_ROOM]),
             given_up: 0,
             is_news: false,
             addr_room: config.addresses.clamp(4, 16) as usize,
-            route_room: if config.routes == 0 { 4 } else { config.routes.min(32) as usize },
         })
     }
 
@@ -234,9 +242,17 @@ impl Interface {
     /// Sets its hardware address: frames are sent from it from now on, and those to it are taken. Addresses and groups
     /// stay.
     ///
+    /// # Panics
+    /// If it isn't unicast, or the device's medium has none, as smoltcp's.
+    pub fn set_hardware_addr(&mut self, addr: HardwareAddress) {
+        self.try_set_hardware_addr(addr).unwrap_or_else(|error| panic!("setting a hardware address: {error}"));
+    }
+
+    /// Sets its hardware address, as [`set_hardware_addr`](Interface::set_hardware_addr) does. smoltcp has none such.
+    ///
     /// # Errors
     /// [`Error::BadArgument`] if it isn't of the device's medium, or that has none; [`Error::NotUnicast`].
-    pub fn set_hardware_addr(&mut self, addr: HardwareAddress) -> Result<(), Error> {
+    pub fn try_set_hardware_addr(&mut self, addr: HardwareAddress) -> Result<(), Error> {
         let HardwareAddress::Ethernet(addr) = addr else { return Err(Error::BadArgument) };
         self.host.with(|host| host.set_hardware_address(addr)).map_err(|error| match error {
             Error::NotThere => Error::BadArgument,
@@ -251,18 +267,12 @@ impl Interface {
 
     /// Its first IPv4 address.
     pub fn ipv4_addr(&self) -> Option<Ipv4Address> {
-        self.ip_addrs().iter().find_map(|cidr| match cidr {
-            IpCidr::Ipv4(cidr) => Some(cidr.address()),
-            IpCidr::Ipv6(_) => None,
-        })
+        self.context.ipv4_addr()
     }
 
     /// Its first IPv6 address.
     pub fn ipv6_addr(&self) -> Option<Ipv6Address> {
-        self.ip_addrs().iter().find_map(|cidr| match cidr {
-            IpCidr::Ipv4(_) => None,
-            IpCidr::Ipv6(cidr) => Some(cidr.address()),
-        })
+        self.context.ipv6_addr()
     }
 
     /// Whether an address is one of its own.
@@ -273,9 +283,17 @@ impl Interface {
 
     /// Changes its addresses by `f`, all at once, and forgets all neighbours.
     ///
+    /// # Panics
+    /// If one of them is neither unicast nor unspecified, as smoltcp's.
+    pub fn update_ip_addrs<F: FnOnce(&mut Addresses)>(&mut self, f: F) {
+        self.try_update_ip_addrs(f).unwrap_or_else(|error| panic!("setting addresses: {error}"));
+    }
+
+    /// Changes its addresses by `f`, as [`update_ip_addrs`](Interface::update_ip_addrs) does. smoltcp has none such.
+    ///
     /// # Errors
     /// [`Error::NotUnicast`], if one of them is neither unicast nor unspecified. Then nothing has changed.
-    pub fn update_ip_addrs<F: FnOnce(&mut Addresses)>(&mut self, f: F) -> Result<(), Error> {
+    pub fn try_update_ip_addrs<F: FnOnce(&mut Addresses)>(&mut self, f: F) -> Result<(), Error> {
         let mut list = self.ip_addrs();
         f(&mut list);
         self.host.with(|host| host.set_addresses(&list))
@@ -285,7 +303,7 @@ impl Interface {
     /// first one in the destination's subnet, else the first one; for IPv6 it is chosen by RFC 6724. `None` if there is
     /// no IPv4 address for an IPv4 destination.
     pub fn get_source_address(&self, dst_addr: &IpAddress) -> Option<IpAddress> {
-        self.host.with(|host| host.source_for(*dst_addr))
+        self.context.get_source_address(dst_addr)
     }
 
     /// The own address that packets to an IPv4 destination are sent from: the first one in its subnet, else the first
@@ -360,26 +378,26 @@ impl Interface {
 
     /// Its routes, those from routers included, and those whose end has passed: a copy.
     pub fn routes(&self) -> RouteList {
-        self.host.with(|host| RouteList::of(host, self.route_room))
+        self.routes.list()
     }
 
     /// Its routes, to be changed.
-    pub fn routes_mut(&mut self) -> Routes<'_> {
-        Routes { host: &self.host, room: self.route_room }
+    pub fn routes_mut(&mut self) -> &mut Routes {
+        &mut self.routes
     }
 
     /// Takes the frames that a device has, sends what is to be sent, as long as the device gives permission, and tells
     /// whether sockets may have changed.
     ///
     /// # Panics
-    /// If the sockets are another interface's.
+    /// If the sockets are another interface's, or come to this one and can't be opened.
     pub fn poll(
         &mut self,
         timestamp: Instant,
         device: &mut (impl Device + ?Sized),
         sockets: &mut SocketSet<'_>,
     ) -> PollResult {
-        self.check(sockets);
+        sockets.come_to(&self.host);
         while self.take_frame(timestamp, device) {
             // What connections answer goes before the next frame comes: there is room for one packet to a new peer.
             if self.host.has_tcp() {
@@ -396,25 +414,24 @@ impl Interface {
     ///
     /// let mut device = MemoryDevice::new(Medium::Ip, 1500);
     /// let now = Instant::ZERO;
-    /// let mut iface = Interface::new(Config::new(HardwareAddress::Ip), &mut device, now)?;
-    /// let mut sockets = SocketSet::new(&iface);
+    /// let mut iface = Interface::new(Config::new(HardwareAddress::Ip), &mut device, now);
+    /// let mut sockets = SocketSet::new(vec![]);
     /// device.incoming.extend([vec![], vec![0x45]]);
     /// let mut next = || iface.poll_ingress_single(now, &mut device, &mut sockets);
     /// assert_eq!(next(), PollIngressSingleResult::PacketProcessed);
     /// assert_eq!(next(), PollIngressSingleResult::SocketStateChanged);
     /// assert_eq!(next(), PollIngressSingleResult::None);
-    /// # Ok::<(), fumitorygate::Error>(())
     /// ```
     ///
     /// # Panics
-    /// If the sockets are another interface's.
+    /// If the sockets are another interface's, or come to this one and can't be opened.
     pub fn poll_ingress_single(
         &mut self,
         timestamp: Instant,
         device: &mut (impl Device + ?Sized),
         sockets: &mut SocketSet<'_>,
     ) -> PollIngressSingleResult {
-        self.check(sockets);
+        sockets.come_to(&self.host);
         let is_taken = self.take_frame(timestamp, device);
         self.step(timestamp, sockets);
         sockets.wake();
@@ -431,19 +448,22 @@ impl Interface {
     /// hands a frame over for good.
     ///
     /// # Panics
-    /// If the sockets are another interface's.
+    /// If the sockets are another interface's, or come to this one and can't be opened.
     pub fn poll_egress(
         &mut self,
         timestamp: Instant,
         device: &mut (impl Device + ?Sized),
         sockets: &mut SocketSet<'_>,
     ) -> PollResult {
-        self.check(sockets);
+        sockets.come_to(&self.host);
         self.step(timestamp, sockets);
         self.send_frames(timestamp, device);
         sockets.wake();
         if self.sockets_changed() { PollResult::SocketStateChanged } else { PollResult::None }
     }
+
+    /// Does nothing: what smoltcp's does, the other polls do. It is there for programs that call it.
+    pub fn poll_maintenance(&mut self, _timestamp: Instant) {}
 
     fn send_frames(&mut self, timestamp: Instant, device: &mut (impl Device + ?Sized)) {
         while let Some(tx) = device.transmit(timestamp) {
@@ -478,10 +498,10 @@ impl Interface {
     /// what they answer to new peers there is little room.
     ///
     /// # Panics
-    /// If the sockets are another interface's.
+    /// If the sockets are another interface's, or come to this one and can't be opened.
     #[inline]
     pub fn receive_frame(&mut self, timestamp: Instant, frame: &[u8], sockets: &mut SocketSet<'_>) -> Option<&[u8]> {
-        self.check(sockets);
+        sockets.come_to(&self.host);
         let reply = self.host.receive(timestamp, frame, &mut self.out);
         self.step(timestamp, sockets);
         sockets.wake();
@@ -492,10 +512,10 @@ impl Interface {
     /// time. smoltcp has none such.
     ///
     /// # Panics
-    /// If the sockets are another interface's.
+    /// If the sockets are another interface's, or come to this one and can't be opened.
     #[inline]
     pub fn next_frame(&mut self, timestamp: Instant, sockets: &mut SocketSet<'_>) -> Option<&[u8]> {
-        self.check(sockets);
+        sockets.come_to(&self.host);
         self.step(timestamp, sockets);
         let next = self.host.next(timestamp, &mut self.out);
         sockets.wake();
@@ -509,7 +529,8 @@ impl Interface {
     /// If the sockets are another interface's.
     #[inline]
     pub fn poll_at(&mut self, timestamp: Instant, sockets: &SocketSet<'_>) -> Option<Instant> {
-        self.check(sockets);
+        let is_own = sockets.host.as_ref().is_none_or(|host| self.host.is(host));
+        assert!(is_own, "the sockets are another interface's");
         self.host.poll_at(timestamp).into_iter().chain(sockets.poll_at()).min()
     }
 
@@ -576,10 +597,5 @@ impl Interface {
     #[inline]
     fn step(&mut self, timestamp: Instant, sockets: &mut SocketSet<'_>) {
         self.is_news |= sockets.step(timestamp);
-    }
-
-    #[inline]
-    fn check(&self, sockets: &SocketSet<'_>) {
-        assert!(self.host.is(&sockets.host), "the sockets are another interface's");
     }
 }

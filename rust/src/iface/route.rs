@@ -19,19 +19,19 @@ impl core::error::Error for RouteTableFull {}
 
 /// The routes of an interface, to be changed.
 #[derive(Debug)]
-pub struct Routes<'a> {
-    pub(super) host: &'a Shared,
+pub struct Routes {
+    pub(super) host: Shared,
     pub(super) room: usize,
 }
 
-impl Routes<'_> {
+impl Routes {
     /// Changes the routes by `f`, which gets those from routers too. Of equal prefixes the last one wins.
     ///
     /// ```
     /// use fumitorygate::{iface::*, phy::*, time::Instant, wire::*};
     ///
     /// let mut device = Loopback::new(Medium::Ip);
-    /// let mut iface = Interface::new(Config::new(HardwareAddress::Ip), &mut device, Instant::ZERO)?;
+    /// let mut iface = Interface::new(Config::new(HardwareAddress::Ip), &mut device, Instant::ZERO);
     /// let route = Route {
     ///     cidr: "10.0.0.0/8".parse().unwrap(),
     ///     via_router: IpAddress::v4(192, 168, 69, 100),
@@ -42,7 +42,6 @@ impl Routes<'_> {
     /// iface.routes_mut().add_default_ipv4_route(Ipv4Address::new(192, 168, 69, 1)).unwrap();
     /// assert_eq!(iface.routes()[0], route);
     /// assert!(iface.routes()[1].is_ipv4_gateway());
-    /// # Ok::<(), fumitorygate::Error>(())
     /// ```
     pub fn update<F: FnOnce(&mut RouteList)>(&mut self, f: F) {
         let old = self.list();
@@ -116,7 +115,8 @@ impl Routes<'_> {
         self.host.with(|host| host.remove_route(cidr)).is_ok()
     }
 
-    fn list(&self) -> RouteList {
+    /// The routes: a copy.
+    pub(super) fn list(&self) -> RouteList {
         self.host.with(|host| RouteList::of(host, self.room))
     }
 }

@@ -3,6 +3,7 @@ use super::Interface;
 use crate::host::Error;
 use crate::shared::Shared;
 use crate::socket::{AnySocket, Socket};
+use crate::storage::ManagedSlice;
 use crate::time::Instant;
 use alloc::vec::Vec;
 use core::fmt;
@@ -35,24 +36,55 @@ impl fmt::Display for AddError<'_> {
 
 impl core::error::Error for AddError<'_> {}
 
-/// The sockets of an interface.
+/// A place for one socket of a set.
+#[derive(Debug, Default)]
+pub struct SocketStorage<'a> {
+    socket: Option<Socket<'a>>,
+}
+
+impl SocketStorage<'_> {
+    /// A place without a socket.
+    pub const EMPTY: Self = SocketStorage { socket: None };
+}
+
+/// Sockets of an interface.
+///
+/// They come to the interface with the first call that gets both: then those that are bound are opened, with what was sent
+/// before. A set that is made by [`of`](SocketSet::of) is at its interface from the start.
+///
+/// ```
+/// use fumitorygate::iface::{SocketSet, SocketStorage};
+///
+/// let mut storage: [SocketStorage; 2] = Default::default();
+/// let fixed = SocketSet::new(&mut storage[..]);
+/// let growing = SocketSet::new(vec![]);
+/// assert_eq!(fixed.iter().count() + growing.iter().count(), 0);
+/// ```
 #[derive(Debug)]
 pub struct SocketSet<'a> {
-    pub(super) host: Shared,
-    sockets: Vec<Option<Socket<'a>>>,
+    /// The host of its interface, once it came to one.
+    pub(super) host: Option<Shared>,
+    sockets: ManagedSlice<'a, SocketStorage<'a>>,
 }
 
 impl<'a> SocketSet<'a> {
-    /// A set without sockets, for an interface.
-    pub fn new(interface: &Interface) -> SocketSet<'a> {
-        SocketSet { host: interface.host.clone(), sockets: Vec::new() }
+    /// A set of the sockets in the storage: a vector, which grows, or a slice, which doesn't.
+    pub fn new<S: Into<ManagedSlice<'a, SocketStorage<'a>>>>(sockets: S) -> SocketSet<'a> {
+        SocketSet { host: None, sockets: sockets.into() }
+    }
+
+    /// A set without sockets, which grows, of an interface: a socket is opened as soon as it is in it and bound, so that
+    /// [`try_add`](SocketSet::try_add) and a socket's `bind` can say that it isn't. smoltcp has none such.
+    pub fn of(interface: &Interface) -> SocketSet<'a> {
+        SocketSet { host: Some(interface.host.clone()), sockets: Vec::new().into() }
     }
 
     /// Adds a socket, which is opened if it is bound, and returns the handle that names it.
     ///
     /// # Panics
-    /// If it is bound and [`Config::sockets`](super::Config::sockets) are open, or there is no memory for its queues:
-    /// as smoltcp's where a set of fixed size is full. [`try_add`](SocketSet::try_add) returns it then.
+    /// If the storage is a slice and each place of it has a socket, as smoltcp's. At an interface also if it is bound and
+    /// [`Config::sockets`](super::Config::sockets) are open, or there is no memory for its queues.
+    /// [`try_add`](SocketSet::try_add) returns it then.
     pub fn add<T: AnySocket<'a>>(&mut self, socket: T) -> SocketHandle {
         match self.try_add(socket) {
             Ok(handle) => handle,
@@ -63,19 +95,50 @@ impl<'a> SocketSet<'a> {
     /// Adds a socket, which is opened if it is bound, and returns the handle that names it.
     ///
     /// # Errors
-    /// The socket, if it can't be opened.
+    /// The socket, if there is no place for it, or it can't be opened.
     #[expect(clippy::result_large_err, reason = "the socket is returned")]
     pub fn try_add<T: AnySocket<'a>>(&mut self, socket: T) -> Result<SocketHandle, AddError<'a>> {
         let mut socket = socket.upcast();
-        if let Err(error) = socket.attach(&self.host) {
+        let Some(index) = self.place() else { return Err(AddError { error: Error::TableFull, socket }) };
+        if let Some(Err(error)) = self.host.as_ref().map(|host| socket.attach(host)) {
             return Err(AddError { error, socket });
         }
-        let index = self.sockets.iter().position(Option::is_none).unwrap_or_else(|| {
-            self.sockets.push(None);
-            self.sockets.len() - 1
-        });
-        self.sockets[index] = Some(socket);
+        self.sockets[index].socket = Some(socket);
         Ok(SocketHandle(index))
+    }
+
+    /// A place without a socket, if there is one or the storage grows.
+    fn place(&mut self) -> Option<usize> {
+        let free = self.sockets.iter().position(|place| place.socket.is_none());
+        match (free, &mut self.sockets) {
+            (None, ManagedSlice::Borrowed(_)) => None,
+            (None, ManagedSlice::Owned(places)) => {
+                places.push(SocketStorage::EMPTY);
+                Some(places.len() - 1)
+            }
+            (free, _) => free,
+        }
+    }
+
+    /// Comes to the host of an interface, if it isn't there yet.
+    ///
+    /// # Panics
+    /// If it is at another one, or a socket can't be opened.
+    #[inline]
+    pub(super) fn come_to(&mut self, host: &Shared) {
+        match &self.host {
+            Some(own) => assert!(own.is(host), "the sockets are another interface's"),
+            None => self.open_at(host),
+        }
+    }
+
+    fn open_at(&mut self, host: &Shared) {
+        self.host = Some(host.clone());
+        for (handle, socket) in self.iter_mut() {
+            if let Err(error) = socket.attach(host) {
+                panic!("opening socket {handle}: {error}");
+            }
+        }
     }
 
     /// A socket.
@@ -83,7 +146,7 @@ impl<'a> SocketSet<'a> {
     /// # Panics
     /// If the handle names no socket of this kind, as smoltcp's.
     pub fn get<T: AnySocket<'a>>(&self, handle: SocketHandle) -> &T {
-        let socket = self.sockets.get(handle.0).and_then(Option::as_ref);
+        let socket = self.sockets.get(handle.0).and_then(|place| place.socket.as_ref());
         T::downcast(socket.expect("handle does not refer to a valid socket"))
             .expect("handle refers to a socket of a wrong type")
     }
@@ -93,7 +156,7 @@ impl<'a> SocketSet<'a> {
     /// # Panics
     /// If the handle names no socket of this kind, as smoltcp's.
     pub fn get_mut<T: AnySocket<'a>>(&mut self, handle: SocketHandle) -> &mut T {
-        let socket = self.sockets.get_mut(handle.0).and_then(Option::as_mut);
+        let socket = self.sockets.get_mut(handle.0).and_then(|place| place.socket.as_mut());
         T::downcast_mut(socket.expect("handle does not refer to a valid socket"))
             .expect("handle refers to a socket of a wrong type")
     }
@@ -103,7 +166,7 @@ impl<'a> SocketSet<'a> {
     /// # Panics
     /// If the handle names none, as smoltcp's.
     pub fn remove(&mut self, handle: SocketHandle) -> Socket<'a> {
-        let taken = self.sockets.get_mut(handle.0).and_then(Option::take);
+        let taken = self.sockets.get_mut(handle.0).and_then(|place| place.socket.take());
         let mut socket = taken.expect("handle does not refer to a valid socket");
         socket.detach();
         socket
@@ -113,28 +176,34 @@ impl<'a> SocketSet<'a> {
     #[inline]
     pub(super) fn wake(&mut self) {
         #[cfg(feature = "async")]
-        self.sockets.iter_mut().flatten().for_each(Socket::wake);
+        self.iter_mut().for_each(|(_, socket)| socket.wake());
     }
 
-    /// Lets the clients of DHCP and DNS do what is due, and tells whether one has an event, or a result.
+    /// Queues the packets that wait in sockets, lets the clients of DHCP and DNS do what is due, and tells whether one has an
+    /// event, or a result.
     #[inline]
     pub(super) fn step(&mut self, timestamp: Instant) -> bool {
-        self.sockets.iter_mut().flatten().fold(false, |is_news, socket| socket.step(timestamp) | is_news)
+        self.iter_mut().fold(false, |is_news, (_, socket)| socket.step(timestamp) | is_news)
     }
 
-    /// When a client of DHCP or DNS does something next, if no frame comes.
+    /// When it is to be polled, if no frame comes: by its sockets; at once if they have yet to be opened.
     #[inline]
     pub(super) fn poll_at(&self) -> Option<Instant> {
-        self.sockets.iter().flatten().filter_map(Socket::poll_at).min()
+        match self.host {
+            Some(_) => self.iter().filter_map(|(_, socket)| socket.poll_at()).min(),
+            None => self.iter().next().map(|_| Instant::ZERO),
+        }
     }
 
     /// The sockets with their handles.
     pub fn iter(&self) -> impl Iterator<Item = (SocketHandle, &Socket<'a>)> {
-        self.sockets.iter().enumerate().filter_map(|(index, socket)| Some((SocketHandle(index), socket.as_ref()?)))
+        let places = self.sockets.iter().enumerate();
+        places.filter_map(|(index, place)| Some((SocketHandle(index), place.socket.as_ref()?)))
     }
 
     /// The sockets with their handles, to be changed.
     pub fn iter_mut(&mut self) -> impl Iterator<Item = (SocketHandle, &mut Socket<'a>)> {
-        self.sockets.iter_mut().enumerate().filter_map(|(index, socket)| Some((SocketHandle(index), socket.as_mut()?)))
+        let places = self.sockets.iter_mut().enumerate();
+        places.filter_map(|(index, place)| Some((SocketHandle(index), place.socket.as_mut()?)))
     }
 }

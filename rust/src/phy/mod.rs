@@ -1,6 +1,7 @@
 //! Devices, by smoltcp's traits, and some of them.
 pub use crate::checksum::{Checksum, ChecksumCapabilities};
 use crate::time::Instant;
+use crate::wire::ETHERNET_HEADER_LEN;
 use alloc::collections::VecDeque;
 use alloc::vec::Vec;
 
@@ -45,6 +46,9 @@ pub enum Medium {
     Ethernet,
     /// The header of IP: the medium has no hardware addresses.
     Ip,
+    /// A header of IEEE 802.15.4: for programs that name it. No interface is made over it, and no device has it.
+    #[cfg(feature = "medium-ieee802154")]
+    Ieee802154,
 }
 
 /// What a device can do.
@@ -75,6 +79,23 @@ impl Default for DeviceCapabilities {
     }
 }
 
+impl DeviceCapabilities {
+    /// The octets of its longest packet of IP: those of its longest frame, without a header of Ethernet. Of more than 1514
+    /// no frame makes use.
+    pub fn ip_mtu(&self) -> usize {
+        let header_len = match self.medium {
+            Medium::Ethernet => ETHERNET_HEADER_LEN,
+            _ => 0,
+        };
+        self.max_transmission_unit.saturating_sub(header_len)
+    }
+}
+
+/// What smoltcp tells a device of a packet, and a device smoltcp. Here it has nothing to tell.
+#[derive(Clone, Copy, Debug, Default, PartialEq, Eq, Hash)]
+#[non_exhaustive]
+pub struct PacketMeta {}
+
 /// What sends and receives frames.
 pub trait Device {
     /// A frame that came.
@@ -102,6 +123,11 @@ pub trait RxToken {
     fn consume<R, F>(self, f: F) -> R
     where
         F: FnOnce(&[u8]) -> R;
+
+    /// What is told of it: nothing asks.
+    fn meta(&self) -> PacketMeta {
+        PacketMeta::default()
+    }
 }
 
 /// Permission to send a frame.
@@ -110,6 +136,9 @@ pub trait TxToken {
     fn consume<R, F>(self, len: usize, f: F) -> R
     where
         F: FnOnce(&mut [u8]) -> R;
+
+    /// What it is told of the packet: nothing tells it.
+    fn set_meta(&mut self, _meta: PacketMeta) {}
 }
 
 /// A device in memory: what is put into `incoming` comes, and what is sent is kept in `sent`.

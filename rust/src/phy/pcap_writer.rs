@@ -11,6 +11,9 @@ pub enum PcapLinkType {
     Ethernet = 1,
     /// The header of IP.
     Ip = 101,
+    /// A header of IEEE 802.15.4, without a checksum of the frame.
+    #[cfg(feature = "medium-ieee802154")]
+    Ieee802154WithoutFcs = 230,
 }
 
 /// Which frames are written.
@@ -103,6 +106,8 @@ impl<D: Device, S: PcapSink> PcapWriter<D, S> {
         sink.global_header(match lower.capabilities().medium {
             Medium::Ethernet => PcapLinkType::Ethernet,
             Medium::Ip => PcapLinkType::Ip,
+            #[cfg(feature = "medium-ieee802154")]
+            Medium::Ieee802154 => PcapLinkType::Ieee802154WithoutFcs,
         });
         PcapWriter { lower, sink: RefCell::new(sink), mode }
     }

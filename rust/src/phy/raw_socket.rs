@@ -76,7 +76,7 @@ impl RawSocket {
         done(unsafe { bind(fd.as_raw_fd(), &raw const own, size_of::<LinkAddress>() as u32) })?;
         let mtu = match medium {
             Medium::Ethernet => octets + ETHERNET_HEADER_LEN,
-            Medium::Ip => octets,
+            _ => octets,
         };
         Ok(RawSocket { file: fd.into(), medium, mtu, buffer: alloc::vec![0; 65536] })
     }

@@ -6,6 +6,10 @@ use core::fmt;
 
 /// A device over another one, each of whose frames is shown to a function: as it comes, and as it was written.
 ///
+/// A frame is printed as a line for each header, with the flags, numbers, window and options of a segment, what a fragment
+/// belongs to, and messages of DHCP and DNS: for eyes alone, by [`wire::pretty_print`](crate::wire::pretty_print). What goes
+/// in and out is read and written by the library.
+///
 /// ```
 /// use fumitorygate::phy::{Loopback, Medium, Tracer};
 /// let device = Tracer::new(Loopback::new(Medium::Ethernet), |timestamp, packet| println!("[{timestamp}] {packet}"));
@@ -70,6 +74,8 @@ impl fmt::Display for TracerPacket<'_> {
             (Medium::Ip, Some(4)) => PrettyPrinter::<Ipv4Packet<&'static [u8]>>::new(prefix, buffer).fmt(f),
             (Medium::Ip, Some(6)) => PrettyPrinter::<Ipv6Packet<&'static [u8]>>::new(prefix, buffer).fmt(f),
             (Medium::Ip, _) => f.write_str("unrecognized IP version"),
+            #[cfg(feature = "medium-ieee802154")]
+            (Medium::Ieee802154, _) => f.write_str("a frame of IEEE 802.15.4"),
         }
     }
 }

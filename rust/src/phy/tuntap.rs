@@ -50,11 +50,13 @@ impl TunTapInterface {
     /// Opens a device that exists, or that the caller may make.
     ///
     /// # Errors
-    /// Those of the system; `InvalidInput` if the name is longer than 15 octets.
+    /// Those of the system; `InvalidInput` if the name is longer than 15 octets, or the medium another one.
     pub fn new(name: &str, medium: Medium) -> io::Result<TunTapInterface> {
         let kind = match medium {
             Medium::Ethernet => IFF_TAP,
             Medium::Ip => IFF_TUN,
+            #[cfg(feature = "medium-ieee802154")]
+            Medium::Ieee802154 => return Err(ErrorKind::InvalidInput.into()),
         };
         let mut request = Request { name: [0; 16], flags: kind | IFF_NO_PI, rest: [0; 22] };
         if name.len() > 15 {
@@ -132,7 +134,7 @@ impl Device for TunTapInterface {
     fn capabilities(&self) -> DeviceCapabilities {
         let max_transmission_unit = match self.medium {
             Medium::Ethernet => FRAME_ROOM,
-            Medium::Ip => 1500,
+            _ => 1500,
         };
         DeviceCapabilities { medium: self.medium, max_transmission_unit, ..DeviceCapabilities::default() }
     }

@@ -6,7 +6,7 @@ use super::AnySocket;
 use crate::host::{Dhcp, Error, Lease};
 use crate::iface::List;
 use crate::shared::Shared;
-use crate::time::Instant;
+use crate::time::{Duration, Instant};
 use crate::wire::{Ipv4Address, Ipv4Cidr};
 use core::marker::PhantomData;
 #[cfg(feature = "async")]
@@ -66,15 +66,34 @@ const PLACES: u32 = 2;
 #[derive(Debug)]
 pub struct Socket<'a> {
     /// At a host there is a client.
-    client: Option<(Shared, Dhcp)>,
+    client: Option<Client>,
     config: Option<Config>,
     /// Whether that isn't told yet.
     is_news: bool,
     /// When the client does something next, if nothing comes.
     at: Option<Instant>,
+    max_lease_duration: Option<Duration>,
+    /// When a lease is given up that the server gave for longer.
+    ends_at: Option<Instant>,
     #[cfg(feature = "async")]
     waker: Option<Waker>,
     lifetime: PhantomData<&'a mut [u8]>,
+}
+
+/// A client of a host's: of no lifetime, so that storage may lend a set what it is dropped with.
+#[derive(Debug)]
+struct Client {
+    host: Shared,
+    /// `None` after it was given back.
+    dhcp: Option<Dhcp>,
+}
+
+impl Drop for Client {
+    fn drop(&mut self) {
+        if let Some(dhcp) = self.dhcp.take() {
+            self.host.free_places(PLACES, |host| dhcp.free(host));
+        }
+    }
 }
 
 impl<'a> Socket<'a> {
@@ -86,10 +105,24 @@ impl<'a> Socket<'a> {
             config: None,
             is_news: true,
             at: None,
+            max_lease_duration: None,
+            ends_at: None,
             #[cfg(feature = "async")]
             waker: None,
             lifetime: PhantomData,
         }
+    }
+
+    /// The longest time for which a lease is kept, if one is set.
+    pub fn max_lease_duration(&self) -> Option<Duration> {
+        self.max_lease_duration
+    }
+
+    /// Sets the longest time for which a lease is kept, from the next one or its next renewal on. `None`: as long as the
+    /// server says. The client renews by the server's times: one that was kept so long without a renewal is given up, as by
+    /// [`reset`](Socket::reset), where smoltcp's client renews it before.
+    pub fn set_max_lease_duration(&mut self, max_lease_duration: Option<Duration>) {
+        self.max_lease_duration = max_lease_duration;
     }
 
     /// What has become of the lease, if that has changed since the last call. It says what there is now: of a lease that was
@@ -101,9 +134,9 @@ impl<'a> Socket<'a> {
 
     /// Gives up the lease, if there is one, and begins anew, as after a link went down. Nothing is released to the server.
     pub fn reset(&mut self) {
-        if let Some((_, client)) = &mut self.client {
-            client.reset();
-            self.at = client.poll_at();
+        if let Some(Client { dhcp: Some(dhcp), .. }) = &mut self.client {
+            dhcp.reset();
+            (self.at, self.ends_at) = (dhcp.poll_at(), None);
         }
         self.set_config(None);
     }
@@ -125,46 +158,42 @@ impl<'a> Socket<'a> {
 
     pub(crate) fn attach(&mut self, host: &Shared) -> Result<(), Error> {
         let seed = host.next_seed();
-        let client = host.take_places(PLACES, |host| Dhcp::new(host, seed, None))?;
-        self.client = Some((host.clone(), client));
+        let dhcp = host.take_places(PLACES, |host| Dhcp::new(host, seed, None))?;
+        self.client = Some(Client { host: host.clone(), dhcp: Some(dhcp) });
         self.at = Some(Instant::ZERO);
         Ok(())
     }
 
     pub(crate) fn detach(&mut self) {
-        if let Some((host, client)) = self.client.take() {
-            host.free_places(PLACES, |host| client.free(host));
-        }
-        self.at = None;
+        self.client = None;
+        (self.at, self.ends_at) = (None, None);
         self.set_config(None);
     }
 
     /// Lets the client do what is due, and tells whether there is an event.
     pub(crate) fn step(&mut self, now: Instant) -> bool {
-        let Some((host, client)) = &mut self.client else { return false };
+        let Some(Client { host, dhcp: Some(dhcp) }) = &mut self.client else { return false };
+        if self.ends_at.is_some_and(|at| at <= now) {
+            dhcp.reset();
+        }
         // It is never refused: the client's socket is open as long as it is there.
-        let event = host.with(|host| client.poll(host, now)).ok().flatten();
-        self.at = client.poll_at();
+        let event = host.with(|host| dhcp.poll(host, now)).ok().flatten();
+        self.at = dhcp.poll_at();
         if event.is_some() {
-            let config = client.lease().as_ref().map(Config::of);
+            let config = dhcp.lease().as_ref().map(Config::of);
+            self.ends_at = self.max_lease_duration.filter(|_| config.is_some()).map(|span| now + span);
             self.set_config(config);
         }
         self.is_news && event.is_some()
     }
 
     pub(crate) fn poll_at(&self) -> Option<Instant> {
-        self.at
+        self.at.into_iter().chain(self.ends_at).min()
     }
 
     fn set_config(&mut self, config: Option<Config>) {
         self.is_news |= self.config != config;
         self.config = config;
-    }
-}
-
-impl Drop for Socket<'_> {
-    fn drop(&mut self) {
-        self.detach();
     }
 }
 

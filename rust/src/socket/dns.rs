@@ -3,7 +3,7 @@
 //! A client sends and receives while the interface is polled. Each query has a UDP socket of its own as long as it waits, at a
 //! random port, and so one of [`Config::sockets`](crate::iface::Config::sockets).
 use super::AnySocket;
-use crate::host::{Dns, DnsQuery as Query, DnsResult, Error};
+use crate::host::{Dns, DnsQuery as Query, DnsResult, Error, Host};
 use crate::iface::{Context, List};
 use crate::shared::Shared;
 use crate::sys;
@@ -121,6 +121,62 @@ impl Entry {
     }
 }
 
+/// A client of a host's: of no lifetime, so that storage may lend a set what it is dropped with.
+#[derive(Debug)]
+struct Client {
+    host: Shared,
+    /// `None` after it was given back.
+    dns: Option<Dns>,
+    /// How many queries wait, each of which has a place for a socket.
+    waiting: u32,
+}
+
+impl Client {
+    fn new(host: &Shared, queries: usize, servers: &[IpAddress]) -> Result<Client, Error> {
+        let queries = u32::try_from(queries).map_err(|_| Error::NoMemory)?;
+        let dns = Dns::new(queries, key(host), servers)?;
+        Ok(Client { host: host.clone(), dns: Some(dns), waiting: 0 })
+    }
+
+    /// Calls the library's client with its host.
+    fn call<R>(&mut self, f: impl FnOnce(&mut Host, &mut Dns) -> R) -> Option<R> {
+        let dns = self.dns.as_mut()?;
+        Some(self.host.with(|host| f(host, dns)))
+    }
+
+    /// Starts a query, which takes a place.
+    fn start(&mut self, name: &str, query_type: DnsQueryType) -> Result<Query, Error> {
+        let Client { host, dns: Some(dns), waiting } = self else { return Err(Error::NoMemory) };
+        let now = host.whole(|inner| inner.now);
+        let query = host.take_places(1, |host| dns.start(host, now, name, query_type))?;
+        *waiting += 1;
+        Ok(query)
+    }
+
+    /// Ends a query that waited, or has its result, and frees its place.
+    fn end(&mut self, query: Query) {
+        if let Client { host, dns: Some(dns), waiting } = self {
+            host.free_places(1, |host| {
+                // It is there as long as it waits.
+                let _ = dns.cancel(host, query);
+            });
+            *waiting -= 1;
+        }
+    }
+
+    fn poll_at(&mut self) -> Option<Instant> {
+        self.dns.as_mut()?.poll_at()
+    }
+}
+
+impl Drop for Client {
+    fn drop(&mut self) {
+        if let Some(dns) = self.dns.take() {
+            self.host.free_places(self.waiting, |host| dns.free(host));
+        }
+    }
+}
+
 /// A client of DNS.
 #[derive(Debug)]
 pub struct Socket<'a> {
@@ -128,7 +184,7 @@ pub struct Socket<'a> {
     /// Whether the client has these servers.
     is_told: bool,
     /// At a host there is a client.
-    client: Option<(Shared, Dns)>,
+    client: Option<Client>,
     entries: Vec<Option<Entry>>,
     /// When the client does something next, if nothing comes.
     at: Option<Instant>,
@@ -161,10 +217,11 @@ impl<'a> Socket<'a> {
         self.tell_servers();
     }
 
-    /// Starts a query for a name, as `www.example.com`, whose dot at the end is left out. The next poll of the interface sends it.
+    /// Starts a query for a name, as `www.example.com`, whose dot at the end is left out. The next poll of the interface with
+    /// its set sends it.
     ///
     /// # Errors
-    /// The first that applies of [`StartQueryError`]'s. Outside a set there is no free slot.
+    /// The first that applies of [`StartQueryError`]'s.
     ///
     /// # Panics
     /// If the context is another interface's than the set's.
@@ -174,22 +231,18 @@ impl<'a> Socket<'a> {
         name: &str,
         query_type: DnsQueryType,
     ) -> Result<QueryHandle, StartQueryError> {
-        let index = self.entries.iter().position(Option::is_none);
         check(name)?;
-        let (Some(index), Some((host, client))) = (index, &mut self.client) else {
-            return Err(StartQueryError::NoFreeSlot);
-        };
-        assert!(host.is(&cx.0), "the context is another interface's");
+        let index = self.entries.iter().position(Option::is_none).ok_or(StartQueryError::NoFreeSlot)?;
+        self.attach(&cx.0).map_err(|_| StartQueryError::Exhausted)?;
         if self.servers.is_empty() {
             return Err(StartQueryError::NoServer);
         }
-        let now = host.whole(|inner| inner.now);
-        let query =
-            host.take_places(1, |host| client.start(host, now, name, query_type)).map_err(|error| match error {
-                Error::BadName => StartQueryError::InvalidName,
-                Error::NoServer => StartQueryError::NoServer,
-                _ => StartQueryError::Exhausted,
-            })?;
+        let client = self.client.as_mut().ok_or(StartQueryError::Exhausted)?;
+        let query = client.start(name, query_type).map_err(|error| match error {
+            Error::BadName => StartQueryError::InvalidName,
+            Error::NoServer => StartQueryError::NoServer,
+            _ => StartQueryError::Exhausted,
+        })?;
         self.at = client.poll_at();
         self.entries[index] = Some(Entry {
             waits: Some(query),
@@ -254,57 +307,50 @@ impl<'a> Socket<'a> {
 
     /// Ends a query of the library, and frees its place.
     fn free(&mut self, query: Query) {
-        if let Some((host, client)) = &mut self.client {
-            host.free_places(1, |host| {
-                // It is there as long as it waits.
-                let _ = client.cancel(host, query);
-            });
+        if let Some(client) = &mut self.client {
+            client.end(query);
             self.at = client.poll_at();
         }
     }
 
     /// Gives the client its servers, which it may refuse for want of memory. Then the next poll does it again.
     fn tell_servers(&mut self) {
-        if let (false, Some((_, client))) = (self.is_told, &mut self.client) {
-            self.is_told = client.set_servers(&self.servers).is_ok();
+        if let (false, Some(Client { dns: Some(dns), .. })) = (self.is_told, &mut self.client) {
+            self.is_told = dns.set_servers(&self.servers).is_ok();
         }
     }
 
+    /// Has a client at a host, if there is none.
     pub(crate) fn attach(&mut self, host: &Shared) -> Result<(), Error> {
-        let queries = u32::try_from(self.entries.len()).map_err(|_| Error::NoMemory)?;
-        let client = Dns::new(queries, key(host), &self.servers)?;
-        self.client = Some((host.clone(), client));
+        if let Some(client) = &self.client {
+            assert!(client.host.is(host), "the context is another interface's");
+            return Ok(());
+        }
+        self.client = Some(Client::new(host, self.entries.len(), &self.servers)?);
         self.is_told = true;
         Ok(())
     }
 
     pub(crate) fn detach(&mut self) {
-        let waiting = self.entries.iter_mut().flatten().filter(|entry| entry.waits.is_some());
-        let count = waiting.map(|entry| entry.end(None)).count();
-        if let Some((host, client)) = self.client.take() {
-            // There are at most as many as sockets may be open.
-            host.free_places(u32::try_from(count).unwrap_or(0), |host| client.free(host));
-        }
+        self.entries.iter_mut().flatten().filter(|entry| entry.waits.is_some()).for_each(|entry| entry.end(None));
+        self.client = None;
         self.at = None;
     }
 
     /// Lets queries do what is due, and tells whether one has its result.
     pub(crate) fn step(&mut self, now: Instant) -> bool {
         self.tell_servers();
-        let Some((host, client)) = &mut self.client else { return false };
-        host.with(|host| client.poll(host, now));
+        let Some(client) = &mut self.client else { return false };
+        client.call(|host, dns| dns.poll(host, now));
         let mut is_news = false;
         for entry in self.entries.iter_mut().flatten() {
             let Some(query) = entry.waits else { continue };
-            let found = match client.result(query) {
-                Ok(DnsResult::Pending) => continue,
-                Ok(DnsResult::Addresses(list)) => Some(found_of(&list)),
+            let found = match client.call(|_, dns| dns.result(query)) {
+                Some(Ok(DnsResult::Pending)) => continue,
+                Some(Ok(DnsResult::Addresses(list) | DnsResult::TruncatedAddresses(list))) => Some(found_of(&list)),
                 _ => None,
             };
-            host.free_places(1, |host| {
-                // It is there as long as it waits.
-                let _ = client.cancel(host, query);
-            });
+            client.end(query);
             entry.end(found);
             is_news = true;
         }
@@ -343,12 +389,6 @@ fn key(_: &Shared) -> [u64; 2] {
 #[cfg(not(feature = "std"))]
 fn key(host: &Shared) -> [u64; 2] {
     [host.next_seed(), host.next_seed()]
-}
-
-impl Drop for Socket<'_> {
-    fn drop(&mut self) {
-        self.detach();
-    }
 }
 
 impl<'a> AnySocket<'a> for Socket<'a> {

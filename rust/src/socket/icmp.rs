@@ -1,7 +1,7 @@
 //! ICMP sockets, for both versions of IP (RFC 792, RFC 4443).
-use super::lent::Destination;
+use super::outbox::Destination;
 pub use super::{BindError, PacketBuffer, PacketMetadata, RecvError, SendError};
-use super::{Core, Kind, Lent, common, hop_limits};
+use super::{Core, Kind, common, hop_limits};
 use crate::host::{Error, Host, Rooms};
 use crate::wire::{IpAddress, IpListenEndpoint};
 use core::marker::PhantomData;
@@ -98,14 +98,15 @@ impl<'a> Socket<'a> {
     /// [`SendError`]: then nothing is queued.
     #[inline]
     pub fn send_slice(&mut self, data: &[u8], endpoint: IpAddress) -> Result<(), SendError> {
-        self.core.send(|host, number| host.icmp_send(number, endpoint, data))
+        self.core.send(Destination::Icmp(endpoint), data)
     }
 
-    /// Lends a message, from its type on, of `size` octets, which is queued when what is lent is dropped.
+    /// Lends a message, from its type on, of `size` octets, which are zeros until they are written. It is queued with
+    /// the next call of this socket or of the interface.
     ///
     /// # Errors
     /// [`SendError`]: then nothing is lent.
-    pub fn send(&mut self, size: usize, endpoint: IpAddress) -> Result<Lent<'_>, SendError> {
+    pub fn send(&mut self, size: usize, endpoint: IpAddress) -> Result<&mut [u8], SendError> {
         self.core.lend(size, Destination::Icmp(endpoint))
     }
 
@@ -120,7 +121,7 @@ impl<'a> Socket<'a> {
     where
         F: FnOnce(&mut [u8]) -> usize,
     {
-        self.core.send_with(max_size, f, |host, number, data| host.icmp_send(number, endpoint, data))
+        self.core.send_with(max_size, Destination::Icmp(endpoint), f)
     }
 
     /// Takes the first message that came, from its type on.

@@ -1,9 +1,9 @@
 //! Sockets: [`tcp`], [`udp`], [`icmp`] and [`raw`], and [`segment`] for a TCP of one's own; with the feature `socket-dhcpv4`
 //! clients of DHCP, and with `socket-dns` those of DNS.
 //!
-//! A socket is opened when it is bound in a [`SocketSet`](crate::iface::SocketSet), or when it comes into one and was
-//! bound before. Its queues are the library's: outside a set it has none.
-use crate::host::{Error, Host, Queues, Room, Rooms};
+//! A socket is open, if it is bound, while it is in a [`SocketSet`](crate::iface::SocketSet) that came to its interface.
+//! Its queues are the library's then; what is sent before waits in the socket.
+use crate::host::{Error, Host, Queue, Queues, Room, Rooms};
 use crate::shared::Shared;
 use crate::time::Instant;
 use crate::wire::IpAddress;
@@ -12,20 +12,18 @@ use core::fmt;
 use core::marker::PhantomData;
 #[cfg(feature = "async")]
 use core::task::Waker;
-use lent::Destination;
+use outbox::{Destination, Outbox};
 
 #[cfg(feature = "socket-dhcpv4")]
 pub mod dhcpv4;
 #[cfg(feature = "socket-dns")]
 pub mod dns;
 pub mod icmp;
-mod lent;
+mod outbox;
 pub mod raw;
 pub mod segment;
 pub mod tcp;
 pub mod udp;
-
-pub use lent::Lent;
 
 /// A socket of any kind.
 #[derive(Debug)]
@@ -96,22 +94,27 @@ impl Socket<'_> {
         }
     }
 
-    /// Lets a client of DHCP or DNS do what is due, and tells whether it has an event, or a result.
+    /// Queues the packets that wait, lets a client of DHCP or DNS do what is due, and tells whether it has an event, or a
+    /// result.
     #[inline]
     pub(crate) fn step(&mut self, timestamp: Instant) -> bool {
         match self {
             #[cfg(feature = "socket-dhcpv4")]
-            Socket::Dhcpv4(socket) => socket.step(timestamp),
+            Socket::Dhcpv4(socket) => return socket.step(timestamp),
             #[cfg(feature = "socket-dns")]
-            Socket::Dns(socket) => socket.step(timestamp),
-            _ => {
-                let _ = timestamp;
-                false
-            }
+            Socket::Dns(socket) => return socket.step(timestamp),
+            Socket::Raw(socket) => socket.core.flush(),
+            Socket::Icmp(socket) => socket.core.flush(),
+            Socket::Udp(socket) => socket.core.flush(),
+            Socket::Segment(socket) => socket.core.flush(),
+            Socket::Tcp(_) => {}
         }
+        let _ = timestamp;
+        false
     }
 
-    /// When a client of DHCP or DNS does something next, if no frame comes.
+    /// When it is to be polled, if no frame comes: a client of DHCP or DNS by its times, another socket at once if it has
+    /// a packet that isn't queued.
     #[inline]
     pub(crate) fn poll_at(&self) -> Option<Instant> {
         match self {
@@ -119,7 +122,11 @@ impl Socket<'_> {
             Socket::Dhcpv4(socket) => socket.poll_at(),
             #[cfg(feature = "socket-dns")]
             Socket::Dns(socket) => socket.poll_at(),
-            _ => None,
+            Socket::Raw(socket) => socket.core.poll_at(),
+            Socket::Icmp(socket) => socket.core.poll_at(),
+            Socket::Udp(socket) => socket.core.poll_at(),
+            Socket::Segment(socket) => socket.core.poll_at(),
+            Socket::Tcp(_) => None,
         }
     }
 }
@@ -218,7 +225,7 @@ impl From<Error> for BindError {
 pub enum SendError {
     /// The socket isn't bound, or the destination has no address or port.
     Unaddressable,
-    /// The queue has no room for it, or the socket is in no set.
+    /// The queue has no room for it.
     BufferFull,
     /// It is longer than is ever sent.
     TooLong,
@@ -290,6 +297,8 @@ pub(crate) struct Core<K: Kind> {
     number: Option<u32>,
     rooms: Rooms,
     hop_limit: Option<u8>,
+    /// What waits to be queued.
+    outbox: Outbox,
     /// Where packets are read that are lent.
     buffer: Vec<u8>,
     /// The origin of the packet that was looked at last, which is lent.
@@ -321,6 +330,7 @@ impl<K: Kind> Core<K> {
             number: None,
             rooms: Rooms { received: rx.room, to_send: tx.room },
             hop_limit: None,
+            outbox: Outbox::default(),
             buffer: Vec::new(),
             looked_at: None,
             #[cfg(feature = "async")]
@@ -349,6 +359,7 @@ impl<K: Kind> Core<K> {
     fn detach(&mut self) {
         if let (Some(host), Some(number)) = (self.host.take(), self.number.take()) {
             host.close(number);
+            self.outbox.clear();
         }
     }
 
@@ -361,6 +372,7 @@ impl<K: Kind> Core<K> {
                 // It is open by this number, and the limit isn't 0.
                 let _ = host.set_hop_limit(number, hop_limit);
             }
+            self.outbox.send_all(host, number);
             Ok(number)
         })?);
         self.buffer.resize(octets, 0);
@@ -385,6 +397,7 @@ impl<K: Kind> Core<K> {
         self.detach();
         self.host = host;
         self.endpoint = None;
+        self.outbox.clear();
         #[cfg(feature = "async")]
         self.wakers.wake();
     }
@@ -399,45 +412,73 @@ impl<K: Kind> Core<K> {
         }
     }
 
+    /// Queues a packet, behind those that wait.
     #[inline]
-    fn send(&self, f: impl FnOnce(&mut Host, u32) -> Result<(), Error>) -> Result<(), SendError> {
-        Ok(self.call(f)?)
+    fn send(&mut self, to: Destination, octets: &[u8]) -> Result<(), SendError> {
+        self.flush();
+        match (&self.host, self.number) {
+            (Some(host), Some(number)) => Ok(host.with(|host| to.send(host, number, octets))?),
+            _ => {
+                self.check_room(octets.len(), to)?;
+                self.outbox.push(to, octets.to_vec());
+                Ok(())
+            }
+        }
     }
 
-    /// Queues what `f` writes into a buffer of `max_size` octets, by `send`, if there is room for so many.
+    /// Queues what `f` writes into a buffer of `max_size` octets, if there is room for so many.
     fn send_with(
-        &self,
+        &mut self,
         max_size: usize,
+        to: Destination,
         f: impl FnOnce(&mut [u8]) -> usize,
-        send: impl FnOnce(&mut Host, u32, &[u8]) -> Result<(), Error>,
     ) -> Result<usize, SendError> {
-        let queue = self.call(Host::queues)?.to_send;
-        let room = queue.most_octets.saturating_sub(queue.octets) as usize;
-        if queue.packets >= queue.most_packets || max_size > room {
-            return Err(SendError::BufferFull);
-        }
+        self.check_room(max_size, to)?;
         let mut buffer = alloc::vec![0; max_size];
         let size = f(&mut buffer);
-        self.send(|host, number| send(host, number, &buffer[..size]))?;
+        self.send(to, &buffer[..size])?;
         Ok(size)
     }
 
-    /// Lends a packet of `size` octets, to a destination, if it would be queued now.
-    fn lend(&mut self, size: usize, to: Destination) -> Result<Lent<'_>, SendError> {
-        if !to.is_addressable() {
-            return Err(SendError::Unaddressable);
-        }
-        if self.host.as_ref().is_some_and(|host| !to.may_carry(size, host.ip_mtu())) {
+    /// Lends a packet of `size` octets, to a destination, if it would be queued now: it is with the next call.
+    fn lend(&mut self, size: usize, to: Destination) -> Result<&mut [u8], SendError> {
+        if self.host.as_ref().is_some_and(|host| !to.may_carry(size, host.ip_mtu())) && to.is_addressable() {
             return Err(SendError::TooLong);
         }
-        let queue = self.call(Host::queues)?.to_send;
-        if queue.packets >= queue.most_packets || size > queue.most_octets.saturating_sub(queue.octets) as usize {
-            return Err(SendError::BufferFull);
+        self.flush();
+        self.check_room(size, to)?;
+        Ok(self.outbox.push(to, alloc::vec![0; size]))
+    }
+
+    /// Hands what waits to its queue, if it is open.
+    #[inline]
+    fn flush(&mut self) {
+        if let (false, Some(host), Some(number)) = (self.outbox.is_empty(), &self.host, self.number) {
+            host.with(|host| self.outbox.send_all(host, number));
         }
-        match (&self.host, self.number) {
-            (Some(host), Some(number)) => Ok(Lent::new(host, number, to, size)),
-            _ => Err(SendError::BufferFull),
-        }
+    }
+
+    /// Whether a packet of so many octets would be queued now, as far as there is room and its destination is one.
+    fn check_room(&self, size: usize, to: Destination) -> Result<(), SendError> {
+        let queue = self.to_send().filter(|_| to.is_addressable()).ok_or(SendError::Unaddressable)?;
+        let room = queue.most_octets.saturating_sub(queue.octets) as usize;
+        if queue.packets < queue.most_packets && size <= room { Ok(()) } else { Err(SendError::BufferFull) }
+    }
+
+    /// Its queue for what goes, with what waits to be queued. `None` if it isn't bound.
+    fn to_send(&self) -> Option<Queue> {
+        let Room { packets: most_packets, octets: most_octets } = self.rooms.to_send;
+        let empty = Queue { packets: 0, octets: 0, most_packets, most_octets, first: None };
+        let mut queue = self.endpoint.map(|_| self.queues().map_or(empty, |queues| queues.to_send))?;
+        // There is room for each, so that these are no more than there may be.
+        queue.packets += self.outbox.packets() as u32;
+        queue.octets += self.outbox.octets() as u32;
+        Some(queue)
+    }
+
+    /// When it is to be polled for what waits.
+    fn poll_at(&self) -> Option<Instant> {
+        if self.outbox.is_empty() { None } else { Some(Instant::ZERO) }
     }
 
     /// What waits in its queues, if it is open.
@@ -451,7 +492,7 @@ impl<K: Kind> Core<K> {
     }
 
     fn can_send(&self) -> bool {
-        self.queues().is_some_and(|queues| queues.to_send.packets < queues.to_send.most_packets)
+        self.to_send().is_some_and(|queue| queue.packets < queue.most_packets)
     }
 
     fn recv_queue(&self) -> usize {
@@ -459,7 +500,7 @@ impl<K: Kind> Core<K> {
     }
 
     fn send_queue(&self) -> usize {
-        self.queues().map_or(0, |queues| queues.to_send.octets as usize)
+        self.to_send().map_or(0, |queue| queue.octets as usize)
     }
 
     fn set_hop_limit(&mut self, hop_limit: Option<u8>) {
@@ -572,7 +613,7 @@ macro_rules! common {
                 self.core.can_recv()
             }
 
-            /// Whether its queue for what goes has room for one packet more. `false` while it isn't open in a set.
+            /// Whether its queue for what goes has room for one packet more. `false` while it isn't bound.
             pub fn can_send(&self) -> bool {
                 self.core.can_send()
             }

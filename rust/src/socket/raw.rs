@@ -1,7 +1,7 @@
 //! Raw sockets, for whole packets of one version of IP and one protocol.
-use super::lent::Destination;
+use super::outbox::Destination;
 pub use super::{BindError, PacketBuffer, PacketMetadata, RecvError, SendError};
-use super::{Core, Kind, Lent, common};
+use super::{Core, Kind, common};
 use crate::host::{Error, Host, Rooms};
 use crate::wire::{IpProtocol, IpVersion};
 use core::marker::PhantomData;
@@ -73,14 +73,15 @@ impl<'a> Socket<'a> {
     /// [`SendError::BufferFull`]: then nothing is queued.
     #[inline]
     pub fn send_slice(&mut self, data: &[u8]) -> Result<(), SendError> {
-        self.core.send(|host, number| host.raw_send(number, data))
+        self.core.send(Destination::Raw, data)
     }
 
-    /// Lends a packet with its header of `size` octets, which is queued when what is lent is dropped.
+    /// Lends a packet with its header of `size` octets, which are zeros until they are written. It is queued with
+    /// the next call of this socket or of the interface.
     ///
     /// # Errors
     /// [`SendError`]: then nothing is lent.
-    pub fn send(&mut self, size: usize) -> Result<Lent<'_>, SendError> {
+    pub fn send(&mut self, size: usize) -> Result<&mut [u8], SendError> {
         self.core.lend(size, Destination::Raw)
     }
 
@@ -95,7 +96,7 @@ impl<'a> Socket<'a> {
     where
         F: FnOnce(&mut [u8]) -> usize,
     {
-        self.core.send_with(max_size, f, |host, number, data| host.raw_send(number, data))
+        self.core.send_with(max_size, Destination::Raw, f)
     }
 
     /// Takes the first packet that came, with its header.

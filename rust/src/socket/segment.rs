@@ -3,6 +3,7 @@
 //! They keep no connection: a state machine above them makes one of the segments. The library computes and verifies
 //! checksums, finds the next hop, and answers by a reset what no socket takes. smoltcp's `tcp` has the state machine, and
 //! none such.
+use super::outbox::Destination;
 pub use super::{BindError, PacketBuffer, PacketMetadata, RecvError, SendError};
 use super::{Core, Kind, common, hop_limits};
 pub use crate::host::Segment;
@@ -121,7 +122,7 @@ impl<'a> Socket<'a> {
     /// [`SendError`]: then nothing is queued.
     #[inline]
     pub fn send_slice(&mut self, payload: &[u8], segment: Segment) -> Result<(), SendError> {
-        self.core.send(|host, number| host.tcp_send(number, segment, payload))
+        self.core.send(Destination::Segment(segment), payload)
     }
 
     /// Takes the first segment that came: its payload, and its header.

@@ -1,7 +1,7 @@
 //! UDP sockets (RFC 768).
-use super::lent::Destination;
+use super::outbox::Destination;
 pub use super::{BindError, PacketBuffer, PacketMetadata, RecvError, SendError};
-use super::{Core, Kind, Lent, common, hop_limits};
+use super::{Core, Kind, common, hop_limits};
 use crate::host::{Error, Host, Rooms};
 use crate::wire::{IpEndpoint, IpListenEndpoint};
 use core::fmt;
@@ -98,14 +98,15 @@ impl<'a> Socket<'a> {
     #[inline]
     pub fn send_slice(&mut self, data: &[u8], meta: impl Into<UdpMetadata>) -> Result<(), SendError> {
         let remote = meta.into().endpoint;
-        self.core.send(|host, number| host.udp_send(number, remote, data))
+        self.core.send(Destination::Udp(remote), data)
     }
 
-    /// Lends a datagram of `size` octets, which is queued when what is lent is dropped.
+    /// Lends a datagram of `size` octets, which are zeros until they are written. It is queued with
+    /// the next call of this socket or of the interface.
     ///
     /// # Errors
     /// [`SendError`]: then nothing is lent.
-    pub fn send(&mut self, size: usize, meta: impl Into<UdpMetadata>) -> Result<Lent<'_>, SendError> {
+    pub fn send(&mut self, size: usize, meta: impl Into<UdpMetadata>) -> Result<&mut [u8], SendError> {
         self.core.lend(size, Destination::Udp(meta.into().endpoint))
     }
 
@@ -121,7 +122,7 @@ impl<'a> Socket<'a> {
         F: FnOnce(&mut [u8]) -> usize,
     {
         let remote = meta.into().endpoint;
-        self.core.send_with(max_size, f, |host, number, data| host.udp_send(number, remote, data))
+        self.core.send_with(max_size, Destination::Udp(remote), f)
     }
 
     /// Takes the first datagram that came.

@@ -278,6 +278,6 @@ impl Ipv4Repr {
 
 impl fmt::Display for Ipv4Repr {
     fn fmt(&self, f: &mut fmt::Formatter<'_>) -> fmt::Result {
-        write!(f, "IPv4 src={} dst={} proto={:?}", self.src_addr, self.dst_addr, self.next_header)
+        write!(f, "IPv4 src={} dst={} proto={}", self.src_addr, self.dst_addr, self.next_header)
     }
 }

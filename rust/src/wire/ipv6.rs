@@ -191,7 +191,7 @@ impl fmt::Display for Ipv6Repr {
     fn fmt(&self, f: &mut fmt::Formatter<'_>) -> fmt::Result {
         write!(
             f,
-            "IPv6 src={} dst={} nxt_hdr={:?} hop_limit={}",
+            "IPv6 src={} dst={} nxt_hdr={} hop_limit={}",
             self.src_addr, self.dst_addr, self.next_header, self.hop_limit
         )
     }

@@ -10,9 +10,9 @@
 //! use fumitorygate::{iface::*, phy::*, socket::tcp, time::Instant, wire::*};
 //!
 //! let (now, mut device) = (Instant::ZERO, Loopback::new(Medium::Ip));
-//! let mut iface = Interface::new(Config::new(HardwareAddress::Ip), &mut device, now).unwrap();
-//! iface.update_ip_addrs(|list| list.push("127.0.0.1/8".parse().unwrap()).unwrap()).unwrap();
-//! let mut sockets = SocketSet::new(&iface);
+//! let mut iface = Interface::new(Config::new(HardwareAddress::Ip), &mut device, now);
+//! iface.update_ip_addrs(|list| list.push("127.0.0.1/8".parse().unwrap()).unwrap());
+//! let mut sockets = SocketSet::of(&iface);
 //! let socket = || tcp::Socket::new(tcp::SocketBuffer::new(vec![0; 2048]), tcp::SocketBuffer::new(vec![0; 2048]));
 //! let (server, client) = (sockets.add(socket()), sockets.add(socket()));
 //!
@@ -32,6 +32,7 @@ use crate::host::Error;
 pub use crate::host::StreamState as State;
 use crate::iface::Context;
 use crate::shared::{Look, Shared};
+use crate::storage::RingBuffer;
 use crate::time::Duration;
 use crate::wire::{IpEndpoint, IpListenEndpoint};
 use alloc::vec::Vec;
@@ -58,6 +59,13 @@ impl<'a> SocketBuffer<'a> {
     /// So many octets.
     pub const fn with_capacity(octets: usize) -> SocketBuffer<'a> {
         SocketBuffer { octets, lifetime: PhantomData }
+    }
+}
+
+impl<'a> From<RingBuffer<'a, u8>> for SocketBuffer<'a> {
+    /// As many octets as it has room for. In smoltcp it is a buffer itself.
+    fn from(ring: RingBuffer<'a, u8>) -> SocketBuffer<'a> {
+        SocketBuffer::with_capacity(ring.capacity())
     }
 }
 
@@ -186,9 +194,7 @@ fn begin_listening(host: &Shared, at: IpListenEndpoint, options: Options) -> Res
 /// is reset. Where none listened, or all are closed and gone, a peer is reset at once.
 #[derive(Debug)]
 pub struct Socket<'a> {
-    host: Option<Shared>,
-    /// What names it at the host, while it listens or has a connection.
-    index: Option<usize>,
+    place: Place,
     /// While it listens and isn't at a host: what makes it listen there. No other call reaches the library's from a program
     /// that never listens.
     begin: Option<Begin>,
@@ -201,6 +207,33 @@ pub struct Socket<'a> {
     #[cfg(feature = "async")]
     wakers: Wakers,
     lifetime: PhantomData<&'a mut [u8]>,
+}
+
+/// Where a socket is: of no lifetime, so that storage may lend a set what it is dropped with.
+#[derive(Debug, Default)]
+struct Place {
+    host: Option<Shared>,
+    /// What names it at the host, while it listens or has a connection.
+    index: Option<usize>,
+}
+
+impl Place {
+    /// Has nothing at its host any more.
+    fn let_go(&mut self) {
+        if let (Some(host), Some(index)) = (&self.host, self.index.take()) {
+            host.whole(|inner| {
+                if let Some(tcp) = &mut inner.tcp {
+                    tcp.remove(index);
+                }
+            });
+        }
+    }
+}
+
+impl Drop for Place {
+    fn drop(&mut self) {
+        self.let_go();
+    }
 }
 
 /// The tasks to be woken, and what they have seen.
@@ -227,12 +260,6 @@ impl<'a> super::AnySocket<'a> for Socket<'a> {
     }
 }
 
-impl Drop for Socket<'_> {
-    fn drop(&mut self) {
-        self.let_go();
-    }
-}
-
 /// Whether octets come in a state, or may still be read.
 fn may_recv(look: &Look) -> bool {
     matches!(look.state, State::Established | State::FinWait1 | State::FinWait2) || look.readable > 0
@@ -244,14 +271,13 @@ fn is_open(state: State) -> bool {
 
 impl<'a> Socket<'a> {
     /// A socket that is closed, with so much room for what comes and what goes.
-    pub fn new(rx_buffer: SocketBuffer<'a>, tx_buffer: SocketBuffer<'a>) -> Socket<'a> {
+    pub fn new<T: Into<SocketBuffer<'a>>>(rx_buffer: T, tx_buffer: T) -> Socket<'a> {
         Socket {
-            host: None,
-            index: None,
+            place: Place::default(),
             begin: None,
             listen_endpoint: IpListenEndpoint::default(),
-            rx: rx_buffer.octets,
-            tx: tx_buffer.octets,
+            rx: rx_buffer.into().octets,
+            tx: tx_buffer.into().octets,
             options: Options::USUAL,
             buffer: Vec::new(),
             #[cfg(feature = "async")]
@@ -266,52 +292,42 @@ impl<'a> Socket<'a> {
             inner.tcp_sockets = inner.tcp_sockets.saturating_add(1);
             inner.tcp_rooms = (inner.tcp_rooms.0.max(self.tx), inner.tcp_rooms.1.max(self.rx));
         });
-        self.host = Some(host.clone());
+        self.place.host = Some(host.clone());
     }
 
     pub(crate) fn attach(&mut self, host: &Shared) -> Result<(), Error> {
-        if self.host.as_ref().is_some_and(|own| own.is(host)) {
+        if self.place.host.as_ref().is_some_and(|own| own.is(host)) {
             return Ok(());
         }
         if self.state() != State::Closed && self.begin.is_none() {
             return Err(Error::BadArgument);
         }
-        self.let_go();
+        self.place.let_go();
         self.join(host);
         if let Some(begin) = self.begin {
-            self.index = Some(begin(host, self.listen_endpoint, self.options).inspect_err(|_| self.host = None)?);
+            self.place.index =
+                Some(begin(host, self.listen_endpoint, self.options).inspect_err(|_| self.place.host = None)?);
             self.begin = None;
         }
         Ok(())
     }
 
-    /// Has nothing at its host any more.
-    fn let_go(&mut self) {
-        if let (Some(host), Some(index)) = (&self.host, self.index.take()) {
-            host.whole(|inner| {
-                if let Some(tcp) = &mut inner.tcp {
-                    tcp.remove(index);
-                }
-            });
-        }
-    }
-
     /// Forgets its last connection, one in TIME-WAIT too.
     fn reset(&mut self) {
         self.call(|table, index| table.abort(index));
-        self.let_go();
+        self.place.let_go();
         self.begin = None;
         self.listen_endpoint = IpListenEndpoint::default();
     }
 
     /// Calls the connections of its host, if it listens or has one there.
     fn call<R>(&self, f: impl FnOnce(&mut Table, usize) -> R) -> Option<R> {
-        let (host, index) = (self.host.as_ref()?, self.index?);
+        let (host, index) = (self.place.host.as_ref()?, self.place.index?);
         host.whole(|inner| Some(f(inner.tcp.as_mut()?.table(), index)))
     }
 
     fn look(&self) -> Look {
-        let found = match (&self.host, self.index) {
+        let found = match (&self.place.host, self.place.index) {
             (Some(host), Some(index)) => host.whole(|inner| Some(inner.tcp.as_mut()?.look(index))),
             _ => None,
         };
@@ -334,12 +350,12 @@ impl<'a> Socket<'a> {
             state if is_open(state) => return Err(ListenError::InvalidState),
             _ => {}
         }
-        let index = match &self.host {
+        let index = match &self.place.host {
             Some(host) => Some(begin_listening(host, local, self.options)?),
             None => None,
         };
         self.reset();
-        self.index = index;
+        self.place.index = index;
         self.begin = if index.is_none() { Some(begin_listening) } else { None };
         self.listen_endpoint = local;
         self.wake_all();
@@ -368,12 +384,12 @@ impl<'a> Socket<'a> {
         if remote.port == 0 || remote.addr.is_unspecified() || is_local_none {
             return Err(ConnectError::Unaddressable);
         }
-        match &self.host {
+        match &self.place.host {
             Some(host) => assert!(host.is(&cx.0), "the context is another interface's"),
             None => self.join(&cx.0),
         }
         self.reset();
-        self.index = Some(cx.0.whole(|inner| {
+        self.place.index = Some(cx.0.whole(|inner| {
             let (now, options) = (inner.now, self.options);
             let (table, host) = table_of(inner)?;
             table.connect(host, now, (local, remote), options)
@@ -397,7 +413,7 @@ impl<'a> Socket<'a> {
     fn end(&mut self, end: fn(&mut Table, usize)) {
         self.begin = None;
         if self.is_listening() {
-            self.let_go();
+            self.place.let_go();
         }
         self.call(end);
         self.wake_all();
@@ -457,7 +473,7 @@ impl<'a> Socket<'a> {
     }
 
     fn rooms(&self) -> Option<(usize, usize)> {
-        self.host.as_ref()?.whole(|inner| Some(inner.tcp.as_mut()?.table().rooms()))
+        self.place.host.as_ref()?.whole(|inner| Some(inner.tcp.as_mut()?.table().rooms()))
     }
 
     /// How many octets aren't acknowledged. Once it is closed, as many as there were then, until all are.
@@ -560,7 +576,7 @@ impl<'a> Socket<'a> {
         F: FnOnce(&'b mut [u8]) -> (usize, R),
     {
         let count = self.lend(usize::MAX)?;
-        let Socket { host, index, buffer, .. } = self;
+        let Socket { place: Place { host, index }, buffer, .. } = self;
         let (size, result) = f(&mut buffer[..count]);
         assert!(size <= count, "more was taken than there is");
         if let (Some(host), Some(index)) = (host, *index) {
