@@ -611,18 +611,21 @@ static unsigned answered_beside(unsigned pings, unsigned forged, int in_its_name
 
 static void forged_neighbors(void) {
     static const unsigned rates[] = {30, 60, 100, 1000};
+    room = 64;
     unsigned many = answered_beside(10, 10, 0), known = answered_beside(10, 10, 1);
     room = 4;
     unsigned few = answered_beside(10, 10, 0);
-    room = 0;
+    room = 64;
     printf("100 forged neighbours a second, guard %s: %u of 600 pings of a neighbour are answered, %u with room for four; in its own name: %u\n",
            guarded ? "on" : "off", many, few, known);
     wants("a neighbour that is known is served with a guard, or with room", many >= 580 && (guarded ? few >= 580 : few <= 100));
     for (unsigned i = 0; i < sizeof rates / sizeof rates[0]; i++) {
         unsigned answered = answered_beside(1, rates[i], 0);
         printf("%u forged neighbours a second, guard %s: %u of 60 pings, one a second, are answered\n", rates[i], guarded ? "on" : "off", answered);
-        if (rates[i] < 64) wants("all are, since fewer are forged between two of them than there is room for", answered == 60);
+        wants("all are if fewer are forged between two of them than there is room for, and with a guard all but the first",
+              rates[i] < 64 ? answered == 60 : guarded ? answered >= 59 : answered == 0);
     }
+    room = 0;
 }
 
 /* The same in the name of a neighbour that is pinned, which a guard alone can do: how many pings are answered to it. */
@@ -754,7 +757,8 @@ static void send_advertisement(iface *host, uint8_t last) {
     must("receive", iface_receive(host, now, frame, sizeof frame, out, sizeof out, &n));
 }
 
-/* Advertisements of a hundred routers in ten seconds: how many are routes of a host that takes them. */
+/* Advertisements of a hundred routers in ten seconds, and then a neighbour, and a hundred more: how many are routes of a host that
+ * takes them, and whether the neighbour is still known. */
 static void router_flood(void) {
     iface host = IFACE_NONE;
     struct iface_config config;
@@ -767,14 +771,17 @@ static void router_flood(void) {
     iface_config_init(&config);
     config.guard.on = guarded, config.slaac = 1, config.hardware_address[0] = 2, config.hardware_address[5] = 1;
     must("host", iface_new(&host, &config));
-    must("address", iface_add_address(&host, &own, 64));
-    for (unsigned i = 0; i < 100; i++, now += SECOND / 10) {
-        send_advertisement(&host, (uint8_t)(100 + i));
+    must("address", iface_add_address(&host, &own, 64)), own = v4(1), must("address", iface_add_address(&host, &own, 24));
+    for (unsigned i = 0; i < 200; i++, now += SECOND / 10) {
+        if (i == 100) send_arp(&host, 2, 2);
+        send_advertisement(&host, (uint8_t)(50 + i));
         must("next", iface_next(&host, now, frame, sizeof frame, &n));
     }
+    unsigned known = entries_of(&host, 2);
     while (iface_route_at(&host, routes, &network, &prefix_len, &router, &until) == IFACE_OK) routes++;
-    printf("advertisements of 100 routers in ten seconds, guard %s: %u are routes\n", guarded ? "on" : "off", routes);
-    wants("one is, with a guard", routes == (guarded ? 1 : 4));
+    printf("advertisements of 100 routers in ten seconds, guard %s: %u are routes, and after 100 more %u of 1 neighbour is known\n",
+           guarded ? "on" : "off", routes, known);
+    wants("as many are as there is room for, and the neighbour stays with a guard alone", routes == 4 && known == guarded);
     must("free", iface_free(&host));
 }
 
@@ -907,7 +914,7 @@ int main(void) {
     spoofed_datagrams();
     absent_neighbor_first();
     neighbors_in_turn();
-    many_neighbors(8, 1, 0, 1), many_neighbors(60, 0, 0, 1), many_neighbors(60, 1, 128, 1);
+    many_neighbors(8, 1, 0, 1), many_neighbors(60, 0, 0, 1), many_neighbors(60, 1, 0, 1);
     many_neighbors(5, 0, 4, 0), many_neighbors(8, 1, 4, 0);
     bursts(1514, 3000), bursts(1514, 4000), bursts(1114, 4000);
     long_behind_short();

@@ -186,7 +186,8 @@ static void some_config(struct iface_config *c) {
     c->frame_len = below(4) ? LONGEST : 589 + below(927), c->patience = below(4) ? c->patience : 0;
     if (below(8) == 0) c->medium = (uint8_t)below(3), c->checksums.udp = (uint8_t)below(5), c->start = (int64_t)word();
     c->guard.on = (uint8_t)below(4), c->guard.fragments = (uint8_t)below(2), c->guard.longest_error = below(4);
-    c->guard.defend = below(2) * 10000000;
+    c->guard.defend = below(2) * 10000000, c->guard.strangers_stay = below(2) * 20000000;
+    c->guard.turns = (uint8_t)below(2), c->guard.reports = (uint8_t)below(2), c->guard.routers = (uint8_t)below(2);
 }
 
 static void some_streams(struct iface_streams_config *c) {
@@ -829,11 +830,11 @@ static void recovers(struct world *w, int64_t now) {
 }
 
 int main(int argc, char **argv) {
-    int episodes = argc > 1 ? atoi(argv[1]) : 300;
+    int episodes = argc > 1 ? atoi(argv[1]) : 600;
     seed = argc > 2 ? strtoull(argv[2], NULL, 0) | 1 : 69;
     heap.refuse_at = (unsigned)NEVER;
     for (int i = 0; i < episodes; i++) episode();
-    if (episodes >= 100) wants("connections, leases, names, datagrams", established > 0 && leased > 0 && found > 0 && datagrams > 0, 1);
+    if (episodes >= 600) wants("connections, leases, names, datagrams", established > 0 && leased > 0 && found > 0 && datagrams > 0, 1);
     printf("fuzz: %d episodes, %lu calls, of which %lu were refused memory at %lu places, and %lu went on without\n", episodes, calls, refused,
            places, gone_on);
     printf("fuzz: connections were seen %lu times, leases %lu, names %lu, datagrams %lu; %lu checks: %lu wrong\n", established, leased, found,

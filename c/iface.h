@@ -37,7 +37,7 @@ enum iface_code {
                                 checksum, a control of a segment, a hop limit of 0 */
     IFACE_NO_MEMORY = 4,     /* malloc or realloc refused */
     IFACE_BAD_MTU = 5,       /* frame_len: not 590 to 1514 on Ethernet, 576 to 1514 without hardware addresses */
-    IFACE_NOT_UNICAST = 6,   /* a hardware address or an own address that can't be one */
+    IFACE_NOT_UNICAST = 6,   /* a hardware address, an own address or a server that can't be one */
     IFACE_BAD_MOMENT = 7,    /* a moment below 0 or above 2^62, that of a host's start, a route's end and a hold too */
     IFACE_BAD_ADDRESS = 8,   /* a destination that is unspecified, a group that is none, a socket's own that is no host's */
     IFACE_NOT_THERE = 9,     /* no such address, route or query, no own address; the medium has no hardware addresses */
@@ -64,7 +64,7 @@ enum iface_code {
 /* The version of this header, an octet each: 0.14.0, and the header's number, which grows with each change of a call or
  * a structure. iface_new refuses a library of another one; a program that compares it with iface_version() before its
  * first call learns of that earlier. */
-#define IFACE_VERSION 0x000e0007u
+#define IFACE_VERSION 0x000e0008u
 
 /* The room that iface_receive and iface_next need for a frame, in octets. */
 #define IFACE_FRAME_ROOM 1514
@@ -151,25 +151,31 @@ struct iface_rate {
     uint32_t at_once;
 };
 
-/* The guard in front of a host on Ethernet: what it drops before the host sees it, and which answers to strangers it holds
- * back. Each rule has its switch; a rate is off by an interval of 0. A comment ends with what iface_config_init sets. A
- * neighbour is expected if its hardware address is known, or if the host asked for it last, within three seconds. */
+/* The guard in front of a host on Ethernet: what it drops before the host sees it, what it leaves of what a frame changed, and
+ * which answers to strangers it holds back. Each rule has its switch; a rate is off by an interval of 0. A comment ends with
+ * what iface_config_init sets.
+ *
+ * A neighbour is confirmed if its entry ends later than that of a stranger would who comes now. While fewer than half of the
+ * entries are confirmed, a neighbour's packet confirms it, and so does its answer to a request of the host. An entry that isn't
+ * confirmed gives way to others before one that is. */
 struct iface_guard {
-    struct iface_rate neighbors;    /* ARP packets for own addresses and neighbour messages of those that aren't
-                                       expected: 500,000 and 8 */
-    struct iface_rate discoveries;  /* packets to own addresses, other than of UDP and TCP, from those of own networks
-                                       that aren't known: 2,000,000 and 1 */
-    struct iface_rate queries;      /* queries of IGMP and MLD, and none about 224.0.0.1 or ff02::1: 1,000,000 and 1 */
     struct iface_rate echo_replies; /* echo replies of either ICMP: 0 and 0 */
     struct iface_rate errors;       /* errors of either ICMP (RFC 4443, 2.4): 10,000 and 10 */
     struct iface_rate resets;       /* resets of TCP: 10,000 and 10 */
-    uint32_t routers;               /* for so many microseconds after a router was heard as another one than before, no
-                                       other is; 0 sets no bound: 60,000,000 */
+    uint32_t strangers_stay;        /* how long a neighbour is known that isn't confirmed, in microseconds; 0: as long as any
+                                       other, which is 60 s: 20,000,000 */
     uint8_t on;                     /* 0: there is no guard, as without hardware addresses: 1 */
     uint8_t own_addresses;          /* not 0: drops what claims an own address for another hardware address than the own one
                                        (RFC 5227, 2.4), or comes from one by another: 1 */
     uint8_t loops;                  /* not 0: drops datagrams of UDP from port 7, 13, 17 or 19 to a port below 1024: 1 */
     uint8_t fragments;              /* not 0: drops fragments: 0 */
+    uint8_t turns;                  /* not 0: while a socket waits for its neighbour, no frame has the host ask for its sender
+                                       within three seconds after one did, unless a socket asked since, or who was asked
+                                       for is known: 1 */
+    uint8_t reports;                /* not 0: a query of IGMP or MLD doesn't take the place of an answer that waits, if that
+                                       one has still to report the same, and no later, or if the query is about 224.0.0.1 or
+                                       ff02::1: 1 */
+    uint8_t routers;                /* not 0: an advertisement from which no prefix and no router is learnt leaves the neighbours: 1 */
     uint32_t longest_error;         /* an error may be so many times as long as the frame that it answers; 0 sets no bound: 3 */
     uint32_t defend;                /* a claim of an own IPv4 address that is dropped is answered by an announcement of it (RFC 5227,
                                        2.4 c), unless one was in so many microseconds before; 0 announces nothing: 0 */
@@ -231,10 +237,6 @@ struct iface_drops {
     uint64_t own_address;  /* messages that claim an own address */
     uint64_t own_source;   /* packets from an own address */
     uint64_t pinned;       /* messages that tell another hardware address of a pinned neighbour */
-    uint64_t new_neighbor; /* by the rate `neighbors` */
-    uint64_t discovery;    /* by the rate `discoveries` */
-    uint64_t query;        /* by the rate `queries`, or about all hosts */
-    uint64_t router;       /* advertisements of other routers */
     uint64_t fragment;
     uint64_t loops;
     uint64_t echo_reply;   /* held back */
@@ -244,7 +246,7 @@ struct iface_drops {
 
 /* ---- hosts ---- */
 
-/* Writes what most programs want: frames of 1514 octets on Ethernet, 8 sockets, 64 neighbours, no addresses from routers,
+/* Writes what most programs want: frames of 1514 octets on Ethernet, 8 sockets, 128 neighbours, no addresses from routers,
  * a patience of 3 s (three requests, a second apart: RFC 4861, 10), 10 s for fragments, and a guard. The start is 0, the
  * seed is 0, and the hardware address all zeros: set the last two. */
 void iface_config_init(struct iface_config *config);
@@ -616,9 +618,11 @@ uint32_t iface_dhcp_free(iface_dhcp *client, iface *host);
  * and in one call at a time. It goes with one host.
  *
  * A query has a UDP socket of its own as long as it waits, at a random port from 49152 on: as many places for sockets have to be
- * free. Each server has ten seconds in turn, and is asked after 0, 1, 3 and 7 of them. Memory is taken when the client is made, when
- * its servers are set, and for the socket of a query, whose memory is freed with it. A program that calls none of these is linked
- * without any of it by --gc-sections. */
+ * free. The servers are asked one behind the other, and then again, from that on which answered last: each has two seconds to
+ * answer, three when it is asked for the second time, and five from then on. One that fails or refuses has no more time (RFC 1034,
+ * 5.3.3). Ten seconds for each server after it began a query has failed. Memory is taken when the client is made, when its servers
+ * are set, and for the socket of a query, whose memory is freed with it. A program that calls none of these is linked without any of
+ * it by --gc-sections. */
 
 /* A handle, which owns a client or none. Its fields are the library's. */
 typedef struct iface_dns {
@@ -644,11 +648,12 @@ enum iface_dns_state {
     IFACE_DNS_PENDING = 0,          /* it waits for an answer */
     IFACE_DNS_FOUND = 1,            /* the name has addresses */
     IFACE_DNS_NO_SUCH_NAME = 2,     /* there is no such name (RCODE 3) */
-    IFACE_DNS_SERVER_FAILURE = 3,   /* the server failed, or refused: any other RCODE but 0 */
-    IFACE_DNS_TRUNCATED = 4,        /* the answer didn't fit in one message (TC) */
+    IFACE_DNS_SERVER_FAILURE = 3,   /* all servers failed, or refused: any other RCODE but 0 */
+    IFACE_DNS_TRUNCATED = 4,        /* the answer didn't fit in one message (TC), and what did has no address */
     IFACE_DNS_NO_ADDRESS = 5,       /* the name has no address of the type that was asked for */
     IFACE_DNS_TOO_MANY_ALIASES = 6, /* the name is an alias of an alias, and so on more than eight times */
-    IFACE_DNS_TIMED_OUT = 7         /* no server answered */
+    IFACE_DNS_TIMED_OUT = 7,        /* no server answered */
+    IFACE_DNS_FOUND_TRUNCATED = 8   /* the name has addresses, in an answer that didn't fit in one message (TC): it may have others */
 };
 
 /* A query, and what it found. */
@@ -661,16 +666,18 @@ struct iface_dns_answer {
  * and ports of queries come from it, and who doesn't know it can't tell the next ones from those before (RFC 5452, 9.2). `servers`
  * is an array of IFACE_DNS_SERVERS addresses, in the order in which they are asked. Those of version 0, as IFACE_ANY, are left out;
  * so the servers of a lease may be handed over as they are.
- * HAS_CLIENT, BAD_ARGUMENT (a server whose version is neither 0, 4 nor 6), NO_MEMORY. */
+ * HAS_CLIENT, BAD_ARGUMENT (a server whose version is neither 0, 4 nor 6), NOT_UNICAST (a server that can't be one), NO_MEMORY. */
 uint32_t iface_dns_new(iface_dns *dns, uint32_t queries, const uint64_t *key, const struct iface_address *servers);
 
 /* Sets the servers, as iface_dns_new has them, in place of those before. Queries that wait go on with the new ones: each asks the
- * one whose turn it is, and no answer of another counts; without a server they time out. BAD_ARGUMENT, NO_CLIENT, NO_MEMORY. */
+ * one whose turn it is, and no answer of another counts; without a server they time out. BAD_ARGUMENT, NO_CLIENT, NOT_UNICAST,
+ * NO_MEMORY. */
 uint32_t iface_dns_servers(iface_dns *dns, const struct iface_address *servers);
 
 /* Starts a query for a name, as "www.example.com" with 15: `length` octets, of which a dot at the end is left out. Labels between
  * dots have 1 to 63 octets of any value, and the name is at most 253 octets long (RFC 1035, 2.3.4). `query_type` is of
- * enum iface_dns_type. Writes the query's number, the least that names none. The query stays until it is cancelled.
+ * enum iface_dns_type. Writes the query's number, the least that names none. The query stays until it is cancelled. A name that is an
+ * address in text, as "192.0.2.1" or "2001:db8::1", asks nobody: its query has the result at once.
  * BAD_ARGUMENT (the type), NO_CLIENT, NO_HOST, BAD_MOMENT, BAD_NAME (a label that is empty or too long, or too long a name), NO_SERVER,
  * TABLE_FULL (each number names a query; all sockets are open), NO_MEMORY. */
 uint32_t iface_dns_start(iface_dns *dns, iface *host, int64_t now, const char *name, size_t length, uint32_t query_type,
@@ -723,8 +730,8 @@ struct iface_streams_config {
     uint8_t number_key[32];    /* a secret of random octets, by which initial numbers can't be guessed (RFC 6528) */
     uint64_t table_key[2];     /* another one, by which nobody chooses ends that are slow to find */
     uint64_t keep_alive;       /* how long nothing arrives before a peer is probed; 0 for never: 0 */
-    uint64_t timeout;          /* how long what was sent may stay unacknowledged, which is asked each time before it is sent
-                                  again; 0 for twelve tries: 0 */
+    uint64_t timeout;          /* how long a peer may leave what was sent unanswered, and unacknowledged while its window has room
+                                  for it; 0 for twelve tries: 0 */
     uint64_t ack_delay;        /* how long an acknowledgement of octets in order may wait: 10,000 */
     uint64_t shortest_timeout; /* the shortest time after which something is sent again: 200,000 */
     uint64_t time_wait;        /* how long TIME-WAIT lasts: 60,000,000. All of these are in microseconds */
@@ -819,12 +826,13 @@ uint32_t iface_stream_connect(iface_streams *tcp, iface *host, int64_t now, cons
 
 /* All calls below answer NO_SOCKET if the name names no connection. */
 
-/* Queues the first octets, as many as there is room for, and writes how many: 0 once the program closed, or the connection is gone. */
+/* Queues the first octets, as many as there is room for, and writes how many: 0 once the program closed, or the connection is gone.
+ * Where it is 0, iface_streams_poll_at says what it said before. */
 uint32_t iface_stream_send(iface_streams *tcp, const struct iface_stream *stream, const uint8_t *octets, size_t length,
                            size_t *count);
 
 /* Takes the octets that came, in order and as many as there is room for, and writes how many: 0 where none came, and where no more
- * come, which iface_stream_state tells apart. */
+ * come, which iface_stream_state tells apart. Where it is 0, iface_streams_poll_at says what it said before. */
 uint32_t iface_stream_receive(iface_streams *tcp, const struct iface_stream *stream, uint8_t *out, size_t room,
                               size_t *count);
 
@@ -881,11 +889,11 @@ const char *iface_strerror(uint32_t code);
 
 #if defined(__STDC_VERSION__) && __STDC_VERSION__ >= 201112L
 _Static_assert(sizeof(struct iface_address) == 17 && sizeof(struct iface_endpoint) == 20, "as the library lays them out");
-_Static_assert(sizeof(struct iface_config) == 152 && sizeof(iface) == 16, "as the library lays them out");
+_Static_assert(sizeof(struct iface_config) == 136 && sizeof(iface) == 16, "as the library lays them out");
 _Static_assert(sizeof(struct iface_cidr) == 18 && sizeof(struct iface_counts) == 32, "as the library lays them out");
 _Static_assert(sizeof(struct iface_queue) == 20 && sizeof(struct iface_checksums) == 5, "as the library lays them out");
-_Static_assert(sizeof(struct iface_rate) == 8 && sizeof(struct iface_guard) == 64, "as the library lays them out");
-_Static_assert(sizeof(struct iface_drops) == 96, "as the library lays them out");
+_Static_assert(sizeof(struct iface_rate) == 8 && sizeof(struct iface_guard) == 44, "as the library lays them out");
+_Static_assert(sizeof(struct iface_drops) == 64, "as the library lays them out");
 _Static_assert(sizeof(struct iface_lease) == 112 && sizeof(iface_dhcp) == 16, "as the library lays them out");
 _Static_assert(sizeof(struct iface_dns_answer) == 72 && sizeof(iface_dns) == 16, "as the library lays them out");
 _Static_assert(sizeof(struct iface_streams_config) == 120 && sizeof(iface_streams) == 16, "as the library lays them out");

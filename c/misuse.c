@@ -39,7 +39,7 @@ static void fill_in_good(void) {
     iface_config_init(&good);
     wants("usual frames", good.frame_len == 1514 && good.medium == IFACE_ETHERNET && good.sockets == 8 && good.slaac == 0, 1);
     wants("no bound of bursts", good.burst, 0);
-    wants("usual neighbours", good.neighbors, 64);
+    wants("usual neighbours", good.neighbors, 128);
     wants("usual addresses, routes and groups", good.addresses == 8 && good.routes == 8 && good.groups == 16, 1);
     wants("what is usually kept of routers", good.prefixes == 4 && good.routers == 4, 1);
     wants("usual packets in fragments", good.fragmented, 8);

@@ -103,7 +103,7 @@ static void wants_state(iface_dns *dns, size_t query, uint32_t state) {
     struct iface_dns_answer got = {.state = 77};
     must("result", iface_dns_result(dns, query, &got));
     wants("its state", got.state, state);
-    if (state != IFACE_DNS_FOUND)
+    if (state != IFACE_DNS_FOUND && state != IFACE_DNS_FOUND_TRUNCATED)
         for (int i = 0; i < IFACE_DNS_ADDRESSES; i++) wants("no address", got.addresses[i].version, 0);
 }
 
@@ -148,6 +148,8 @@ static void takes_answers(void) {
     answered("no record", GOOD, 0, "", 0, IFACE_DNS_NO_ADDRESS);
     answered("no such name", NO_NAME, 0, "", 0, IFACE_DNS_NO_SUCH_NAME);
     answered("truncated", CUT, 0, "", 0, IFACE_DNS_TRUNCATED);
+    answered("truncated, and not whole", CUT, 2, RECORD_1, sizeof RECORD_1 - 1, IFACE_DNS_TRUNCATED);
+    answered("truncated with an address", CUT, 1, RECORD_1, sizeof RECORD_1 - 1, IFACE_DNS_FOUND_TRUNCATED);
     answered("failed", FAILED, 0, "", 0, IFACE_DNS_SERVER_FAILURE);
     answered("refused", REFUSED, 0, "", 0, IFACE_DNS_SERVER_FAILURE);
     /* what isn't whole isn't counted: a record that runs out of the message, a pointer that goes forward, an address of three octets */
@@ -205,27 +207,28 @@ static void ignores_forged(void) {
     unmake(&host, &dns);
 }
 
-/* Without answers each server is asked after 0, 1, 3 and 7 seconds of its ten, and then the query has failed. */
+/* Without answers one server is asked behind the other, after two seconds, again after three, and after five, and then the query has
+ * failed. */
 static void gives_up(void) {
     iface host = IFACE_NONE;
     iface_dns dns = IFACE_DNS_NONE;
-    const int64_t after[] = {0, 1, 3, 7};
+    const int64_t after[] = {0, 2, 4, 7, 10, 15};
     int64_t at = 77, begin = 5 * second;
     uint8_t first[IP_QUESTION + sizeof WWW - 1];
     make(&host, &dns, 2);
     must("due", iface_dns_poll_at(&dns, &at)), wants("never", at == IFACE_NEVER, 1);
     size_t query = start(&host, &dns, begin, "www.example.com", IFACE_DNS_A);
     must("due", iface_dns_poll_at(&dns, &at)), wants("at once", at <= begin, 1);
-    for (int i = 0; i < 8; i++) {
-        int64_t now = begin + (i / 4 * 10 + after[i % 4]) * second;
+    for (int i = 0; i < 6; i++) {
+        int64_t now = begin + after[i] * second;
         if (i) {
             must("due", iface_dns_poll_at(&dns, &at)), wants("its instant", (uint64_t)at, (uint64_t)now);
             must("poll", iface_dns_poll(&dns, &host, now - 1)), wants("not before", next_frame(&host, now - 1), 0);
         }
-        wants_query(&host, &dns, now, (uint8_t)(100 + i / 4), ASKS_WWW);
+        wants_query(&host, &dns, now, (uint8_t)(100 + i % 2), ASKS_WWW);
         if (i == 0) memcpy(first, query_sent, sizeof first);
         /* the first server's answer comes when the second one has been asked */
-        if (i == 4) wants("no answer", arrives(&host, &dns, now, answer(first, sizeof first, GOOD, 1, RECORD_1, sizeof RECORD_1 - 1)), 0);
+        if (i == 1) wants("no answer", arrives(&host, &dns, now, answer(first, sizeof first, GOOD, 1, RECORD_1, sizeof RECORD_1 - 1)), 0);
         wants_state(&dns, query, IFACE_DNS_PENDING);
     }
     must("due", iface_dns_poll_at(&dns, &at)), wants("its end", (uint64_t)at, (uint64_t)(begin + 20 * second));
@@ -234,6 +237,27 @@ static void gives_up(void) {
     wants("no query", next_frame(&host, at), 0);
     must("due", iface_dns_poll_at(&dns, &at)), wants("never", at == IFACE_NEVER, 1);
     unmake(&host, &dns);
+}
+
+/* A server that fails or refuses isn't waited for, and the one that answers is asked first from then on (RFC 1034, 5.3.3). */
+static void moves_on(void) {
+    iface host = IFACE_NONE;
+    iface_dns dns = IFACE_DNS_NONE;
+    const size_t asked = IP_QUESTION + sizeof WWW - 1;
+    const char *const refusals[] = {"\201\201", FAILED, REFUSED};
+    for (size_t i = 0; i < sizeof refusals / sizeof *refusals; i++) {
+        make(&host, &dns, 2);
+        size_t query = start(&host, &dns, 0, "www.example.com", IFACE_DNS_A);
+        wants_query(&host, &dns, 0, 100, ASKS_WWW);
+        size_t length = answer(query_sent, asked, refusals[i], 0, "", 0), n = 77;
+        must("receive", iface_receive(&host, 0, frame, length, out, sizeof out, &n)), wants("no answer", n, 0);
+        wants_query(&host, &dns, 0, 101, ASKS_WWW), wants_state(&dns, query, IFACE_DNS_PENDING);
+        wants("no answer", arrives(&host, &dns, 0, answer(query_sent, asked, GOOD, 1, RECORD_1, sizeof RECORD_1 - 1)), 0);
+        wants_address(&dns, query, 0, 4, "\300\0\2\1");
+        must("cancel", iface_dns_cancel(&dns, &host, query));
+        start(&host, &dns, second, "www.example.com", IFACE_DNS_A), wants_query(&host, &dns, second, 101, ASKS_WWW);
+        unmake(&host, &dns);
+    }
 }
 
 /* Two at once, each by its own port and number, and each with its own answer. */
@@ -310,6 +334,31 @@ static void reads_names(void) {
     unmake(&host, &dns);
 }
 
+/* A name that is an address in text has it at once, and nobody is asked. */
+static void reads_addresses(void) {
+    iface host = IFACE_NONE;
+    iface_dns dns = IFACE_DNS_NONE;
+    const struct { const char *text; uint32_t type, state; uint8_t version; const char *octets; } cases[] = {
+        {"192.0.2.9", IFACE_DNS_A, IFACE_DNS_FOUND, 4, "\300\0\2\11"},
+        {"2001:db8::7", IFACE_DNS_AAAA, IFACE_DNS_FOUND, 6, "\40\1\15\270\0\0\0\0\0\0\0\0\0\0\0\7"},
+        {"192.0.2.9", IFACE_DNS_AAAA, IFACE_DNS_NO_ADDRESS, 0, ""},
+        {"2001:db8::7", IFACE_DNS_A, IFACE_DNS_NO_ADDRESS, 0, ""},
+    };
+    make(&host, &dns, 1);
+    for (size_t i = 0; i < sizeof cases / sizeof *cases; i++) {
+        struct iface_queue received, to_send;
+        size_t query = start(&host, &dns, 0, cases[i].text, cases[i].type);
+        wants_state(&dns, query, cases[i].state);
+        if (cases[i].version) wants_address(&dns, query, 0, cases[i].version, cases[i].octets);
+        must("poll", iface_dns_poll(&dns, &host, 0)), wants("no query", next_frame(&host, 0), 0);
+        wants("its socket is closed", iface_queues(&host, 0, &received, &to_send), IFACE_NO_SOCKET);
+        must("cancel", iface_dns_cancel(&dns, &host, query));
+    }
+    /* a number more is a name */
+    start(&host, &dns, 0, "192.0.2.300", IFACE_DNS_A), wants_query(&host, &dns, 0, 100, "\003" "192" "\1" "0" "\1" "2" "\003" "300" "\0\0\1\0\1", 17);
+    unmake(&host, &dns);
+}
+
 /* Servers that are set later, as those of a lease. */
 static void changes_servers(void) {
     iface host = IFACE_NONE;
@@ -325,10 +374,14 @@ static void changes_servers(void) {
     servers[0] = v4(101), servers[1] = none, must("another", iface_dns_servers(&dns, servers));
     wants("no answer", arrives(&host, &dns, 0, answer(query_sent, IP_QUESTION + sizeof WWW - 1, GOOD, 1, RECORD_1, sizeof RECORD_1 - 1)), 0);
     wants_state(&dns, query, IFACE_DNS_PENDING);
-    wants_query(&host, &dns, second, 101, ASKS_WWW);
+    wants_query(&host, &dns, 2 * second, 101, ASKS_WWW);
     servers[2].version = 5, wants("a version", iface_dns_servers(&dns, servers), IFACE_BAD_ARGUMENT);
+    /* 0.0.0.0, 224.0.0.1, 255.255.255.255 and ff02::1 are no servers */
+    const struct iface_address wrong[] = {{4, {0}}, {4, {224, 0, 0, 1}}, {4, {255, 255, 255, 255}}, {6, {0xff, 2, [15] = 1}}, {6, {0}}};
+    for (size_t i = 0; i < sizeof wrong / sizeof *wrong; i++)
+        servers[2] = wrong[i], wants("no server", iface_dns_servers(&dns, servers), IFACE_NOT_UNICAST);
     servers[0] = servers[2] = none, must("none", iface_dns_servers(&dns, servers));
-    must("poll", iface_dns_poll(&dns, &host, second)), wants_state(&dns, query, IFACE_DNS_TIMED_OUT);
+    must("poll", iface_dns_poll(&dns, &host, 2 * second)), wants_state(&dns, query, IFACE_DNS_TIMED_OUT);
     unmake(&host, &dns);
 }
 
@@ -398,9 +451,11 @@ int main(void) {
     takes_ipv6();
     ignores_forged();
     gives_up();
+    moves_on();
     asks_two_at_once();
     asks_from_one_port();
     reads_names();
+    reads_addresses();
     changes_servers();
     refuses();
     printf("names: %d checks: %d wrong\n", checks, failures);

@@ -491,7 +491,7 @@ static void ask_names(void) {
     given = 253, MUST(dns_start);
     answer_names(NO_NAME, 0, "", 0);
     MUST(dns_cancel), number = IFACE_DNS_AAAA, given = 253, MUST(dns_start);
-    for (int i = 0; i < 8; i++) MUST(dns_poll), MUST(dns_poll_at), MUST(next), now = at;
+    for (int i = 0; i < 6; i++) MUST(dns_poll), MUST(dns_poll_at), MUST(next), now = at;
     MUST(dns_poll), MUST(dns_cancel), MUST(dns_free), MUST(free);
 }
 

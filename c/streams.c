@@ -269,6 +269,11 @@ static void connects(void) {
     wants("the end is acknowledged", end.ack, p.seq), wants_state(&tcp, &s, IFACE_TIME_WAIT);
     must("receive", iface_stream_receive(&tcp, &s, octets, sizeof octets, &n)), wants("all octets", n == 10 && memcmp(octets, "an answer!", 10) == 0, 1);
     wants_nothing("nothing more", &tcp, &host, second);
+    /* a reset changes nothing in TIME-WAIT (RFC 1337) */
+    come(&host, 2 * second, &p, RST, ""), wants_nothing("no answer", &tcp, &host, 2 * second), wants_state(&tcp, &s, IFACE_TIME_WAIT);
+    /* calls that move no octet change nothing */
+    must("receive", iface_stream_receive(&tcp, &s, octets, sizeof octets, &n)), wants("no octets", n, 0);
+    must("send", iface_stream_send(&tcp, &s, octets, 0, &n)), wants("no octets", n, 0);
     must("due", iface_streams_poll_at(&tcp, &at)), wants("a minute later", (uint64_t)at, (uint64_t)(61 * second));
     wants_nothing("nothing more", &tcp, &host, 61 * second);
     wants_state(&tcp, &s, IFACE_CLOSED), wants_ending(&tcp, &s, IFACE_NOT_CUT);
@@ -308,15 +313,42 @@ static void cuts(void) {
     wants("of number 0", reset.seq, 0), wants("of the SYN", reset.ack, 301);
     come(&host, second, &p, ACK, "x"), reset = turn(&tcp, &host, second);
     wants("a reset", reset.flags, RST), wants("of the number", reset.seq, 7);
-    /* nobody answers: the SYN is sent again after a second, and given up after its timeout (RFC 6298 2.1, RFC 9293 3.8.3) */
+    /* nobody answers: the SYN is sent again after a second, and given up when its timeout ends (RFC 6298 2.1, RFC 9293 3.8.3) */
     must("connect", iface_stream_connect(&tcp, &host, second, &local, &at_peer, &s));
-    must("timeout", iface_stream_set_timeout(&tcp, &s, 3000000));
+    must("timeout", iface_stream_set_timeout(&tcp, &s, 2500000));
     uint32_t number = turn(&tcp, &host, second).seq;
     must("due", iface_streams_poll_at(&tcp, &at)), wants("a second later", (uint64_t)at, (uint64_t)(2 * second));
     wants_nothing("not before", &tcp, &host, at - 1);
     reset = turn(&tcp, &host, at), wants("the SYN again", reset.flags == SYN && reset.seq == number, 1);
-    wants_nothing("given up", &tcp, &host, 10 * second);
+    must("due", iface_streams_poll_at(&tcp, &at)), wants("at the end", (uint64_t)at, (uint64_t)(second + 2500000));
+    wants_nothing("not before", &tcp, &host, at - 1), wants_state(&tcp, &s, IFACE_SYN_SENT);
+    wants_nothing("given up", &tcp, &host, at);
     wants_state(&tcp, &s, IFACE_CLOSED), wants_ending(&tcp, &s, IFACE_TIMED_OUT);
+    must("free", iface_streams_free(&tcp, &host)), must("free", iface_free(&host));
+}
+
+/* A thousand SYNs in a second, with another number or with the peer's own, at a handshake that is under way: at most ten are
+ * answered, and the handshake goes on (RFC 9293 3.10.7.4, RFC 5961 7). */
+static void answers_few(uint32_t step) {
+    iface host = IFACE_NONE;
+    iface_streams tcp = IFACE_STREAMS_NONE;
+    struct iface_stream s = {77, 77};
+    make(&host, 4), make_streams(&tcp, &host, 8);
+    size_t listener = listen_at(&tcp, 7, 4);
+    struct peer half = {4000, 7, 1000, 0};
+    come(&host, second, &half, SYN, "");
+    struct segment answer = turn(&tcp, &host, second);
+    wants("a SYN that acknowledges", answer.flags, SYN | ACK), half.ack = answer.seq + 1;
+    uint32_t answers = 0;
+    for (uint32_t i = 0; i < 1000; i++) {
+        int64_t now = second + 999 * (int64_t)i;
+        struct peer forged = {4000, 7, 1000 + i * step, 0};
+        come(&host, now, &forged, SYN, "");
+        for (answer = turn(&tcp, &host, now); answer.length != (size_t)-1; answer = turn(&tcp, &host, now)) answers++;
+    }
+    wants("some answers, and few", answers > 0 && answers <= 10, 1);
+    half.seq++, come(&host, 2 * second - 1, &half, ACK, ""), wants_nothing("nothing more", &tcp, &host, 2 * second - 1);
+    must("accept", iface_stream_accept(&tcp, listener, &s)), wants_state(&tcp, &s, IFACE_ESTABLISHED);
     must("free", iface_streams_free(&tcp, &host)), must("free", iface_free(&host));
 }
 
@@ -527,6 +559,8 @@ int main(void) {
     serves();
     connects();
     cuts();
+    answers_few(0);
+    answers_few(77);
     serves_eight();
     fills_a_room();
     passes_routers();

@@ -20,7 +20,7 @@ import reference
 
 TOP = pathlib.Path(__file__).resolve().parent.parent
 PAGES = [TOP / "README.md", *sorted((TOP / "docs").glob("*.md")), TOP / "rust" / "README.md", TOP / "rust" / "API.md",
-         TOP / "c" / "targets" / "README.md"]
+         TOP / "c" / "targets" / "README.md", TOP / "c" / "RELEASE.md"]
 # pages whose lines are as long as their authors like
 OF_ANY_LENGTH = {"API.md"}
 

@@ -78,7 +78,7 @@ static void connect_to_name(struct small *s) {
     must("names", iface_dns_result(&s->names, s->query, &answer));
     if (answer.state == IFACE_DNS_PENDING) return;
     must("names", iface_dns_cancel(&s->names, &s->host, s->query));
-    if (answer.state != IFACE_DNS_FOUND) {
+    if (answer.state != IFACE_DNS_FOUND && answer.state != IFACE_DNS_FOUND_TRUNCATED) {
         fprintf(stderr, "%s: %s\n", s->page.host, reasons[answer.state]);
         s->phase = FAILED;
         return;
