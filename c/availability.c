@@ -65,7 +65,7 @@ static void make(iface *host, uint8_t last, uint32_t frame_len) {
     struct iface_config config;
     struct iface_address own = v4(last);
     iface_config_init(&config);
-    config.guard.on = guarded, config.guard.echo_replies = (struct iface_rate){10000, 10};
+    config.guard.on = guarded, config.guard.echo_requests = (struct iface_rate){10000, 10};
     config.seed = last, config.frame_len = frame_len, config.hardware_address[0] = 2, config.hardware_address[5] = last;
     if (room > 0) config.neighbors = room;
     if (slots > 0) config.fragmented = slots;

@@ -87,7 +87,7 @@ int main(int argc, char **argv) {
     iface host = IFACE_NONE;
     struct iface_config config;
     iface_config_init(&config);
-    config.guard.on = argc < 5 || atol(argv[4]) != 0, config.guard.echo_replies.interval = 0;
+    config.guard.on = argc < 5 || atol(argv[4]) != 0, config.guard.echo_requests.interval = 0;
     config.seed = 1, config.sockets = (uint32_t)count, config.hardware_address[0] = 2, config.hardware_address[5] = 1;
     struct iface_address own = {4, {192, 168, 69, 1}};
     struct iface_endpoint local = {{0, {0}}, 4000}, remote = {{4, {192, 168, 69, 100}}, 5000}, from;

@@ -47,8 +47,8 @@ struct peer {
 
 static struct peer peers[MOST_PEERS];
 static unsigned peer_count;
-/* Whether they send datagrams, rather than pings. */
-static int send_datagrams;
+/* To which port they send datagrams; 0: they ping. */
+static uint16_t port;
 
 /* How many strangers the host asked for and was answered. */
 static uint32_t strangers_asked;
@@ -140,11 +140,11 @@ static size_t ping(uint8_t v6, uint32_t from) {
 }
 
 /* A datagram of one octet from an address. Over IPv4 its checksum is 0: none. */
-static size_t datagram(struct iface_address source, uint32_t from, uint16_t port) {
+static size_t datagram(struct iface_address source, uint32_t from, uint16_t to) {
     uint8_t v6 = source.version == 6;
     ethernet(from, v6 ? 0x86dd : 0x800);
     uint8_t *at = frame + (v6 ? 54 : 34);
-    put_16(at, 9999), put_16(at + 2, port), put_16(at + 4, 9), at[8] = 'x';
+    put_16(at, 9999), put_16(at + 2, to), put_16(at + 4, 9), at[8] = 'x';
     size_t n = packet(v6, source, address_of(v6, OWN), 17, 9);
     if (v6) put_16(at + 6, checksum_of(sum_of(17 + 9, frame + 22, 32), at, 9));
     return n;
@@ -168,7 +168,7 @@ static struct peer *peer_of(uint32_t id) {
 
 static void speak(uint32_t id) {
     struct peer *peer = peer_of(id);
-    give(send_datagrams ? datagram(address_of(peer->v6, id), id, ECHO_PORT) : ping(peer->v6, id));
+    give(port != 0 ? datagram(address_of(peer->v6, id), id, port) : ping(peer->v6, id));
 }
 
 static void see_answer(struct peer *peer) {
@@ -189,7 +189,7 @@ static void see(const uint8_t *sent, size_t length) {
         if (peer_of(target) || target >= 2 * STRANGERS) give(message((uint8_t)v6, 2, target, OWN));
     } else if (type == 0x806 || (icmp && sent[54] == 136)) {
         if (peer_of(to) && !peer_of(to)->is_told) peer_of(to)->is_told = 1, speak(to);
-    } else if (sent[v6 ? 20 : 23] == 17 || (icmp && sent[54] == 129) || (!v6 && sent[23] == 1 && sent[34] == 0)) {
+    } else if (sent[v6 ? 20 : 23] == 17 || (icmp && (sent[54] == 129 || sent[54] == 1)) || (!v6 && sent[23] == 1 && sent[34] % 3 == 0)) {
         see_answer(peer_of(to));
     } else if (see_report != NULL) {
         see_report(sent, length);
@@ -254,6 +254,11 @@ static void absent_pings(uint8_t v6, uint32_t k) {
 
 static void closed_port(uint8_t v6, uint32_t k) {
     give(datagram(address_of(v6, STRANGERS + k), STRANGERS + k, CLOSED_PORT));
+}
+
+/* From beyond the gateway, which is the first peer. */
+static void closed_port_from_afar(uint8_t v6, uint32_t k) {
+    give(datagram(far_address(v6, STRANGERS + k), PEERS, CLOSED_PORT));
 }
 
 static void open_port(uint8_t v6, uint32_t k) {
@@ -366,7 +371,8 @@ struct flow {
     int64_t lasts;     /* so long is counted */
     uint8_t are_known; /* the host knows them before the flood */
     uint8_t are_told;  /* they know where the host is, so they never ask */
-    uint8_t datagrams, both, slaac;
+    uint8_t both, slaac;
+    uint16_t port;     /* they send datagrams to it; 0: they ping */
     void (*begin)(uint8_t v6), (*tick)(uint8_t v6, int64_t since);
 };
 
@@ -501,7 +507,7 @@ static void begin(unsigned way, uint8_t v6) {
     must("address", iface_add_address(&host, &own4, 8)), must("address", iface_add_address(&host, &own6, 64));
     must("socket", iface_udp_open(&host, &at, &rooms, &echo_socket));
     at.port = OTHER_PORT, must("socket", iface_udp_open(&host, &at, &rooms, &other_socket));
-    wanted = answered = 0, strangers_asked = 0, see_report = NULL, send_datagrams = flow->datagrams, peer_count = flow->peers;
+    wanted = answered = 0, strangers_asked = 0, see_report = NULL, port = flow->port, peer_count = flow->peers;
     for (uint32_t i = 0; i < peer_count; i++)
         peers[i] = (struct peer){.v6 = flow->both ? i % 2 : v6, .is_told = flow->are_told};
     settle();
@@ -586,9 +592,9 @@ static void line(const struct flow *of, const struct flood *flood, unsigned fami
 static const struct flow newcomers = {.name = "20 newcomers", .peers = 20, .apart = 59 * TICK, .every = SECOND, .times = 10, .lasts = 66 * SECOND},
     known = {.name = "20 known, each 5 s", .peers = 20, .apart = 5 * TICK, .every = 5 * SECOND, .lasts = 60 * SECOND, .are_known = 1},
     rarely = {.name = "20 known, each 30 s", .peers = 20, .apart = 30 * TICK, .every = 30 * SECOND, .lasts = 120 * SECOND, .are_known = 1},
-    crowd = {.name = "datagrams of 100, each second", .peers = 100, .apart = TICK / 5, .every = SECOND, .lasts = 30 * SECOND, .are_known = 1, .datagrams = 1},
+    crowd = {.name = "datagrams of 100, each second", .peers = 100, .apart = TICK / 5, .every = SECOND, .lasts = 30 * SECOND, .are_known = 1, .port = ECHO_PORT},
     rare_crowd = {.name = "datagrams of 100, each 30 s", .peers = 100, .apart = 6 * TICK, .every = 30 * SECOND, .lasts = 120 * SECOND,
-                  .are_known = 1, .datagrams = 1},
+                  .are_known = 1, .port = ECHO_PORT},
     silent = {.name = "pings of 40 who never ask", .peers = 40, .apart = TICK / 2, .every = SECOND, .lasts = 60 * SECOND, .are_told = 1},
     by_gateway = {.name = "pings by a gateway, each 0.5 s", .peers = 1, .lasts = 60 * SECOND, .are_known = 1, .begin = set_gateway, .tick = far_pings},
     own = {.name = "own datagrams to 24 new neighbours", .peers = 24, .lasts = 59 * SECOND, .tick = own_datagram},
@@ -596,6 +602,8 @@ static const struct flow newcomers = {.name = "20 newcomers", .peers = 20, .apar
     service = {.name = "10 known, each 5 s, routers on", .peers = 10, .apart = 10 * TICK, .every = 5 * SECOND, .lasts = 60 * SECOND, .are_known = 1, .slaac = 1},
     queries = {.name = "true queries for all groups", .lasts = 120 * SECOND, .begin = join, .tick = true_queries},
     repeated = {.name = "true queries of IGMP, 6 s apart", .lasts = 120 * SECOND, .begin = join, .tick = repeated_queries},
+    errors = {.name = "errors to 20 known, each 5 s", .peers = 20, .apart = 5 * TICK, .every = 5 * SECOND, .lasts = 60 * SECOND, .are_known = 1,
+              .port = CLOSED_PORT, .begin = set_gateway},
     pieces = {.name = "long datagrams of 4 known", .peers = 4, .lasts = 30 * SECOND, .are_known = 1, .tick = long_datagrams},
     storm60 = {.name = "60 of both families begin at once", .peers = 120, .every = SECOND, .times = 10, .lasts = 15 * SECOND, .both = 1},
     storm200 = {.name = "200 of both families begin at once", .peers = 400, .every = SECOND, .times = 10, .lasts = 15 * SECOND, .both = 1},
@@ -609,6 +617,7 @@ static const struct flood of_new = {"forged claims of ever new addresses", claim
     far = {"solicitations from beyond a router", from_afar, 60 * SECOND, 0},
     absent = {"pings of absent ones", absent_pings, 10 * SECOND, 0},
     closed = {"datagrams to a closed port", closed_port, 10 * SECOND, 0},
+    far_closed = {"datagrams from afar to a closed port", closed_port_from_afar, 10 * SECOND, 0},
     open = {"datagrams of absent ones", open_port, 10 * SECOND, 0},
     lost = {"datagrams without a way back", without_route, 10 * SECOND, 0},
     advertised = {"rogue routers", rogues, 0, 0},
@@ -635,6 +644,7 @@ static void other_lines(void) {
     line(&routed, &advertised, OVER_6), line(&service, &advertised, OVER_6);
     line(&routed, &for_a_second, OVER_6), line(&service, &for_a_second, OVER_6);
     for (unsigned i = 0; i < sizeof asked_groups / sizeof asked_groups[0]; i++) line(&queries, &asked_groups[i], OVER_BOTH);
+    line(&errors, &far_closed, OVER_BOTH);
     line(&pieces, &strays, OVER_4);
 }
 

@@ -159,26 +159,27 @@ struct iface_rate {
  * entries are confirmed, a neighbour's packet confirms it, and so does its answer to a request of the host. An entry that isn't
  * confirmed gives way to others before one that is. */
 struct iface_guard {
-    struct iface_rate echo_replies; /* echo replies of either ICMP: 0 and 0 */
-    struct iface_rate errors;       /* errors of either ICMP (RFC 4443, 2.4): 10,000 and 10 */
-    struct iface_rate resets;       /* resets of TCP: 10,000 and 10 */
-    uint32_t strangers_stay;        /* how long a neighbour is known that isn't confirmed, in microseconds; 0: as long as any
-                                       other, which is 60 s: 20,000,000 */
-    uint8_t on;                     /* 0: there is no guard, as without hardware addresses: 1 */
-    uint8_t own_addresses;          /* not 0: drops what claims an own address for another hardware address than the own one
-                                       (RFC 5227, 2.4), or comes from one by another: 1 */
-    uint8_t loops;                  /* not 0: drops datagrams of UDP from port 7, 13, 17 or 19 to a port below 1024: 1 */
-    uint8_t fragments;              /* not 0: drops fragments: 0 */
-    uint8_t turns;                  /* not 0: while a socket waits for its neighbour, no frame has the host ask for its sender
-                                       within three seconds after one did, unless a socket asked since, or who was asked
-                                       for is known: 1 */
-    uint8_t reports;                /* not 0: a query of IGMP or MLD doesn't take the place of an answer that waits, if that
-                                       one has still to report the same, and no later, or if the query is about 224.0.0.1 or
-                                       ff02::1: 1 */
-    uint8_t routers;                /* not 0: an advertisement from which no prefix and no router is learnt leaves the neighbours: 1 */
-    uint32_t longest_error;         /* an error may be so many times as long as the frame that it answers; 0 sets no bound: 3 */
-    uint32_t defend;                /* a claim of an own IPv4 address that is dropped is answered by an announcement of it (RFC 5227,
-                                       2.4 c), unless one was in so many microseconds before; 0 announces nothing: 0 */
+    struct iface_rate echo_requests; /* echo requests of either ICMP, and fragments of ICMP, that the host gets to see: 0 and 0 */
+    struct iface_rate errors;        /* errors of either ICMP (RFC 4443, 2.4). While a rate of these or of resets is used up,
+                                        confirmed neighbours have as many: 10,000 and 10 */
+    struct iface_rate resets;        /* resets of TCP, likewise: 10,000 and 10 */
+    uint32_t strangers_stay;         /* how long a neighbour is known that isn't confirmed, in microseconds; 0: as long as any
+                                        other, which is 60 s: 20,000,000 */
+    uint8_t on;                      /* 0: there is no guard, as without hardware addresses: 1 */
+    uint8_t own_addresses;           /* not 0: drops what claims an own address for another hardware address than the own one
+                                        (RFC 5227, 2.4), or comes from one by another: 1 */
+    uint8_t loops;                   /* not 0: drops datagrams of UDP from port 7, 13, 17 or 19 to a port below 1024: 1 */
+    uint8_t fragments;               /* not 0: drops fragments: 0 */
+    uint8_t turns;                   /* not 0: while a socket waits for its neighbour, no frame has the host ask for its sender
+                                        within three seconds after one did, unless a socket asked since, or who was asked
+                                        for is known: 1 */
+    uint8_t reports;                 /* not 0: a query of IGMP or MLD doesn't take the place of an answer that waits, if that
+                                        one has still to report the same, and no later, or if the query is about 224.0.0.1 or
+                                        ff02::1: 1 */
+    uint8_t routers;                 /* not 0: an advertisement from which no prefix and no router is learnt leaves the neighbours: 1 */
+    uint32_t longest_error;          /* an error may be so many times as long as the frame that it answers; 0 sets no bound: 3 */
+    uint32_t defend;                 /* a claim of an own IPv4 address that is dropped is answered by an announcement of it (RFC 5227,
+                                        2.4 c), unless one was in so many microseconds before; 0 announces nothing: 0 */
 };
 
 /* How a host is to be made: iface_config_init fills it in. */
@@ -239,7 +240,7 @@ struct iface_drops {
     uint64_t pinned;       /* messages that tell another hardware address of a pinned neighbour */
     uint64_t fragment;
     uint64_t loops;
-    uint64_t echo_reply;   /* held back */
+    uint64_t echo_request; /* echo requests, and fragments of ICMP, beyond their rate */
     uint64_t error;        /* held back */
     uint64_t reset;        /* held back */
 };
@@ -525,8 +526,8 @@ uint32_t iface_guard_drops(iface *host, struct iface_drops *drops);
 uint32_t iface_guard_conflict(iface *host, uint8_t *hardware_address, int64_t *at);
 
 /* Pins a neighbour to a hardware address, six octets, in place of the one that it is pinned to. The guard drops ARP packets and
- * neighbour messages of it that tell another one, as long as it is on. The host learns the address from the next message that
- * tells this one, and asks for it as for any other. BAD_ARGUMENT (the version), NOT_UNICAST (one of the two), TABLE_FULL (eight
+ * neighbour messages of it that tell another one, as long as it is on. An entry with another one expires at once. The host learns
+ * the address from the next message that tells this one, and asks for it as for any other. BAD_ARGUMENT (the version), NOT_UNICAST (one of the two), TABLE_FULL (eight
  * others are pinned). */
 uint32_t iface_guard_pin(iface *host, const struct iface_address *address, const uint8_t *hardware_address);
 

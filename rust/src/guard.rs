@@ -59,11 +59,11 @@ pub struct Guard {
     pub reports: bool,
     /// Whether an advertisement from which no prefix and no router is learnt leaves the neighbours.
     pub routers: bool,
-    /// Echo replies of either ICMP: without a rate by the usual guard.
-    pub echo_replies: Option<Rate>,
-    /// Errors of either ICMP (RFC 4443 2.4).
+    /// Echo requests of either ICMP, and fragments of ICMP, that the host gets to see: without a rate by the usual guard.
+    pub echo_requests: Option<Rate>,
+    /// Errors of either ICMP (RFC 4443 2.4). While a rate of these or of resets is used up, confirmed neighbours have as many.
     pub errors: Option<Rate>,
-    /// Resets of TCP.
+    /// Resets of TCP, likewise.
     pub resets: Option<Rate>,
     /// How many times as long an error may be as the frame that it answers: three by the usual guard. `None` sets no bound.
     pub longest_error: Option<u32>,
@@ -75,7 +75,7 @@ pub struct Guard {
 impl Guard {
     /// What a configuration has in the place of a guard, where there is none.
     pub(crate) const OFF: sys::iface_guard = sys::iface_guard {
-        echo_replies: sys::iface_rate { interval: 0, at_once: 0 },
+        echo_requests: sys::iface_rate { interval: 0, at_once: 0 },
         errors: sys::iface_rate { interval: 0, at_once: 0 },
         resets: sys::iface_rate { interval: 0, at_once: 0 },
         strangers_stay: 0,
@@ -92,7 +92,7 @@ impl Guard {
 
     pub(crate) fn to_c(self) -> sys::iface_guard {
         sys::iface_guard {
-            echo_replies: Rate::to_c(self.echo_replies),
+            echo_requests: Rate::to_c(self.echo_requests),
             errors: Rate::to_c(self.errors),
             resets: Rate::to_c(self.resets),
             strangers_stay: self.strangers_stay.map_or(0, micros),
@@ -117,7 +117,7 @@ impl Guard {
             turns: guard.turns != 0,
             reports: guard.reports != 0,
             routers: guard.routers != 0,
-            echo_replies: Rate::from_c(guard.echo_replies),
+            echo_requests: Rate::from_c(guard.echo_requests),
             errors: Rate::from_c(guard.errors),
             resets: Rate::from_c(guard.resets),
             longest_error: (guard.longest_error != 0).then_some(guard.longest_error),
@@ -141,8 +141,8 @@ pub struct Drops {
     pub fragment: u64,
     /// Datagrams that could go to and fro for ever.
     pub loops: u64,
-    /// Echo replies that were held back.
-    pub echo_reply: u64,
+    /// Echo requests, and fragments of ICMP, beyond their rate.
+    pub echo_request: u64,
     /// Errors of either ICMP that were held back.
     pub error: u64,
     /// Resets that were held back.
@@ -157,7 +157,7 @@ impl Drops {
             pinned: drops.pinned,
             fragment: drops.fragment,
             loops: drops.loops,
-            echo_reply: drops.echo_reply,
+            echo_request: drops.echo_request,
             error: drops.error,
             reset: drops.reset,
         }

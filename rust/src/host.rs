@@ -1368,7 +1368,7 @@ impl Host {
             pinned: 0,
             fragment: 0,
             loops: 0,
-            echo_reply: 0,
+            echo_request: 0,
             error: 0,
             reset: 0,
         };

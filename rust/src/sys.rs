@@ -2,7 +2,7 @@
 //!
 //! Calling any of it is `unsafe`: the header says what the caller keeps. [`Host`](crate::Host) keeps it.
 //!
-//! Sum of the header: 0x717aa10d4eec9db6
+//! Sum of the header: 0x79403a4c79ee8a37
 #![allow(non_camel_case_types)]
 
 use core::ffi::{c_char, c_void};
@@ -283,11 +283,11 @@ pub struct iface_rate {
 #[repr(C)]
 #[derive(Clone, Copy, Debug)]
 pub struct iface_guard {
-    /// echo replies of either ICMP: 0 and 0
-    pub echo_replies: iface_rate,
-    /// errors of either ICMP (RFC 4443, 2.4): 10,000 and 10
+    /// echo requests of either ICMP, and fragments of ICMP, that the host gets to see: 0 and 0
+    pub echo_requests: iface_rate,
+    /// errors of either ICMP (RFC 4443, 2.4). While a rate of these or of resets is used up, confirmed neighbours have as many: 10,000 and 10
     pub errors: iface_rate,
-    /// resets of TCP: 10,000 and 10
+    /// resets of TCP, likewise: 10,000 and 10
     pub resets: iface_rate,
     /// how long a neighbour is known that isn't confirmed, in microseconds; 0: as long as any other, which is 60 s: 20,000,000
     pub strangers_stay: u32,
@@ -383,8 +383,8 @@ pub struct iface_drops {
     pub fragment: u64,
     /// `loops`.
     pub loops: u64,
-    /// held back
-    pub echo_reply: u64,
+    /// echo requests, and fragments of ICMP, beyond their rate
+    pub echo_request: u64,
     /// held back
     pub error: u64,
     /// held back
@@ -663,7 +663,7 @@ unsafe extern "C" {
     pub fn iface_guard_drops(host: *mut iface, drops: *mut iface_drops) -> u32;
     /// Writes the hardware address that the last frame came from which the guard dropped as claiming an own address, six octets, and the moment at which it came (RFC 5227, 2.4). NOT_THERE (no such frame came).
     pub fn iface_guard_conflict(host: *mut iface, hardware_address: *mut u8, at: *mut i64) -> u32;
-    /// Pins a neighbour to a hardware address, six octets, in place of the one that it is pinned to. The guard drops ARP packets and neighbour messages of it that tell another one, as long as it is on. The host learns the address from the next message that tells this one, and asks for it as for any other. BAD_ARGUMENT (the version), NOT_UNICAST (one of the two), TABLE_FULL (eight others are pinned).
+    /// Pins a neighbour to a hardware address, six octets, in place of the one that it is pinned to. The guard drops ARP packets and neighbour messages of it that tell another one, as long as it is on. An entry with another one expires at once. The host learns the address from the next message that tells this one, and asks for it as for any other. BAD_ARGUMENT (the version), NOT_UNICAST (one of the two), TABLE_FULL (eight others are pinned).
     pub fn iface_guard_pin(host: *mut iface, address: *const iface_address, hardware_address: *const u8) -> u32;
     /// Pins a neighbour no more. BAD_ARGUMENT, NOT_THERE (it isn't pinned).
     pub fn iface_guard_unpin(host: *mut iface, address: *const iface_address) -> u32;

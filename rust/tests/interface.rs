@@ -58,7 +58,7 @@ fn a_guard_tells_of_conflicts() {
         let usual = config.guard.unwrap();
         assert!(usual.own_addresses && usual.loops && !usual.fragments);
         let rate = Rate { interval: Duration::from_millis(10), at_once: 10 };
-        assert_eq!((usual.echo_replies, usual.errors, usual.resets), (None, Some(rate), Some(rate)));
+        assert_eq!((usual.echo_requests, usual.errors, usual.resets), (None, Some(rate), Some(rate)));
         assert_eq!(usual.strangers_stay, Some(Duration::from_secs(20)));
         assert!(usual.turns && usual.reports && usual.routers);
         if !is_on {

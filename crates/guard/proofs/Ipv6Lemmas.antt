@@ -1,6 +1,6 @@
 -- What passes a guard over IPv6, and what doesn't.
-use Rattle.std.proofs.Common.{◌≡◌, ◌≤◌, ◌+◌, ◌*◌, ◌∙◌, ap, sym, ℕ, zero, suc, ℤ, Bool, true, false, refl, inl, inr, arith, List, [], ◌∷◌, length, pos}
-use Rattle.std.specs.Prelude.{◌⊎◌, is_none, Option, not, ◌||◌, ◌&&◌, ◌==◌, nat_le, nat_lt, slice_get, Some, None, if◌then◌else◌}
+use Rattle.std.proofs.Common.{◌≡◌, ◌≤◌, ◌+◌, ◌∙◌, ap, sym, ℕ, zero, suc, Bool, true, false, refl, inl, inr, arith, List, [], ◌∷◌, length}
+use Rattle.std.specs.Prelude.{◌≢◌, ◌⊎◌, is_none, Option, not, ◌||◌, ◌&&◌, ◌==◌, nat_le, nat_lt, slice_get, Some, None, if◌then◌else◌}
 use Rattle.std.specs.List.{list_any}
 use Rattle.std.proofs.lemmas.Bool.Decides.{nat_tests}
 use Rattle.std.proofs.lemmas.Slice.Eq.{bytes_eq-Decides}
@@ -18,18 +18,18 @@ use Rattle.guard.specs.declared.guard.Guard.{Guard}
 use Rattle.guard.specs.declared.guard.Reason.{Reason}
 use Rattle.guard.specs.declared.guard.Reason.TheVariants as reason
 use Rattle.guard.specs.declared.kind.Kind.TheVariants.{Neighbor, Packet}
-use Rattle.guard.specs.declared.kind.Sort.TheVariants.{Fragment, Loop, Transport, Plain}
+use Rattle.guard.specs.declared.kind.Sort.TheVariants.{Loop, Plain, Transport}
 use Rattle.guard.specs.declared.pins.Pinned.{Pinned}
-use Rattle.guard.specs.Kind.{is_loop, is_small_service, is_transport, kind_of, kind_of_message, message_of, octet_at, packet_of_ipv6, sort_of_ipv6, target_at}
+use Rattle.guard.specs.Kind.{is_loop, is_small_service, kind_of, kind_of_message, message_of, octet_at, sort_of_ipv6, target_at}
 use Rattle.guard.specs.Claim.{comes_back, hardware_at, is_from, is_from_host, message_tells, tells_only}
 use Rattle.guard.specs.Pins.{forbids, is_forbidden}
-use Rattle.guard.specs.Guard.{claims, first_of, is_one_own, is_ordinary, is_ordinary_sort, is_own, is_returned}
-use Rattle.guard.specs.Guard.{is_stolen, refusal_of, refusal_of_claim, refusal_of_packet}
+use Rattle.guard.specs.Guard.{claims, is_one_own, is_ordinary, is_own, is_returned}
+use Rattle.guard.specs.Guard.{is_stolen, refusal_of_claim}
 use Rattle.guard.specs.Laws.{Arrival, passes}
 use Rattle.guard.specs.Ipv6.{AsSource, AsTarget, Behind, BehindOptions, ClaimsOwn, GoesToAndFro, HasMessage, IsAmong, IsIpv6, IsNeighborMessage}
 use Rattle.guard.specs.Ipv6.{IsSentBy, TellsNoOther, source_of}
-use Rattle.guard.specs.Ipv6Laws.{Ipv6LoopsEnd, MessagesPass, OwnMessagesStay, PinnedMessagesStay, StreamsPass}
-use Rattle.guard.proofs.PassLemmas.{any_forbids, both, kind_v6, looping, no_message, not_stolen, or_true}
+use Rattle.guard.specs.Ipv6Laws.{Ipv6LoopsEnd, MessagesPass, OtherMessagesPass, OwnMessagesStay, PinnedMessagesStay, StreamsPass}
+use Rattle.guard.proofs.PassLemmas.{any_forbids, both, kind_v6, looping, not_stolen, or_true}
 use Rattle.guard.proofs.PassLemmas.{ordinary_reason, pinned_by, refused_by_none, same_refl, stolen_by}
 
 -- a test that is false can't be true
@@ -313,3 +313,19 @@ ipv6_loops_end a g drops header goes other =
     let refusal = looping (is_stolen (is_own a.own sender) (comes_back a.hardware a.frame) g) g.drops_loops
     (is_returned sender a.hardware a.frame a.own) drops returned reason.OwnSource in
     rw (loop_kind a.frame header goes, refusal.1) refl
+
+-- another message of ICMPv6 is a packet of no sort that is dropped
+other_kind : (frame : List ℕ) (at : ℕ) → IsIpv6 frame → HasMessage frame at → octet_at frame at ≢ 135 → octet_at frame at ≢ 136 →
+    kind_of frame ≡ Packet (source_of frame) Plain
+other_kind frame at header message solicits advertises =
+    let s : (octet_at frame at == 135) ≡ false = grind (arith, nat_tests) in
+    let a : (octet_at frame at == 136) ≡ false = grind (arith, nat_tests) in
+    let l : nat_lt (length frame) 54 ≡ false = let long = header.whole in grind (arith, nat_tests) in
+    kind_by_message frame at header message ∙ rw (s, a, l) refl
+
+pub other_messages_pass : OtherMessagesPass
+other_messages_pass a g at header message solicits advertises other =
+    let sender = source_of a.frame in
+    let passed = refused_by_none (is_stolen (is_own a.own sender) (comes_back a.hardware a.frame) g) None reason.OwnSource
+    (not_stolen g.keeps_own_addresses (is_own a.own sender) (comes_back a.hardware a.frame) (inl (not_own a.own sender other))) refl in
+    rw (other_kind a.frame at header message solicits advertises, passed) refl

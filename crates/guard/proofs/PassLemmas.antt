@@ -1,6 +1,6 @@
 -- What nobody named passes a guard.
-use Rattle.std.proofs.Common.{◌≡◌, ◌≤◌, ◌+◌, ◌*◌, ◌%◌, ◌∙◌, ap, sym, ℕ, zero, suc, Bool, true, false, refl, inl, inr, arith, List, [], ◌∷◌, length}
-use Rattle.std.specs.Prelude.{◌⊎◌, ◌≢◌, is_none, Option, not, ◌||◌, ◌&&◌, ◌==◌, nat_lt, slice_get, Some, None, if◌then◌else◌}
+use Rattle.std.proofs.Common.{◌≡◌, ◌≤◌, ◌+◌, ◌*◌, ◌∙◌, sym, ℕ, zero, suc, Bool, true, false, refl, inl, inr, arith, List, [], ◌∷◌, length}
+use Rattle.std.specs.Prelude.{◌⊎◌, ◌≢◌, Option, not, ◌||◌, ◌&&◌, ◌==◌, nat_lt, slice_get, Some, None, if◌then◌else◌}
 use Rattle.std.specs.List.{list_any}
 use Rattle.std.proofs.lemmas.Bool.Decides.{nat_tests}
 use Rattle.ip_wire.specs.Octets.{u16_at}
@@ -26,14 +26,14 @@ use Rattle.guard.specs.Claim.{comes_back, hardware_at, is_from_host, tells_only}
 use Rattle.guard.specs.Pins.{forbids, is_forbidden}
 use Rattle.guard.specs.Guard.{first_of, is_ordinary, is_ordinary_sort, is_own, is_returned, is_stolen, reason_of, reason_of_kind}
 use Rattle.guard.specs.Guard.{refusal_of, refusal_of_claim, refusal_of_packet}
-use Rattle.guard.specs.Laws.{Arrival, ArpPasses, LoopsEnd, OwnAddressesStay, PacketsPass, PinnedStay, passes}
+use Rattle.guard.specs.Laws.{ArpPasses, LoopsEnd, OwnAddressesStay, PacketsPass, PinnedStay}
 
 -- the one that three tests choose
 chosen : {A : Type 0} (short arp ip : Bool) (a b c d : A) → short ≡ false → arp ≡ false → ip ≡ true →
     (if short then a else if arp then b else if ip then c else d) ≡ c
 chosen short arp ip a b c d s r i = rw (s, r, i) refl
 
-kind_is : (frame : List ℕ) → 42 ≤ length frame → u16_at frame 12 ≡ 0x0800 →
+pub kind_is : (frame : List ℕ) → 42 ≤ length frame → u16_at frame 12 ≡ 0x0800 →
     kind_of frame ≡ Packet (ipv4_at frame 26) (sort_of_ipv4 frame)
 kind_is frame long type =
     let s : nat_lt (length frame) 42 ≡ false = grind (arith, nat_tests) in
@@ -154,7 +154,7 @@ transport sender hardware frame own g free =
     refused_by_none (is_stolen (is_own own sender) (comes_back hardware frame) g) None reason.OwnSource
     (not_stolen g.keeps_own_addresses (is_own own sender) (comes_back hardware frame) (inl free)) refl
 
-is_transport_sort : (s : Sort) → is_ordinary_sort s ≡ true → s ≡ Transport
+pub is_transport_sort : (s : Sort) → is_ordinary_sort s ≡ true → s ≡ Transport
 is_transport_sort Fragment e = absurd cc
 is_transport_sort Loop e = absurd cc
 is_transport_sort Transport e = refl
@@ -165,24 +165,24 @@ both true true e = (refl, refl)
 both true false e = absurd cc
 both false b e = absurd cc
 
-not_true : (a : Bool) → not a ≡ true → a ≡ false
+pub not_true : (a : Bool) → not a ≡ true → a ≡ false
 not_true false e = refl
 not_true true e = absurd cc
 
 -- its protocol is UDP or TCP
-by_protocol : (fragment loop transport : Bool) →
+pub by_protocol : (fragment loop transport : Bool) →
     (if fragment then Fragment else if loop then Loop else if transport then Transport else Plain) ≡ Transport → transport ≡ true
 by_protocol true loop transport e = absurd cc
 by_protocol false true transport e = absurd cc
 by_protocol false false true e = refl
 by_protocol false false false e = absurd cc
 
-which : (p : ℕ) (tcp udp : Bool) → (p == 6) ≡ tcp → (p == 17) ≡ udp → (tcp || udp) ≡ true → (p ≡ 6) ⊎ (p ≡ 17)
+pub which : (p : ℕ) (tcp udp : Bool) → (p == 6) ≡ tcp → (p == 17) ≡ udp → (tcp || udp) ≡ true → (p ≡ 6) ⊎ (p ≡ 17)
 which p true udp t u or = inl (grind (arith, nat_tests))
 which p false true t u or = inr (grind (arith, nat_tests))
 which p false false t u or = absurd cc
 
-other_protocol : (p q : ℕ) → (p ≡ 6) ⊎ (p ≡ 17) → q ≢ 6 → q ≢ 17 → p ≢ q
+pub other_protocol : (p q : ℕ) → (p ≡ 6) ⊎ (p ≡ 17) → q ≢ 6 → q ≢ 17 → p ≢ q
 other_protocol p q (inl e) six seventeen same = six (sym same ∙ e)
 other_protocol p q (inr e) six seventeen same = seventeen (sym same ∙ e)
 
@@ -206,7 +206,7 @@ kind_v6 frame long type =
     chosen_v6 (nat_lt (length frame) 42) (u16_at frame 12 == 0x0806) (u16_at frame 12 == 0x0800) (u16_at frame 12 == 0x86dd) Other
     (Arp (ipv4_at frame 28)) (Packet (ipv4_at frame 26) (sort_of_ipv4 frame)) (kind_of_ipv6 frame) Other s r i x
 
-packet_v6 : (frame : List ℕ) (message : Option ℕ) (sort : Sort) → message ≡ None → sort ≡ Transport → sort_of_ipv6 frame ≡ sort →
+pub packet_v6 : (frame : List ℕ) (message : Option ℕ) (sort : Sort) → message ≡ None → sort ≡ Transport → sort_of_ipv6 frame ≡ sort →
     kind_at message (Ipv6 (address_at frame 22)) frame ≡ packet_of_ipv6 (Ipv6 (address_at frame 22)) frame Transport
 packet_v6 frame message sort m t is = rw (m, is, t) refl
 

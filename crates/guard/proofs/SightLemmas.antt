@@ -1,9 +1,9 @@
 -- What passes a guard, passes unaltered and in order.
-use Rattle.std.proofs.Common.{◌≡◌, ◌∙◌, ap, ℕ, true, false, refl, pos, List, [], ◌∷◌}
+use Rattle.std.proofs.Common.{◌≡◌, ◌∙◌, ap, ℕ, true, false, refl, pos, List, ◌∷◌}
 use Rattle.guard.specs.Laws.{Arrival}
 use Rattle.guard.specs.Watch.{admits, after_arrival}
 use Rattle.guard.specs.declared.watch.Watch.{Watch}
-use Rattle.guard.specs.GuardedDevice.Laws.{AreOf, Dropped, End, Kept, Left, None, OffChangesNothing, PassInOrder, Passed, Sees, frames_of}
+use Rattle.guard.specs.GuardedDevice.Laws.{Dropped, End, Kept, Left, None, OffChangesNothing, PassInOrder, Passed, Sees, frames_of}
 
 pub pass_in_order : PassInOrder
 pass_in_order w w' arrived seen (None v) = End
@@ -13,7 +13,7 @@ pass_in_order w w' arrived seen (Dropped v v' a later rest dropped sees) =
     Left a.frame rest (frames_of later) (pass_in_order (after_arrival (pos a.at) a.frame a.hardware a.own v) v' later rest sees)
 
 -- a guard that is off admits a frame, and stays
-admits_off : (w : Watch) (a : Arrival) → w.is_on ≡ false → admits a.frame a.hardware a.own w ≡ true
+admits_off : (w : Watch) (a : Arrival) → w.is_on ≡ false → admits (pos a.at) a.frame a.hardware a.own w ≡ true
 admits_off w a off = rw off refl
 
 stays_off : (w : Watch) (a : Arrival) → w.is_on ≡ false → after_arrival (pos a.at) a.frame a.hardware a.own w ≡ w

@@ -1,18 +1,20 @@
 -- Which answers to strangers' frames a host may send.
-use Rattle.std.specs.Prelude.{ℕ, ◌+◌, ◌*◌, ◌/◌, ◌%◌, nat_lt, ◌==◌, ◌||◌, ◌&&◌, not, Bool, List, length, Option, Some, None, if◌then◌else◌}
+use Rattle.std.specs.Prelude.{ℕ, ◌+◌, ◌*◌, ◌/◌, ◌%◌, nat_lt, ◌==◌, ◌||◌, ◌&&◌, not, Bool, true, false, List, length, Option, Some, None, if◌then◌else◌}
+use Rattle.net_base.specs.declared.bucket.Bucket.{Bucket}
 use Rattle.ip_wire.specs.Octets.{u16_at}
 use Rattle.guard.specs.declared.answers.Answer.{Answer}
-use Rattle.guard.specs.declared.answers.Answer.TheVariants.{EchoReply, Error, Reset}
+use Rattle.guard.specs.declared.answers.Answer.TheVariants.{Error, Reset}
 use Rattle.guard.specs.declared.answers.Answers.{Answers}
 use Rattle.guard.specs.Kind.{octet_at, message_of}
-use Rattle.guard.specs.Guard.{reason_unless, has_room, after_passing}
+use Rattle.guard.specs.Guard.{has_room, after_passing}
 
--- a hundred in a second, and ten at once; errors at most three times as long as what they answer
+-- a hundred in a second, and ten at once, and as many for known neighbours; errors at most three times as long as what they answer
 abbrev pub new_answers : Answers
 new_answers = record {
-  echo_replies = record { interval = 10000; depth = 10; full_at = 0 };
   errors = record { interval = 10000; depth = 10; full_at = 0 };
+  known_errors = record { interval = 10000; depth = 10; full_at = 0 };
   resets = record { interval = 10000; depth = 10; full_at = 0 };
+  known_resets = record { interval = 10000; depth = 10; full_at = 0 };
   longest_error = 3;
 }
 
@@ -22,7 +24,7 @@ reset_if flags = if flags / 4 % 2 == 1 then Some Reset else None
 
 -- by the type of a message (RFC 792)
 abbrev pub answer_of_icmp : ℕ → Option Answer
-answer_of_icmp type = if type == 0 then Some EchoReply else if (type == 3) || (type == 11) || (type == 12) then Some Error else None
+answer_of_icmp type = if (type == 3) || (type == 11) || (type == 12) then Some Error else None
 
 abbrev pub payload_of : List ℕ → ℕ
 payload_of frame = 14 + octet_at frame 14 % 16 * 4
@@ -35,10 +37,7 @@ answer_of_ipv4 frame =
 
 -- by the type of a message (RFC 4443 2.1)
 abbrev pub answer_of_icmpv6 : ℕ → Option Answer
-answer_of_icmpv6 type =
-    if type == 129 then Some EchoReply
-    else if (type == 1) || (type == 2) || (type == 3) || (type == 4) then Some Error
-    else None
+answer_of_icmpv6 type = if (type == 1) || (type == 2) || (type == 3) || (type == 4) then Some Error else None
 
 abbrev pub answer_at : Option ℕ → List ℕ → Option Answer
 answer_at None frame = None
@@ -58,17 +57,38 @@ answer_of frame =
 abbrev pub is_too_long : (answered len times : ℕ) → Bool
 is_too_long answered len times = not (times == 0) && nat_lt (answered * times) len
 
--- what may not be sent of so many octets, to answer a frame of so many; none: it may
-abbrev pub refused : ℕ → Option Answer → (answered len : ℕ) → Answers → Option Answer
-refused now None answered len g = None
-refused now (Some EchoReply) answered len g = reason_unless (has_room now g.echo_replies) EchoReply
-refused now (Some Error) answered len g =
-    if is_too_long answered len g.longest_error then Some Error else reason_unless (has_room now g.errors) Error
-refused now (Some Reset) answered len g = reason_unless (has_room now g.resets) Reset
+-- a rate of answers to whomever is used up: known neighbours have rates of their own then
+abbrev pub is_short : ℕ → Answers → Bool
+is_short now g = not (has_room now g.errors && has_room now g.resets)
 
-abbrev pub after_answer : ℕ → Option Answer → (answered len : ℕ) → Answers → Answers
-after_answer now None answered len g = g
-after_answer now (Some EchoReply) answered len g = record g { echo_replies = after_passing now g.echo_replies }
-after_answer now (Some Error) answered len g =
-    if is_too_long answered len g.longest_error then g else record g { errors = after_passing now g.errors }
-after_answer now (Some Reset) answered len g = record g { resets = after_passing now g.resets }
+-- the rate of an answer, to a known neighbour or to somebody else
+abbrev pub rate_of : Answer → (known : Bool) → Answers → Bucket
+rate_of Error true g = g.known_errors
+rate_of Error false g = g.errors
+rate_of Reset true g = g.known_resets
+rate_of Reset false g = g.resets
+
+-- the answer takes a token of its rate
+abbrev pub after_rate : ℕ → Answer → (known : Bool) → Answers → Answers
+after_rate now Error true g = record g { known_errors = after_passing now g.known_errors }
+after_rate now Error false g = record g { errors = after_passing now g.errors }
+after_rate now Reset true g = record g { known_resets = after_passing now g.known_resets }
+after_rate now Reset false g = record g { resets = after_passing now g.resets }
+
+-- an error is too long for what it answers
+abbrev pub is_oversized : Answer → (answered len : ℕ) → Answers → Bool
+is_oversized Error answered len g = is_too_long answered len g.longest_error
+is_oversized Reset answered len g = false
+
+-- an answer of so many octets, to a frame of so many, is held back
+abbrev pub is_held_back : ℕ → Answer → (answered len : ℕ) → (known : Bool) → Answers → Bool
+is_held_back now a answered len known g = is_oversized a answered len g || not (has_room now (rate_of a known g))
+
+-- which answer may not be sent; none: it may
+abbrev pub refused : ℕ → Option Answer → (answered len : ℕ) → (known : Bool) → Answers → Option Answer
+refused now None answered len known g = None
+refused now (Some a) answered len known g = if is_held_back now a answered len known g then Some a else None
+
+abbrev pub after_answer : ℕ → Option Answer → (answered len : ℕ) → (known : Bool) → Answers → Answers
+after_answer now None answered len known g = g
+after_answer now (Some a) answered len known g = if is_oversized a answered len g then g else after_rate now a known g

@@ -1,5 +1,5 @@
 -- The defence of an own IPv4 address (RFC 5227 2.4 c).
-use Rattle.std.specs.Prelude.{ℕ, ℤ, ◌+◌, ◌==◌, ◌||◌, ◌&&◌, not, nat_lt, nat_le, Bool, true, false, List, [], ◌∷◌, length, slice_index_or, Option, Some, None, if◌then◌else◌}
+use Rattle.std.specs.Prelude.{ℕ, ℤ, ◌+◌, ◌==◌, ◌||◌, ◌&&◌, not, nat_lt, nat_le, Bool, true, List, [], ◌∷◌, length, slice_index_or, Option, Some, None, if◌then◌else◌}
 use Rattle.std.specs.Int.{to_be_bytes, w32}
 use Rattle.ip_wire.specs.Octets.{u16_at, u32_at}
 use Rattle.ip_address.specs.declared.ethernet_address.EthernetAddress.{EthernetAddress}
@@ -7,17 +7,17 @@ use Rattle.ip_address.specs.declared.hardware.HardwareAddress.{HardwareAddress}
 use Rattle.ip_address.specs.declared.hardware.HardwareAddress.TheVariants.{Ethernet, Ip}
 use Rattle.ip_address.specs.declared.ipv4.Ipv4Address.{Ipv4Address}
 use Rattle.guard.specs.declared.defence.Defence.{Defence}
-use Rattle.guard.specs.Guard.{micros}
+use Rattle.guard.specs.Guard.{is_ahead, micros}
 
 -- the address of the sender of an ARP packet: octets 28 to 31 of the frame (RFC 826)
 abbrev pub claimed_in : List ℕ → Option Ipv4Address
 claimed_in frame =
     if nat_lt (length frame) 42 || not (u16_at frame 12 == 0x0806) then None else Some (record { bits = u32_at frame 28 })
 
--- the interval has passed since the last one
+-- the interval has passed since the last one, or the clock has gone back
 abbrev pub has_passed : ℤ → (interval : ℕ) → Option ℕ → Bool
 has_passed now interval None = true
-has_passed now interval (Some last) = nat_le (last + interval) (micros now)
+has_passed now interval (Some last) = nat_le (last + interval) (micros now) || is_ahead (micros now) last
 
 -- a claim would be answered; an interval of 0 defends nothing
 abbrev pub is_due : ℤ → Defence → Bool

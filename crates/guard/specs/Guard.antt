@@ -1,5 +1,5 @@
 -- Which frames a host gets to see.
-use Rattle.std.specs.Prelude.{ℕ, ◌+◌, ◌==◌, ◌&&◌, ◌||◌, not, nat_le, nat_lt, length, Bool, true, false, ℤ, pos, negsuc, List, Option, Some, None, if◌then◌else◌}
+use Rattle.std.specs.Prelude.{ℕ, ◌+◌, ◌*◌, ◌==◌, ◌&&◌, ◌||◌, not, nat_le, nat_lt, length, Bool, true, false, ℤ, pos, negsuc, List, Option, Some, None, if◌then◌else◌}
 use Rattle.std.specs.List.{list_any}
 use Rattle.ip_address.specs.Cidr.{address_of, contains}
 use Rattle.ip_address.specs.declared.ip.IpAddress.{IpAddress}
@@ -19,7 +19,7 @@ use Rattle.guard.specs.declared.guard.Guard.{Guard}
 use Rattle.guard.specs.declared.guard.Reason.{Reason}
 use Rattle.guard.specs.declared.guard.Reason.TheVariants as reason
 use Rattle.guard.specs.Claim.{comes_back, is_from_host}
-use Rattle.guard.specs.Kind.{ipv4_at, kind_of, sort_of_ipv4, sort_of_ipv6}
+use Rattle.guard.specs.Kind.{ipv4_at, is_echo, kind_of, sort_of_ipv4, sort_of_ipv6}
 use Rattle.ip_wire.specs.Octets.{u16_at}
 use Rattle.ip_wire.specs.Ipv6Packet.{address_at}
 use Rattle.ip_address.specs.declared.ip.IpAddress.TheVariants.{Ipv6}
@@ -36,6 +36,7 @@ new_guard = record {
   keeps_own_addresses = true;
   drops_fragments = false;
   drops_loops = true;
+  echo_requests = record { interval = 0; depth = 0; full_at = 0 };
   strangers_stay = 20000000;
   takes_turns = true;
   keeps_reports = true;
@@ -55,9 +56,13 @@ is_one_own own (Some a) = is_own own a
 abbrev pub is_near : List IpCidr → IpAddress → Bool
 is_near own a = list_any (λ c. contains c a) own
 
+-- an instant is ahead by more than a minute, so that the clock has gone back since
+abbrev pub is_ahead : ℕ → ℕ → Bool
+is_ahead now t = nat_lt (now + 60000000) t
+
 -- a request was sent at most three seconds ago
 abbrev pub is_recent : ℤ → Asked → Bool
-is_recent now asked = nat_le (micros now) (asked.at + 3000000)
+is_recent now asked = nat_le (micros now) (asked.at + 3000000) && not (is_ahead (micros now) asked.at)
 
 -- the host asked for somebody last, and not long ago
 abbrev pub was_asked : ℤ → IpAddress → Option Asked → Bool
@@ -73,12 +78,16 @@ was_response now known (Some asked) = asked.in_response && is_recent now asked &
 abbrev pub is_turn_of_sockets : ℤ → Neighbors → Guard → Bool
 is_turn_of_sockets now known g = g.takes_turns && was_response now known g.asked
 
+-- a bucket that an empty one would be behind by more than a minute is full: the clock has gone back
+abbrev pub at_clock : ℕ → Bucket → Bucket
+at_clock now b = if is_ahead (now + b.depth * b.interval) b.full_at then record b { full_at = now } else b
+
 -- a rate whose interval is 0 bounds nothing
 abbrev pub has_room : ℕ → Bucket → Bool
-has_room now b = (b.interval == 0) || has_token now b
+has_room now b = (b.interval == 0) || has_token now (at_clock now b)
 
 abbrev pub after_passing : ℕ → Bucket → Bucket
-after_passing now b = if b.interval == 0 then b else after_take now b
+after_passing now b = if b.interval == 0 then b else after_take now (at_clock now b)
 
 abbrev pub reason_unless : {R : Type 0} → Bool → R → Option R
 reason_unless passes why = if passes then None else Some why
@@ -129,6 +138,13 @@ reason_of_kind Other hardware frame own g = None
 -- of a frame
 abbrev pub reason_of : List ℕ → Option HardwareAddress → List IpCidr → Guard → Option Reason
 reason_of frame hardware own g = reason_of_kind (kind_of frame) hardware frame own g
+
+-- a request for an echo, or a fragment that may belong to one, takes a token, and is dropped without one
+abbrev pub refusal_of_echo : ℤ → List ℕ → Guard → Option Reason
+refusal_of_echo now frame g = if is_echo frame then reason_unless (has_room (micros now) g.echo_requests) reason.EchoRequest else None
+
+abbrev pub after_echo : ℤ → List ℕ → Guard → Guard
+after_echo now frame g = if is_echo frame then record g { echo_requests = after_passing (micros now) g.echo_requests } else g
 
 -- a datagram of UDP or a segment of TCP, of which nothing is asked but who sent it
 abbrev pub is_ordinary_sort : Sort → Bool

@@ -1,5 +1,5 @@
 -- Frames with packets of IPv6, by their octets: 14 of Ethernet, 40 of the header (RFC 8200 3), then the payload.
-use Rattle.std.specs.Prelude.{◌≡◌, ◌≢◌, ◌≤◌, ◌<◌, ◌⊎◌, ◌+◌, ◌*◌, ℕ, true, List, length, slice_get, Some}
+use Rattle.std.specs.Prelude.{◌≡◌, ◌≤◌, ◌<◌, ◌⊎◌, ◌+◌, ◌*◌, ℕ, List, length, slice_get, Some}
 use Rattle.ip_wire.specs.Octets.{u16_at}
 use Rattle.ip_address.specs.Cidr.{address_of}
 use Rattle.ip_address.specs.declared.cidr.IpCidr.{IpCidr}

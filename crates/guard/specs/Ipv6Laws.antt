@@ -1,5 +1,5 @@
 -- What a guard promises over IPv6, whatever frames come.
-use Rattle.std.specs.Prelude.{◌≡◌, ◌⊎◌, ℕ, true, false, slice_get, Some}
+use Rattle.std.specs.Prelude.{◌≡◌, ◌≢◌, ◌⊎◌, ℕ, true, false, slice_get, Some}
 use Rattle.ip_address.specs.declared.ethernet_address.EthernetAddress.{EthernetAddress}
 use Rattle.ip_address.specs.declared.hardware.HardwareAddress.TheVariants.{Ethernet}
 use Rattle.guard.specs.declared.guard.Guard.{Guard}
@@ -28,6 +28,13 @@ MessagesPass =
     (a : Arrival) (g : Guard) (at : ℕ) → IsNeighborMessage a.frame at → (ClaimsOwn a.own a.frame at → ⊥) →
     ((k : ℕ) (h : EthernetAddress) → slice_get g.pins.pairs k ≡ Some (Some (record { address = source_of a.frame; hardware = h })) →
     TellsNoOther h a.frame at) → passes a g ≡ true
+
+-- Any other message of ICMPv6 passes, from whomever and however often it comes, if its source is no own address: advertisements of
+-- routers (RFC 4861 4.2), queries and reports of MLD (RFC 3810), errors and echoes
+abbrev pub OtherMessagesPass : Type 0
+OtherMessagesPass =
+    (a : Arrival) (g : Guard) (at : ℕ) → IsIpv6 a.frame → HasMessage a.frame at → octet_at a.frame at ≢ 135 → octet_at a.frame at ≢ 136 →
+    (IsAmong a.own (source_of a.frame) → ⊥) → passes a g ≡ true
 
 -- A segment of TCP passes, if its source is no own address; and a datagram of UDP that doesn't go to and fro
 abbrev pub StreamsPass : Type 0

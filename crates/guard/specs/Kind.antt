@@ -81,6 +81,28 @@ kind_of frame =
     else if u16_at frame 12 == 0x86dd then kind_of_ipv6 frame
     else Other
 
+-- an echo request is of type 8 (RFC 792); a fragment of ICMP may belong to one
+abbrev pub is_echo_ipv4 : List ℕ → Bool
+is_echo_ipv4 frame =
+    (octet_at frame 23 == 1) && (not (u16_at frame 20 % 0x4000 == 0) || (octet_at frame (14 + octet_at frame 14 % 16 * 4) == 8))
+
+-- of type 128 (RFC 4443 4.1)
+abbrev pub is_echo_at : Option ℕ → List ℕ → Bool
+is_echo_at None frame = false
+is_echo_at (Some at) frame = octet_at frame at == 128
+
+-- what is behind the header of a fragment is told by its first octet (RFC 8200 4.5)
+abbrev pub is_echo_ipv6 : List ℕ → Bool
+is_echo_ipv6 frame = if octet_at frame 20 == 44 then octet_at frame 54 == 58 else is_echo_at (message_of frame) frame
+
+-- a frame has an echo request, or a fragment of ICMP
+abbrev pub is_echo : List ℕ → Bool
+is_echo frame =
+    if nat_lt (length frame) 42 then false
+    else if u16_at frame 12 == 0x0800 then is_echo_ipv4 frame
+    else if u16_at frame 12 == 0x86dd then is_echo_ipv6 frame
+    else false
+
 -- for whom a neighbour solicitation asks (RFC 4861 4.3)
 abbrev pub solicited_at : Option ℕ → List ℕ → Option IpAddress
 solicited_at None frame = None

@@ -1,5 +1,5 @@
 -- What a guard promises, whatever frames come.
-use Rattle.std.specs.Prelude.{◌≡◌, ℕ, ◌+◌, ◌≤◌, Bool, true, false, pos, List, is_none, ◌≢◌, ◌<◌, ◌⊎◌, length, Option, slice_get, Some, None}
+use Rattle.std.specs.Prelude.{◌≡◌, ℕ, suc, ◌+◌, ◌-◌, ◌*◌, max, ◌≤◌, ◌&&◌, Bool, true, false, pos, List, [], ◌∷◌, is_none, ◌≢◌, ◌<◌, ◌⊎◌, length, Option, slice_get, Some, None, if◌then◌else◌}
 use Rattle.ip_address.specs.EthernetAddress.{is_same as is_same_hardware}
 use Rattle.ip_address.specs.declared.cidr.IpCidr.{IpCidr}
 use Rattle.ip_address.specs.declared.ethernet_address.EthernetAddress.{EthernetAddress}
@@ -10,10 +10,12 @@ use Rattle.guard.specs.declared.defence.Defence.{Defence}
 use Rattle.ip_address.specs.declared.ipv4.Ipv4Address.{Ipv4Address}
 use Rattle.guard.specs.declared.kind.Sort.TheVariants.{Loop}
 use Rattle.ip_wire.specs.Octets.{u16_at}
-use Rattle.guard.specs.Kind.{ipv4_at, sort_of_ipv4}
+use Rattle.guard.specs.Kind.{ipv4_at, is_echo, sort_of_ipv4}
 use Rattle.guard.specs.Claim.{comes_back, hardware_at, is_from_host}
 use Rattle.guard.specs.Pins.{is_forbidden}
 use Rattle.guard.specs.Guard.{reason_of, is_returned, refusal_of, is_own}
+use Rattle.guard.specs.Watch.{admits, after_arrival}
+use Rattle.guard.specs.declared.watch.Watch.{Watch}
 
 -- a frame that comes to a host: when, with what octets, and what hardware address and addresses the host has then
 pub record Arrival : Type 0 where
@@ -25,10 +27,12 @@ pub record Arrival : Type 0 where
 abbrev pub passes : Arrival → Guard → Bool
 passes a g = is_none (reason_of a.frame a.hardware a.own g)
 
--- A claim of an own address is answered, unless one was within the interval; the next claims within the interval are not
+-- A claim of an own address is answered, unless one was within the interval; the next claims within the interval are not, if the clock
+-- goes back by no more than a minute
 abbrev pub DefencesAreApart : Type 0
 DefencesAreApart =
-    (first second : ℕ) (a b : Ipv4Address) (d : Defence) → is_due (pos first) d ≡ true → second < first + d.interval →
+    (first second : ℕ) (a b : Ipv4Address) (d : Defence) → is_due (pos first) d ≡ true → first ≤ second + 60000000 →
+    second < first + d.interval →
     ((after_claim_of (pos first) (Some a) d).owed ≡ Some a)
     × (after_claim_of (pos second) (Some b) (after_taking (after_claim_of (pos first) (Some a) d))
     ≡ after_taking (after_claim_of (pos first) (Some a) d))
@@ -73,3 +77,28 @@ abbrev pub LoopsEnd : Type 0
 LoopsEnd =
     (a : Arrival) (g : Guard) → g.drops_loops ≡ true → 42 ≤ length a.frame → u16_at a.frame 12 ≡ 0x0800 →
     sort_of_ipv4 a.frame ≡ Loop → is_returned (ipv4_at a.frame 26) a.hardware a.frame a.own ≡ false → passes a g ≡ false
+
+-- the guard after a frame arrived
+abbrev pub after_it : Arrival → Watch → Watch
+after_it a w = after_arrival (pos a.at) a.frame a.hardware a.own w
+
+-- how many of some frames, one after another, have an echo request or are fragments of ICMP, and pass
+abbrev pub echoes_seen : Watch → List Arrival → ℕ
+echoes_seen w [] = 0
+echoes_seen w (a ∷ later) =
+    if is_echo a.frame && admits (pos a.at) a.frame a.hardware a.own w then suc (echoes_seen (after_it a w) later)
+    else echoes_seen (after_it a w) later
+
+-- all are from a first instant to a last one, and none is more than a minute before the latest that came before it
+abbrev pub AreWithin : (first latest last : ℕ) → List Arrival → Type 0
+AreWithin first latest last [] = Unit {0}
+AreWithin first latest last (a ∷ later) =
+    (first ≤ a.at) × (a.at ≤ last) × (latest ≤ a.at + 60000000) × AreWithin first (max latest a.at) last later
+
+-- Of echo requests and of fragments of ICMP so many pass a guard in a time, if the clock goes back by no more than a minute: as many as
+-- their rate's depth, and one for each of its intervals
+abbrev pub FewEchoesPass : Type 0
+FewEchoesPass =
+    (w : Watch) (first last : ℕ) (arrived : List Arrival) → w.is_on ≡ true → first ≤ last → AreWithin first first last arrived →
+    echoes_seen w arrived * w.guard.echo_requests.interval
+    ≤ (last - first) + w.guard.echo_requests.depth * w.guard.echo_requests.interval

@@ -1,10 +1,8 @@
 -- Answers to queries of IGMP and MLD that wait, and where they stay: a later query doesn't put off what waits, nor take its place.
-use Rattle.std.specs.Prelude.{ℕ, ◌==◌, ◌&&◌, ◌||◌, nat_le, ℤ, Bool, true, false, if◌then◌else◌}
+use Rattle.std.specs.Prelude.{◌==◌, ◌&&◌, ◌||◌, nat_le, ℤ, Bool, true, false, if◌then◌else◌}
 use Rattle.std.specs.Ordering.{int_cmp, is_le}
 use Rattle.control_wire.specs.declared.igmp.IgmpVersion.{IgmpVersion}
 use Rattle.control_wire.specs.declared.igmp.IgmpVersion.TheVariants.{Version1, Version2}
-use Rattle.ip_address.specs.declared.ipv4.Ipv4Address.{Ipv4Address}
-use Rattle.ip_address.specs.declared.ipv6.Ipv6Address.{Ipv6Address}
 use Rattle.iface_tables.specs.declared.report.IgmpReportState.{IgmpReportState}
 use Rattle.iface_tables.specs.declared.report.IgmpReportState.TheVariants as igmp
 use Rattle.iface_tables.specs.declared.report.MldReportState.{MldReportState}

@@ -1,18 +1,22 @@
 -- How long a neighbour is known that a host doesn't know well: strangers displace strangers alone.
-use Rattle.std.specs.Prelude.{ℕ, ◌*◌, ◌==◌, ◌&&◌, ◌||◌, not, nat_lt, ℤ, pos, ◌+ℤ◌, Bool, true, false, List, Option, Some, None, if◌then◌else◌}
+use Rattle.std.specs.Prelude.{ℕ, ◌*◌, ◌==◌, ◌&&◌, ◌||◌, nat_lt, ℤ, pos, ◌+ℤ◌, Bool, true, false, List, Option, Some, None, if◌then◌else◌}
 use Rattle.std.specs.FinMap as map
 use Rattle.ip_address.specs.declared.cidr.IpCidr.{IpCidr}
+use Rattle.ip_address.specs.declared.ethernet_address.EthernetAddress.{EthernetAddress}
 use Rattle.ip_address.specs.declared.hardware.HardwareAddress.{HardwareAddress}
+use Rattle.ip_address.specs.declared.hardware.HardwareAddress.TheVariants.{Ethernet}
 use Rattle.ip_address.specs.declared.ip.IpAddress.{IpAddress}
 use Rattle.ip_address.specs.declared.ip.IpAddress.TheVariants.{Ipv4, Ipv6}
 use Rattle.iface_tables.specs.Neighbor.{Neighbors, after_limit, count_after, is_before, is_same}
 use Rattle.iface_tables.specs.declared.neighbor.Neighbor.{Neighbor}
+use Rattle.guard.specs.Claim.{hardware_at}
 use Rattle.guard.specs.Guard.{is_near, was_asked}
-use Rattle.guard.specs.Kind.{kind_of}
+use Rattle.guard.specs.Kind.{ipv4_at, kind_of}
+use Rattle.ip_wire.specs.Ipv6Packet.{address_at}
+use Rattle.ip_wire.specs.Octets.{u16_at}
 use Rattle.guard.specs.declared.guard.Guard.{Guard}
 use Rattle.guard.specs.declared.kind.Kind.{Kind}
 use Rattle.guard.specs.declared.kind.Kind.TheVariants.{Arp, Neighbor as Message, Packet, Other}
-use Rattle.guard.specs.declared.kind.Sort.{Sort}
 use Rattle.guard.specs.declared.kind.Sort.TheVariants.{Fragment, Loop, Transport, Plain}
 use Rattle.guard.specs.declared.strangers.Limit.{Limit}
 
@@ -85,10 +89,27 @@ limit_from now kind None own known g = None
 limit_from now kind (Some a) own known g =
     if may_have_entry own a then limit_of now kind a known (map.get known.known a) g else None
 
+-- the source of a packet of IPv4 (RFC 791 3.1), or of IPv6 (RFC 8200 3)
+abbrev pub packet_sender : List ℕ → IpAddress
+packet_sender frame = if u16_at frame 12 == 0x0800 then ipv4_at frame 26 else Ipv6 (address_at frame 22)
+
 -- the limit of a frame, for a host with these addresses that knows these neighbours before it takes the frame
 abbrev pub limit_for : ℤ → List ℕ → List IpCidr → Neighbors → Guard → Option Limit
 limit_for now frame own known g =
     if g.strangers_stay == 0 then None else limit_from now (kind_of frame) (sender_of (kind_of frame)) own known g
+
+-- a neighbour that is confirmed has this hardware address
+abbrev pub is_confirmed_at : ℤ → EthernetAddress → Option Neighbor → Guard → Bool
+is_confirmed_at now h None g = false
+is_confirmed_at now h (Some n) g = is_before (end_of_stay now g) n.expires_at && is_same n.hardware_addr (Ethernet h)
+
+abbrev pub is_from_known : ℤ → List ℕ → Option IpAddress → Neighbors → Guard → Bool
+is_from_known now frame None known g = false
+is_from_known now frame (Some a) known g = is_confirmed_at now (hardware_at frame 6) (map.get known.known a) g
+
+-- a frame comes from a neighbour that is confirmed, and from its hardware address
+abbrev pub comes_from_known : ℤ → List ℕ → Neighbors → Guard → Bool
+comes_from_known now frame known g = is_from_known now frame (sender_of (kind_of frame)) known g
 
 -- an entry has a hardware address
 abbrev pub has_address : Option Neighbor → Option HardwareAddress → Bool

@@ -1,18 +1,18 @@
 -- A guard on its post: what it drops is counted by the reason, and who claims an own address is told.
-use Rattle.std.specs.Prelude.{ℕ, ◌+◌, ◌-◌, ◌^◌, ◌==◌, ℤ, is_none, Bool, true, false, List, length, Option, Some, None, if◌then◌else◌}
+use Rattle.std.specs.Prelude.{ℕ, ◌+◌, ◌-◌, ◌^◌, ◌==◌, ◌&&◌, ℤ, is_none, Bool, true, false, List, length, Option, Some, None, if◌then◌else◌}
 use Rattle.ip_address.specs.declared.ethernet_address.EthernetAddress.{EthernetAddress}
 use Rattle.ip_address.specs.declared.cidr.IpCidr.{IpCidr}
 use Rattle.ip_address.specs.declared.ip.IpAddress.{IpAddress}
 use Rattle.ip_address.specs.declared.hardware.HardwareAddress.{HardwareAddress}
 use Rattle.guard.specs.declared.answers.Answer.{Answer}
-use Rattle.guard.specs.declared.answers.Answer.TheVariants.{EchoReply, Error, Reset}
+use Rattle.guard.specs.declared.answers.Answer.TheVariants.{Error, Reset}
 use Rattle.guard.specs.declared.guard.Reason.{Reason}
 use Rattle.guard.specs.declared.guard.Reason.TheVariants as reason
 use Rattle.guard.specs.declared.watch.Conflict.{Conflict}
 use Rattle.guard.specs.declared.watch.Counts.{Counts}
 use Rattle.guard.specs.declared.watch.Watch.{Watch}
 use Rattle.guard.specs.Answers.{after_answer, answer_of, new_answers, refused}
-use Rattle.guard.specs.Guard.{after_asking, micros, new_guard, reason_of}
+use Rattle.guard.specs.Guard.{after_asking, after_echo, first_of, micros, new_guard, reason_of, refusal_of_echo}
 use Rattle.guard.specs.Kind.{asked_in}
 use Rattle.guard.specs.Claim.{hardware_at}
 use Rattle.guard.specs.Pins as pins
@@ -30,7 +30,7 @@ no_drops = record {
   pinned = 0;
   fragment = 0;
   loops = 0;
-  echo_reply = 0;
+  echo_request = 0;
   error = 0;
   reset = 0;
 }
@@ -53,10 +53,10 @@ after_drop reason.OwnSource c = record c { own_source = one_more c.own_source }
 after_drop reason.Pinned c = record c { pinned = one_more c.pinned }
 after_drop reason.Fragment c = record c { fragment = one_more c.fragment }
 after_drop reason.Loop c = record c { loops = one_more c.loops }
+after_drop reason.EchoRequest c = record c { echo_request = one_more c.echo_request }
 
 -- an answer was held back
 abbrev pub after_holding : Answer → Counts → Counts
-after_holding EchoReply c = record c { echo_reply = one_more c.echo_reply }
 after_holding Error c = record c { error = one_more c.error }
 after_holding Reset c = record c { reset = one_more c.reset }
 
@@ -92,34 +92,41 @@ abbrev pub after_reason : ℤ → List ℕ → Option Reason → Watch → Watch
 after_reason now frame None w = w
 after_reason now frame (Some why) w = after_report now frame why w
 
--- why the host doesn't get to see a frame
-abbrev pub reason_for : List ℕ → Option HardwareAddress → List IpCidr → Watch → Option Reason
-reason_for frame hardware own w = if w.is_on then reason_of frame hardware own w.guard else None
+-- why the host doesn't get to see a frame: by what it is, or since there were too many requests for echoes
+abbrev pub reason_for : ℤ → List ℕ → Option HardwareAddress → List IpCidr → Watch → Option Reason
+reason_for now frame hardware own w =
+    if w.is_on then first_of (reason_of frame hardware own w.guard) (refusal_of_echo now frame w.guard) else None
 
-abbrev pub admits : List ℕ → Option HardwareAddress → List IpCidr → Watch → Bool
-admits frame hardware own w = is_none (reason_for frame hardware own w)
+abbrev pub admits : ℤ → List ℕ → Option HardwareAddress → List IpCidr → Watch → Bool
+admits now frame hardware own w = is_none (reason_for now frame hardware own w)
+
+-- only a frame that isn't dropped by what it is takes a token
+abbrev pub after_judging : ℤ → List ℕ → Option HardwareAddress → List IpCidr → Watch → Watch
+after_judging now frame hardware own w =
+    if w.is_on && is_none (reason_of frame hardware own w.guard) then record w { guard = after_echo now frame w.guard } else w
 
 abbrev pub after_arrival : ℤ → List ℕ → Option HardwareAddress → List IpCidr → Watch → Watch
-after_arrival now frame hardware own w = after_reason now frame (reason_for frame hardware own w) w
+after_arrival now frame hardware own w =
+    after_reason now frame (reason_for now frame hardware own w) (after_judging now frame hardware own w)
 
--- why an answer to a frame of so many octets is held back
-abbrev pub refused_by : ℤ → List ℕ → (answered : ℕ) → Watch → Option Answer
-refused_by now frame answered w = refused (micros now) (answer_of frame) answered (length frame) w.answers
+-- why an answer to a frame of so many octets, of a known neighbour or not, is held back
+abbrev pub refused_by : ℤ → List ℕ → (answered : ℕ) → (known : Bool) → Watch → Option Answer
+refused_by now frame answered known w = refused (micros now) (answer_of frame) answered (length frame) known w.answers
 
-abbrev pub lets_go : ℤ → List ℕ → (answered : ℕ) → Watch → Bool
-lets_go now frame answered w = if w.is_on then is_none (refused_by now frame answered w) else true
+abbrev pub lets_go : ℤ → List ℕ → (answered : ℕ) → (known : Bool) → Watch → Bool
+lets_go now frame answered known w = if w.is_on then is_none (refused_by now frame answered known w) else true
 
 abbrev pub after_refusal : Option Answer → Counts → Counts
 after_refusal None c = c
 after_refusal (Some answer) c = after_holding answer c
 
 -- a frame in response was sent, or held back
-abbrev pub after_response : ℤ → List ℕ → (answered : ℕ) → Watch → Watch
-after_response now frame answered w =
+abbrev pub after_response : ℤ → List ℕ → (answered : ℕ) → (known : Bool) → Watch → Watch
+after_response now frame answered known w =
     if w.is_on then record w {
       guard = after_asking now (asked_in frame) true w.guard;
-      answers = after_answer (micros now) (answer_of frame) answered (length frame) w.answers;
-      counts = after_refusal (refused_by now frame answered w) w.counts;
+      answers = after_answer (micros now) (answer_of frame) answered (length frame) known w.answers;
+      counts = after_refusal (refused_by now frame answered known w) w.counts;
     }
     else w
 

@@ -1,9 +1,9 @@
 //! Which answers to strangers' frames a host may send.
 ghost use Rattle.std.specs.Prelude.{◌≡◌, ◌≤◌, length};
 ghost use Rattle.guard.specs.Answers as spec;
-ghost use Rattle.guard.specs.Guard.{micros};
+ghost use Rattle.guard.specs.Guard.{has_room, micros, reason_unless};
 
-use crate::guard::take;
+use crate::guard::{has_room, take};
 use crate::kind::{message_of, octet_at};
 use ip_wire::octets::u16_at;
 use net_base::bucket::Bucket;
@@ -12,56 +12,90 @@ use net_base::time::Instant;
 /// What a frame in response is.
 #[derive(Clone, Copy, Debug, PartialEq, Eq)]
 pub enum Answer {
-    /// An echo reply (RFC 792, RFC 4443 4.2).
-    EchoReply,
     /// An error of ICMP (RFC 1122 3.2.2) or of ICMPv6 (RFC 4443 2.1).
     Error,
     /// A reset (RFC 9293 3.10.7.1).
     Reset,
 }
 
-/// The rates of answers, a bucket for each kind.
+/// The rates of answers: of each kind one to whomever, and one more to known neighbours.
 #[derive(Clone, Copy, Debug, PartialEq, Eq)]
 pub struct Answers {
-    /// Of echo replies.
-    pub echo_replies: Bucket,
     /// Of errors (RFC 4443 2.4 f, RFC 1812 4.3.2.8).
     pub errors: Bucket,
+    /// Of errors to known neighbours, where one of those to whomever is used up.
+    pub known_errors: Bucket,
     /// Of resets.
     pub resets: Bucket,
+    /// Of resets, likewise.
+    pub known_resets: Bucket,
     /// How many times as long an error may be as what it answers; 0 bounds nothing.
     pub longest_error: u32,
 }
 
 impl Answers {
-    /// Of each kind a hundred in a second, and ten at once; errors at most three times as long as what they answer.
+    /// Of each kind a hundred in a second, and ten at once, and as many to known neighbours; errors at most three times as long as what
+    /// they answer.
     pub const fn new() -> Answers
         ensures { result ≡ spec.new_answers }
     {
         Answers {
-            echo_replies: Bucket::new(10_000, 10),
             errors: Bucket::new(10_000, 10),
+            known_errors: Bucket::new(10_000, 10),
             resets: Bucket::new(10_000, 10),
+            known_resets: Bucket::new(10_000, 10),
             longest_error: 3,
         }
     }
 
-    /// Judges a frame that the host would send at an instant in response to one of so many octets. Returns what it is, if it may not
-    /// be sent; `None` if it may.
-    pub fn judge(&mut self, now: Instant, frame: &[u8], answered: usize) -> Option<Answer>
-        ensures reason { result ≡ spec.refused (micros now) (spec.answer_of frame.now) answered (length frame.now) self.old }
-        ensures answers { self.new ≡ spec.after_answer (micros now) (spec.answer_of frame.now) answered (length frame.now) self.old }
+    /// Whether a rate of answers to whomever is used up at an instant, so that known neighbours have rates of their own.
+    #[inline(always)]
+    pub fn is_short(&self, now: Instant) -> bool
+        ensures { result ≡ spec.is_short (micros now) self.now }
     {
-        match answer_of(frame) {
-            None => None,
-            Some(Answer::EchoReply) => take(&mut self.echo_replies, now, Answer::EchoReply),
-            Some(Answer::Error) => {
-                if is_too_long(answered, frame.len(), self.longest_error) {
-                    return Some(Answer::Error);
-                }
-                take(&mut self.errors, now, Answer::Error)
-            }
-            Some(Answer::Reset) => take(&mut self.resets, now, Answer::Reset),
+        !(has_room(&self.errors, now) && has_room(&self.resets, now))
+    }
+
+    /// Judges a frame that the host would send at an instant in response to one of so many octets, by the rates of known neighbours or
+    /// by those of whomever. Returns what it is, if it may not be sent; `None` if it may.
+    pub fn judge(
+        &mut self,
+        now: Instant,
+        frame: &[u8],
+        answered: usize,
+        known: bool,
+    ) -> Option<Answer>
+        ensures reason { result ≡ spec.refused (micros now) (spec.answer_of frame.now) answered (length frame.now) known self.old }
+        ensures answers { self.new ≡
+            spec.after_answer (micros now) (spec.answer_of frame.now) answered (length frame.now) known self.old }
+    {
+        let answer = answer_of(frame)?;
+        if self.is_oversized(answer, answered, frame.len()) {
+            return Some(answer);
+        }
+        self.take(now, answer, known)
+    }
+
+    /// Whether an answer of so many octets is an error that is too long for a frame of so many.
+    fn is_oversized(&self, answer: Answer, answered: usize, len: usize) -> bool
+        ensures { result ≡ spec.is_oversized answer answered len self.now }
+    {
+        match answer {
+            Answer::Error => is_too_long(answered, len, self.longest_error),
+            Answer::Reset => false,
+        }
+    }
+
+    /// Takes a token for an answer, of the rates of known neighbours or of those of whomever. Returns it, if there is none.
+    fn take(&mut self, now: Instant, answer: Answer, known: bool) -> Option<Answer>
+        ensures reason { result ≡ reason_unless (has_room (micros now) (spec.rate_of answer known self.old)) answer }
+        ensures answers { self.new ≡ spec.after_rate (micros now) answer known self.old }
+    {
+        match (answer, known) {
+            (Answer::Error, false) => take(&mut self.errors, now, answer),
+            (Answer::Error, true) => take(&mut self.known_errors, now, answer),
+            (Answer::Reset, false) => take(&mut self.resets, now, answer),
+            (Answer::Reset, true) => take(&mut self.known_resets, now, answer),
         }
     }
 }
@@ -95,7 +129,6 @@ fn answer_of_ipv4(frame: &[u8]) -> Option<Answer>
     let payload = 14 + usize::from(frame[14] % 16) * 4;
     match frame[23] {
         1 => match octet_at(frame, payload) {
-            0 => Some(Answer::EchoReply),
             3 | 11 | 12 => Some(Answer::Error),
             _ => None,
         },
@@ -114,7 +147,6 @@ fn answer_of_ipv6(frame: &[u8]) -> Option<Answer>
     }
     let message = message_of(frame)?;
     match octet_at(frame, message) {
-        129 => Some(Answer::EchoReply),
         1 | 2 | 3 | 4 => Some(Answer::Error),
         _ => None,
     }

@@ -2,7 +2,7 @@
 ghost use Rattle.std.specs.Prelude.{◌≡◌};
 ghost use Rattle.guard.specs.Defence as spec;
 
-use crate::guard::micros;
+use crate::guard::{is_ahead, micros};
 use ip_address::{EthernetAddress, HardwareAddress, Ipv4Address};
 use ip_wire::octets::{u16_at, u32_at};
 use net_base::time::Instant;
@@ -51,7 +51,7 @@ impl Defence {
         owed
     }
 
-    /// Whether a claim would be answered at an instant.
+    /// Whether a claim would be answered at an instant. What came to be owed more than a minute ahead doesn't count.
     fn is_due(&self, now: Instant) -> bool
         ensures { result ≡ spec.is_due now self.now }
     {
@@ -60,7 +60,10 @@ impl Defence {
         }
         match self.last {
             None => true,
-            Some(last) => last.saturating_add(self.interval) <= micros(now),
+            Some(last) => {
+                let now = micros(now);
+                last.saturating_add(self.interval) <= now || is_ahead(now, last)
+            }
         }
     }
 }

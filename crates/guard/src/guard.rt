@@ -9,7 +9,7 @@ ghost use Rattle.guard.specs.Guard as spec;
 ghost use Rattle.guard.specs.Kind as kind;
 
 use crate::claim::{comes_back, is_from_host};
-use crate::kind::{Kind, Sort, asked_in, kind_of, sort_of_ipv4, sort_of_ipv6};
+use crate::kind::{Kind, Sort, asked_in, is_echo, kind_of, sort_of_ipv4, sort_of_ipv6};
 use crate::pins::Pins;
 use iface_tables::neighbor::Cache;
 use ip_address::{HardwareAddress, IpAddress, IpCidr, Ipv6Address};
@@ -17,6 +17,9 @@ use ip_wire::ipv6_packet::address_at;
 use ip_wire::octets::{u16_at, u32_at};
 use net_base::bucket::Bucket;
 use net_base::time::Instant;
+
+/// How far ahead an instant may be, in microseconds, before the clock counts as gone back: a minute.
+const AHEAD: u64 = 60_000_000;
 
 /// How long an answer to a request for a hardware address is expected, in microseconds.
 pub(crate) const ANSWER_TIME: u64 = 3_000_000;
@@ -35,6 +38,8 @@ pub enum Reason {
     Fragment,
     /// A datagram of UDP from port 7, 13, 17 or 19 to a port below 1,024.
     Loop,
+    /// An echo request, or a fragment of ICMP, beyond the rate of these.
+    EchoRequest,
 }
 
 /// A request for a hardware address that the host sent.
@@ -57,6 +62,9 @@ pub struct Guard {
     pub drops_fragments: bool,
     /// Whether datagrams are dropped that could go to and fro for ever.
     pub drops_loops: bool,
+    /// The rate of echo requests (RFC 792, RFC 4443 4.1) and of fragments of ICMP that the host gets to see; an interval of 0 bounds
+    /// nothing.
+    pub echo_requests: Bucket,
     /// How long a neighbour is known that isn't confirmed, in microseconds; 0: as long as any other.
     pub strangers_stay: u32,
     /// Whether sockets that wait for a neighbour and frames take turns in asking for one.
@@ -72,8 +80,9 @@ pub struct Guard {
 }
 
 impl Guard {
-    /// A guard that keeps own addresses, and drops loops, not fragments. A neighbour that isn't confirmed is known for twenty seconds;
-    /// sockets and frames take turns; answers that wait stay; and so do neighbours, where nothing is learnt of a router.
+    /// A guard that keeps own addresses, and drops loops, not fragments. Echo requests have no rate. A neighbour that isn't confirmed is
+    /// known for twenty seconds; sockets and frames take turns; answers that wait stay; and so do neighbours, where nothing is learnt of
+    /// a router.
     pub const fn new() -> Guard
         ensures { result ≡ spec.new_guard }
     {
@@ -81,6 +90,7 @@ impl Guard {
             keeps_own_addresses: true,
             drops_fragments: false,
             drops_loops: true,
+            echo_requests: Bucket::new(0, 0),
             strangers_stay: 20_000_000,
             takes_turns: true,
             keeps_reports: true,
@@ -92,24 +102,8 @@ impl Guard {
 
     /// Judges a frame for a host with this hardware address (`None` on a medium without) and these addresses. Returns why the host may
     /// not see it; `None` if it may.
-    #[inline(always)]
-    pub fn judge(
-        &self,
-        frame: &[u8],
-        hardware: Option<HardwareAddress>,
-        own: &[IpCidr],
-    ) -> Option<Reason>
-        ensures { result ≡ spec.reason_of frame.now hardware own.now self.now }
-    {
-        if is_ordinary(frame, own) {
-            return None;
-        }
-        self.judge_kind(frame, hardware, own)
-    }
-
-    /// Judges a frame by its kind.
     #[inline(never)]
-    fn judge_kind(
+    pub fn judge(
         &self,
         frame: &[u8],
         hardware: Option<HardwareAddress>,
@@ -130,6 +124,18 @@ impl Guard {
             }
             Kind::Other => None,
         }
+    }
+
+    /// Takes a token for a frame that has an echo request, or a fragment of ICMP. Returns why the host may not see it, if there was no
+    /// token. Other frames take none.
+    pub(crate) fn take_echo(&mut self, now: Instant, frame: &[u8]) -> Option<Reason>
+        ensures reason { result ≡ spec.refusal_of_echo now frame.now self.old }
+        ensures guard { self.new ≡ spec.after_echo now frame.now self.old }
+    {
+        if self.echo_requests.interval == 0 || !is_echo(frame) {
+            return None;
+        }
+        take(&mut self.echo_requests, now, Reason::EchoRequest)
     }
 
     /// Notes a frame that the host sends at an instant, in response to another one or not: if it asks for a hardware address, the
@@ -226,11 +232,12 @@ impl Asked {
     ghost use Rattle.std.specs.Prelude.{◌≡◌};
     ghost use Rattle.guard.specs.Guard as spec;
 
-    /// Whether the request was sent at most three seconds ago.
+    /// Whether the request was sent at most three seconds ago. One that is ahead by more than a minute wasn't.
     fn is_recent(&self, now: Instant) -> bool
         ensures { result ≡ spec.is_recent now self.now }
     {
-        micros(now) <= self.at.saturating_add(ANSWER_TIME)
+        let now = micros(now);
+        now <= self.at.saturating_add(ANSWER_TIME) && !is_ahead(now, self.at)
     }
 }
 
@@ -252,16 +259,52 @@ pub(crate) fn micros(now: Instant) -> u64
     if micros < 0 { 0 } else { micros as u64 }
 }
 
+/// Whether an instant is ahead by more than a minute, so that the clock has gone back since.
+pub(crate) fn is_ahead(now: u64, instant: u64) -> bool
+    ensures { result ≡ spec.is_ahead now instant }
+{
+    now.saturating_add(AHEAD) < instant
+}
+
+/// Fills a bucket that an empty one would be behind by more than a minute: the clock has gone back since a token was taken.
+fn keep_to_clock(bucket: &mut Bucket, now: u64)
+    ensures { bucket.new ≡ spec.at_clock now bucket.old }
+{
+    let empty = u128::from(now) + u128::from(bucket.depth) * u128::from(bucket.interval);
+    if empty + u128::from(AHEAD) < bucket.full_at {
+        bucket.full_at = u128::from(now);
+    }
+}
+
+/// Whether a token is there at an instant. An interval of 0 bounds nothing. Mostly the bucket is full.
+#[inline(always)]
+#[tactic(auto, using(crate::proofs::RateLemmas::full_has_room))]
+pub(crate) fn has_room(bucket: &Bucket, now: Instant) -> bool
+    ensures { result ≡ spec.has_room (spec.micros now) bucket.now }
+{
+    bucket.depth != 0 && bucket.full_at <= u128::from(micros(now)) || has_some(bucket, now)
+}
+
+/// Likewise, of a bucket that may not be full.
+#[inline(never)]
+fn has_some(bucket: &Bucket, now: Instant) -> bool
+    ensures { result ≡ spec.has_room (spec.micros now) bucket.now }
+{
+    let mut bucket = *bucket;
+    take(&mut bucket, now, ()).is_none()
+}
+
 /// Takes a token, if there is one; otherwise returns the reason. An interval of 0 bounds nothing.
 pub(crate) fn take<R: Copy + Drop>(bucket: &mut Bucket, now: Instant, reason: R) -> Option<R>
     ensures reason { result ≡ spec.reason_unless (spec.has_room (spec.micros now) bucket.old) reason }
     ensures bucket { bucket.new ≡ spec.after_passing (spec.micros now) bucket.old }
 {
-    if bucket.interval == 0 || bucket.take(micros(now)) {
-        None
-    } else {
-        Some(reason)
+    if bucket.interval == 0 {
+        return None;
     }
+    let now = micros(now);
+    keep_to_clock(bucket, now);
+    if bucket.take(now) { None } else { Some(reason) }
 }
 
 /// Whether nothing is asked of a frame but its source and its protocol: a datagram of UDP or a segment of TCP, from another address

@@ -139,6 +139,44 @@ fn packet_of_ipv6(sender: IpAddress, frame: &[u8], sort: Sort) -> Kind
     Kind::Packet { sender, sort }
 }
 
+/// Whether a frame has an echo request (RFC 792, RFC 4443 4.1), or a fragment of ICMP, which may belong to one.
+pub fn is_echo(frame: &[u8]) -> bool
+    ensures { result ≡ spec.is_echo frame.now }
+{
+    if frame.len() < 42 {
+        return false;
+    }
+    match u16_at(frame, 12) {
+        0x0800 => is_echo_ipv4(frame),
+        0x86dd => is_echo_ipv6(frame),
+        _ => false,
+    }
+}
+
+/// Whether an IPv4 packet is one.
+fn is_echo_ipv4(frame: &[u8]) -> bool
+    requires { 42 ≤ length frame.now }
+    ensures { result ≡ spec.is_echo_ipv4 frame.now }
+{
+    frame[23] == 1
+        && (u16_at(frame, 20) % 0x4000 != 0
+            || octet_at(frame, 14 + usize::from(frame[14] % 16) * 4) == 8)
+}
+
+/// Whether an IPv6 packet is one.
+fn is_echo_ipv6(frame: &[u8]) -> bool
+    requires { 42 ≤ length frame.now }
+    ensures { result ≡ spec.is_echo_ipv6 frame.now }
+{
+    if frame[20] == 44 {
+        return octet_at(frame, 54) == 58;
+    }
+    match message_of(frame) {
+        None => false,
+        Some(message) => octet_at(frame, message) == 128,
+    }
+}
+
 /// For whose hardware address a frame asks, if it is an ARP request (RFC 826) or a neighbour solicitation (RFC 4861 4.3).
 pub fn asked_in(frame: &[u8]) -> Option<IpAddress>
     ensures { result ≡ spec.asked_in frame.now }

@@ -1,9 +1,10 @@
 //! What a guard promises, whatever frames come, each law as the contract of an empty function.
-ghost use Rattle.guard.specs.AnswerLaws.{ErrorsAreShort, FewAnswersGo, OtherAnswersGo};
-ghost use Rattle.guard.specs.Ipv6Laws.{Ipv6LoopsEnd, MessagesPass, OwnMessagesStay, PinnedMessagesStay, StreamsPass};
-ghost use Rattle.guard.specs.Laws.{ArpPasses, DefencesAreApart, LoopsEnd, OthersPass, OwnAddressesStay, PacketsPass, PinnedStay};
+ghost use Rattle.guard.specs.AnswerLaws.{ClockMayGoBack, ErrorsAreShort, FewAnswersGo, OtherAnswersGo};
+ghost use Rattle.guard.specs.Ipv6Laws.{Ipv6LoopsEnd, MessagesPass, OtherMessagesPass, OwnMessagesStay, PinnedMessagesStay, StreamsPass};
+ghost use Rattle.guard.specs.Laws.{ArpPasses, DefencesAreApart, FewEchoesPass, LoopsEnd, OthersPass, OwnAddressesStay, PacketsPass, PinnedStay};
 
-/// A claim of an own address is answered, unless one was within the interval, and those that follow within the interval are not.
+/// A claim of an own address is answered, unless one was within the interval, and those that follow within the interval are not, if the
+/// clock goes back by no more than a minute.
 pub fn defences_are_apart()
     ensures { DefencesAreApart }
 {}
@@ -57,6 +58,12 @@ pub fn messages_pass()
     ensures { MessagesPass }
 {}
 
+/// Any other message of ICMPv6 passes, as an advertisement of a router or a query of MLD, from whomever and however often it comes, if its
+/// source is no own address.
+pub fn other_messages_pass()
+    ensures { OtherMessagesPass }
+{}
+
 /// Over IPv6 a segment of TCP passes, and a datagram of UDP that doesn't go to and fro, if its source is no own address.
 pub fn streams_pass()
     ensures { StreamsPass }
@@ -67,10 +74,21 @@ pub fn ipv6_loops_end()
     ensures { Ipv6LoopsEnd }
 {}
 
-/// Of echo replies, of errors and of resets so many are sent in response from one instant to another: as many as the rate's depth, and
-/// one for each of its intervals.
+/// Of errors and of resets so many are sent in response from one instant to another, to known neighbours and to others: as many as the
+/// rate's depth, and one for each of its intervals, if the clock goes back by no more than a minute.
 pub fn few_answers_go()
     ensures { FewAnswersGo }
+{}
+
+/// Of echo requests and of fragments of ICMP so many pass from one instant to another: as many as their rate's depth, and one for each of
+/// its intervals, if the clock goes back by no more than a minute.
+pub fn few_echoes_pass()
+    ensures { FewEchoesPass }
+{}
+
+/// Once the clock has gone back by more than a minute, an answer is sent again.
+pub fn clock_may_go_back()
+    ensures { ClockMayGoBack }
 {}
 
 /// An error that is sent in response is no more than so many times as long as the frame which it answers.

@@ -3,14 +3,17 @@
 //! A neighbour is *confirmed* if its entry expires later than a stranger's would that comes now. What a frame tells of anybody
 //! else is known for the shorter time, and so is evicted before all that are confirmed. Packets confirm a neighbour, and so does
 //! its answer to the host's own request, while fewer than half of the entries are confirmed.
-ghost use Rattle.std.specs.Prelude.{◌≡◌};
+ghost use Rattle.std.specs.Prelude.{◌≡◌, ◌≤◌, length};
 ghost use Rattle.net_base.specs.Time.{IsMoment};
 ghost use Rattle.guard.specs.Strangers as spec;
 
+use crate::claim::hardware_at;
 use crate::guard::{Guard, is_near};
-use crate::kind::{Kind, Sort, kind_of};
+use crate::kind::{Kind, Sort, ipv4_at, kind_of};
 use iface_tables::neighbor::{Cache, Neighbor};
-use ip_address::{HardwareAddress, IpAddress, IpCidr};
+use ip_address::{EthernetAddress, HardwareAddress, IpAddress, IpCidr};
+use ip_wire::ipv6_packet::address_at;
+use ip_wire::octets::u16_at;
 use net_base::time::{Duration, Instant};
 
 /// When the entry of a neighbour expires at the latest, after a host took a frame.
@@ -41,8 +44,9 @@ impl Limit {
 }
 
 impl Guard {
-    ghost use Rattle.std.specs.Prelude.{◌≡◌};
+    ghost use Rattle.std.specs.Prelude.{◌≡◌, true};
     ghost use Rattle.net_base.specs.Time.{IsMoment};
+    ghost use Rattle.guard.specs.Guard.{is_ordinary};
     ghost use Rattle.guard.specs.Strangers as spec;
 
     /// The limit that a frame brings to its sender's entry, if it brings one, for a host with these addresses that has these neighbours
@@ -71,6 +75,59 @@ impl Guard {
                 self.limit_of_confirmed(now, kind, address, &neighbor)
             }
             Some(_) => self.limit_of_stranger(now, kind, address, neighbors),
+        }
+    }
+
+    /// Likewise of a frame that is ordinary ([`is_ordinary`](crate::guard::is_ordinary)): mostly it brings none.
+    #[inline(always)]
+    pub fn limit_of_ordinary(
+        &self,
+        now: Instant,
+        frame: &[u8],
+        own: &[IpCidr],
+        neighbors: &Cache,
+    ) -> Option<Limit>
+        requires moment { IsMoment now }
+        requires ordinary { is_ordinary frame.now own.now ≡ true }
+        ensures { result ≡ spec.limit_for now frame.now own.now neighbors.now self.now }
+    {
+        match neighbors.get(&packet_sender(frame)) {
+            None => None,
+            Some(neighbor) if self.end_of_stay(now) < neighbor.expires_at => None,
+            Some(_) => self.limit_for(now, frame, own, neighbors),
+        }
+    }
+
+    /// Whether a frame comes from a neighbour that is confirmed, and from its hardware address.
+    pub fn comes_from_known(&self, now: Instant, frame: &[u8], neighbors: &Cache) -> bool
+        requires { IsMoment now }
+        ensures { result ≡ spec.comes_from_known now frame.now neighbors.now self.now }
+    {
+        match sender_of(kind_of(frame)) {
+            None => false,
+            Some(address) => {
+                let hardware = hardware_at(frame, 6);
+                self.is_confirmed_at(now, &hardware, &neighbors.get(&address))
+            }
+        }
+    }
+
+    /// Whether a neighbour is confirmed, and has this hardware address.
+    fn is_confirmed_at(
+        &self,
+        now: Instant,
+        hardware: &EthernetAddress,
+        neighbor: &Option<Neighbor>,
+    ) -> bool
+        requires { IsMoment now }
+        ensures { result ≡ spec.is_confirmed_at now hardware.now neighbor.now self.now }
+    {
+        match neighbor {
+            None => false,
+            Some(neighbor) => {
+                self.end_of_stay(now) < neighbor.expires_at
+                    && neighbor.hardware_addr == HardwareAddress::Ethernet(*hardware)
+            }
         }
     }
 
@@ -164,6 +221,19 @@ impl Guard {
         ensures { result ≡ spec.confirmed now neighbors.now self.now }
     {
         neighbors.count_after(self.end_of_stay(now))
+    }
+}
+
+/// The source of a frame that has an IP packet.
+#[inline(always)]
+fn packet_sender(frame: &[u8]) -> IpAddress
+    requires { 42 ≤ length frame.now }
+    ensures { result ≡ spec.packet_sender frame.now }
+{
+    if u16_at(frame, 12) == 0x0800 {
+        ipv4_at(frame, 26)
+    } else {
+        IpAddress::Ipv6(address_at(frame, 22))
     }
 }
 

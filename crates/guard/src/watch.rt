@@ -1,5 +1,7 @@
 //! A guard on its post: what it drops is counted by the reason, and who claims an own address is told.
-ghost use Rattle.std.specs.Prelude.{◌≡◌, false};
+ghost use Rattle.std.specs.Prelude.{◌≡◌, ℤ, Option, false, true};
+ghost use Rattle.ip_address.specs.declared.hardware.HardwareAddress.{HardwareAddress};
+ghost use Rattle.guard.specs.Guard.{is_ordinary};
 ghost use Rattle.guard.specs.Defence as defence;
 ghost use Rattle.guard.specs.Pins as pins;
 ghost use Rattle.guard.specs.Watch as spec;
@@ -24,8 +26,8 @@ pub struct Counts {
     pub fragment: u64,
     /// Datagrams that could go to and fro for ever.
     pub loops: u64,
-    /// Echo replies that were held back.
-    pub echo_reply: u64,
+    /// Echo requests, and fragments of ICMP, beyond their rate.
+    pub echo_request: u64,
     /// Errors of ICMP that were held back.
     pub error: u64,
     /// Resets that were held back.
@@ -40,7 +42,7 @@ impl Counts {
         pinned: 0,
         fragment: 0,
         loops: 0,
-        echo_reply: 0,
+        echo_request: 0,
         error: 0,
         reset: 0,
     };
@@ -55,6 +57,7 @@ impl Counts {
             Reason::Pinned => self.pinned = self.pinned.saturating_add(1),
             Reason::Fragment => self.fragment = self.fragment.saturating_add(1),
             Reason::Loop => self.loops = self.loops.saturating_add(1),
+            Reason::EchoRequest => self.echo_request = self.echo_request.saturating_add(1),
         }
     }
 
@@ -63,7 +66,6 @@ impl Counts {
         ensures { self.new ≡ spec.after_holding answer self.old }
     {
         match answer {
-            Answer::EchoReply => self.echo_reply = self.echo_reply.saturating_add(1),
             Answer::Error => self.error = self.error.saturating_add(1),
             Answer::Reset => self.reset = self.reset.saturating_add(1),
         }
@@ -116,7 +118,8 @@ impl Watch {
 
     /// Whether the host, which has this hardware address (`None` on a medium without) and these addresses, may see a frame that came
     /// at an instant. What it may not see is counted by the reason; if the frame claims an own address or a pinned one, who sent it is
-    /// noted, and an announcement of an own one may be owed ([`Watch::announcement_due`]).
+    /// noted, and an announcement of an own one may be owed ([`Watch::announcement_due`]). An echo request that isn't dropped by what it
+    /// is takes a token.
     #[inline(always)]
     pub fn admits(
         &mut self,
@@ -125,13 +128,18 @@ impl Watch {
         hardware: Option<HardwareAddress>,
         own: &[IpCidr],
     ) -> bool
-        ensures admitted { result ≡ spec.admits frame.now hardware own.now self.old }
+        ensures admitted { result ≡ spec.admits now frame.now hardware own.now self.old }
         ensures watch { self.new ≡ spec.after_arrival now frame.now hardware own.now self.old }
+        ensures on { self.new.is_on ≡ self.old.is_on }
     {
         if !self.is_on {
             return true;
         }
-        match self.guard.judge(frame, hardware, own) {
+        let reason = match self.guard.judge(frame, hardware, own) {
+            None => self.guard.take_echo(now, frame),
+            Some(reason) => Some(reason),
+        };
+        match reason {
             None => true,
             Some(reason) => {
                 self.report(now, frame, reason);
@@ -140,17 +148,27 @@ impl Watch {
         }
     }
 
-    /// Whether the host may send a frame at an instant, in response to one of so many octets. What it may not send is counted. A
-    /// request for a hardware address is noted as by [`Watch::note_sent`].
-    pub fn lets_go(&mut self, now: Instant, frame: &[u8], answered: usize) -> bool
-        ensures goes { result ≡ spec.lets_go now frame.now answered self.old }
-        ensures watch { self.new ≡ spec.after_response now frame.now answered self.old }
+    /// A lemma for proofs about a host: an ordinary frame ([`is_ordinary`](crate::guard::is_ordinary)) is admitted, and leaves the guard
+    /// as it is. It does nothing.
+    #[inline(always)]
+    pub fn leaves_ordinary(&self, frame: &[u8], own: &[IpCidr])
+        ensures { is_ordinary frame.now own.now ≡ true → (now : ℤ) (hardware : Option HardwareAddress) →
+            (spec.admits now frame.now hardware own.now self.now ≡ true)
+            × (spec.after_arrival now frame.now hardware own.now self.now ≡ self.now) }
+    {}
+
+    /// Whether the host may send a frame at an instant, in response to one of so many octets, by the rates of known neighbours
+    /// ([`Answers::is_short`], [`Guard::comes_from_known`]) or by those of whomever. What it may not send is counted. A request for a
+    /// hardware address is noted as by [`Watch::note_sent`].
+    pub fn lets_go(&mut self, now: Instant, frame: &[u8], answered: usize, known: bool) -> bool
+        ensures goes { result ≡ spec.lets_go now frame.now answered known self.old }
+        ensures watch { self.new ≡ spec.after_response now frame.now answered known self.old }
     {
         if !self.is_on {
             return true;
         }
         self.guard.note_sent(now, frame, true);
-        match self.answers.judge(now, frame, answered) {
+        match self.answers.judge(now, frame, answered, known) {
             None => true,
             Some(answer) => {
                 self.counts.hold_back(answer);

@@ -1,6 +1,6 @@
 -- Answers to queries that wait, and whose turn it is.
 use Rattle.std.proofs.Common.{◌≡◌, ◌+◌, ℕ, Bool, true, false, [], ◌∷◌, refl, arith, suc}
-use Rattle.std.specs.Prelude.{ℤ, ◌<ℤ◌, ◌≤ℤ◌, ◌==◌, ◌&&◌, ◌||◌, nat_le, if◌then◌else◌}
+use Rattle.std.specs.Prelude.{ℤ, ◌<ℤ◌, ◌≤ℤ◌, ◌==◌, ◌&&◌, ◌||◌, nat_le, nat_lt, if◌then◌else◌}
 use Rattle.std.proofs.lemmas.Bool.Decides.{nat_tests}
 use Rattle.std.proofs.lemmas.Int.{ints}
 use Rattle.std.specs.Cmp.{int_ranks}
@@ -67,6 +67,7 @@ listener_answers_stay at [] all = refl
 listener_answers_stay at (other ∷ later) (one, rest) = rw (stays_mld at other one) (listener_answers_stay at later rest)
 
 pub turns_are_taken : TurnsAreTaken
-turns_are_taken at now a known g takes soon none =
+turns_are_taken at now a known g takes soon back none =
     let recent : nat_le now (at + 3000000) ≡ true = grind (arith, nat_tests) in
-    (rw (takes, recent, none) refl, rw takes refl)
+    let ahead : nat_lt (now + 60000000) at ≡ false = grind (arith, nat_tests) in
+    (rw (takes, recent, ahead, none) refl, rw takes refl)

@@ -1,6 +1,6 @@
 -- What is learnt by ARP was told by the frame, and the guard reads the same octets.
 use Rattle.std.proofs.Common.{◌≡◌, ◌≤◌, ◌∙◌, ap, sym, ℕ, pos, Bool, true, false, refl, inl, inr, arith, List, [], ◌∷◌, length, take, drop}
-use Rattle.std.specs.Prelude.{◌&&◌, ◌==◌, get_or, slice_get, Some, if◌then◌else◌}
+use Rattle.std.specs.Prelude.{◌&&◌, ◌==◌, get_or, is_none, slice_get, Option, Some, None, if◌then◌else◌}
 use Rattle.std.proofs.lemmas.Bool.Decides.{nat_tests}
 use Rattle.std.proofs.lemmas.Slice.Eq.{bytes_eq-Decides}
 use Rattle.std.proofs.lemmas.List.{drop-drop, get_or-drop, length-drop}
@@ -21,7 +21,8 @@ use Rattle.host_laws.specs.Laws.Restraint.Neighbors.{CameToBeKnown, TellsByArp, 
 use Rattle.host_laws.proofs.Discovery.LearntNeighbors.{neighbors_came}
 use Rattle.guard.proofs.PassLemmas.{own_addresses_stay, pinned_stay, tells_by_arp}
 use Rattle.guard.specs.Claim.{hardware_at, is_from, is_from_host, tells_only}
-use Rattle.guard.specs.Guard.{is_own}
+use Rattle.guard.specs.Guard.{first_of, is_own, reason_of, refusal_of_echo}
+use Rattle.guard.specs.declared.guard.Reason.{Reason}
 use Rattle.guard.specs.Kind.{ipv4_at}
 use Rattle.guard.specs.Laws.{Arrival, passes}
 use Rattle.guard.specs.Watch.{admits}
@@ -91,10 +92,15 @@ arrival at frame H = record {
   own = H.ip_addrs;
 }
 
+-- where there is neither of two reasons, there isn't the first
+first_is_none : (why other : Option Reason) → is_none (first_of why other) ≡ true → is_none why ≡ true
+first_is_none None other e = refl
+first_is_none (Some why) other e = absurd cc
+
 pub passes_on : (at : ℕ) (frame : List ℕ) (w : Watch) (H : Host) → w.is_on ≡ true →
-    admits frame (if_ethernet H.hardware_addr) H.ip_addrs w ≡ true → passes (arrival at frame H) w.guard ≡ true
+    admits (pos at) frame (if_ethernet H.hardware_addr) H.ip_addrs w ≡ true → passes (arrival at frame H) w.guard ≡ true
 passes_on at frame w H on admitted =
-    rw on at admitted
+    first_is_none (reason_of frame (if_ethernet H.hardware_addr) H.ip_addrs w.guard) (refusal_of_echo (pos at) frame w.guard) (rw on at admitted)
 
 -- a test that is false can't be true
 differ : (b : Bool) → b ≡ true → b ≡ false → ⊥

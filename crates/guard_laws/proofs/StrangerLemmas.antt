@@ -27,7 +27,7 @@ use Rattle.guard_laws.specs.Strangers.{Nobody, Renewed, Runs, StaysAt, Stored, T
 use Rattle.guard_laws.proofs.CountLemmas.{Known, before, count-all, count-fewer, count-insert, count-insert_soon, count-insert_there, count-remove, lt_of}
 
 -- what a frame of somebody did: nothing; or he was put over his entry or where there was room; or in the place of one of least end
-data Came (room : ℕ) (old new : Known) (a : IpAddress) (teaches_none : Bool) (end : ℤ) : Type 0 where
+pub data Came (room : ℕ) (old new : Known) (a : IpAddress) (teaches_none : Bool) (end : ℤ) : Type 0 where
   Same : new ≡ old → Came room old new a teaches_none end
   Over : (x : Neighbor) → x.expires_at ≡ end → (map.get old a ≡ None → teaches_none ≡ false) → new ≡ map.insert old a x →
       Came room old new a teaches_none end
@@ -60,14 +60,14 @@ renewed room old new a h teaches_none end is = by (map.get old a) refl is where
     here true put = Over (record n { expires_at = end }) refl (λ none. absurd (let bad : Some n ≡ None = sym some ∙ none in cc)) put
     here false put = Same put
 
-came : (c : Arrived) (a : IpAddress) (old new : Neighbors) → Learns c a old new →
+pub came : (c : Arrived) (a : IpAddress) (old new : Neighbors) → Learns c a old new →
     Came old.room old.known new.known a (teaches_nobody (kind_of c.frame)) (pos (c.at + 60000000))
 came c a old new (Nobody same) = Same (ap (λ (k : Neighbors). k.known) same)
 came c a old new (Stored h teaches fills) = stored old.room old.known new.known a _ (teaches_nobody (kind_of c.frame)) teaches fills.puts
 came c a old new (Renewed h is) =
     renewed old.room old.known new.known a h (teaches_nobody (kind_of c.frame)) (pos (c.at + 60000000)) (ap (λ (k : Neighbors). k.known) is)
 
-room_same : (c : Arrived) (a : IpAddress) (old new : Neighbors) → Learns c a old new → new.room ≡ old.room
+pub room_same : (c : Arrived) (a : IpAddress) (old new : Neighbors) → Learns c a old new → new.room ≡ old.room
 room_same c a old new (Nobody same) = ap (λ (k : Neighbors). k.room) same
 room_same c a old new (Stored h teaches fills) = fills.room
 room_same c a old new (Renewed h is) = ap (λ (k : Neighbors). k.room) is
@@ -97,7 +97,7 @@ count-limit t m a = by (map.get m a) where
     here true = count-insert_soon t m a (record n { expires_at = t }) (not_before t)
     here false = omega arith
 
-found : (m : Known) (a : IpAddress) (x : Neighbor) → map.get (map.insert m a x) a ≡ Some x
+pub found : (m : Known) (a : IpAddress) (x : Neighbor) → map.get (map.insert m a x) a ≡ Some x
 found m a x = get-insert address_total m a x a ∙ ap (λ b. cond b (Some x) (map.get m a)) (tied_itself address_total address_same a)
 
 count-limit_put : (t : ℤ) (m : Known) (a : IpAddress) (x : Neighbor) →
@@ -109,7 +109,7 @@ count-limit_put t m a x = rw (found m a x) (by (is_before t x.expires_at) refl) 
   by false soon = count-insert_soon t m a x soon
 
 -- so many were counted, and one more
-one_more : (t : ℤ) (room : ℕ) (old new : Known) (a : IpAddress) (teaches_none : Bool) (end : ℤ) → Came room old new a teaches_none end →
+pub one_more : (t : ℤ) (room : ℕ) (old new : Known) (a : IpAddress) (teaches_none : Bool) (end : ℤ) → Came room old new a teaches_none end →
     count_after t new ≤ count_after t old + 1
 one_more t room old new a teaches_none end (Same same) = rw same (omega arith)
 one_more t room old new a teaches_none end (Over x e none put) = rw put (count-insert t old a x)
@@ -140,32 +140,32 @@ unanswered : (h : Option Neighbor) → has_address h None ≡ false
 unanswered None = refl
 unanswered (Some n) = refl
 
-half : (c c' room : ℕ) → 2 * c < room → c' ≤ c + 1 → 4 * c' ≤ 3 * room + 3
-half c c' room few more = omega (arith, few, more)
+half : (c c' room most : ℕ) → room ≤ 2 * most → 2 * c < room → c' ≤ c + 1 → c' ≤ most
+half c c' room most share few more = omega (arith, share, few, more)
 
-fewer : (c c' room : ℕ) → 4 * c ≤ 3 * room + 3 → c' ≤ c → 4 * c' ≤ 3 * room + 3
-fewer c c' room few less = omega (arith, few, less)
+fewer : (c c' most : ℕ) → c ≤ most → c' ≤ c → c' ≤ most
+fewer c c' most few less = omega (arith, few, less)
 
 -- after any limit of a frame few are confirmed
-module _ (now : ℤ) (kind : Kind) (a : IpAddress) (g : Guard) (old learnt : Neighbors) (end : ℤ) (room_is : learnt.room ≡ old.room)
+module _ (most : ℕ) (now : ℤ) (kind : Kind) (a : IpAddress) (g : Guard) (old learnt : Neighbors) (end : ℤ) (share : old.room ≤ 2 * most)
     (did : Came old.room old.known learnt.known a (teaches_nobody kind) end)
-    (few : 4 * count_after (end_of_stay now g) old.known ≤ 3 * old.room + 3) where
+    (few : count_after (end_of_stay now g) old.known ≤ most) where
   t : ℤ
   t = end_of_stay now g
 
   abbrev StaysFew : Neighbors → Type 0
-  StaysFew k = 4 * count_after (end_of_stay now g) k.known ≤ 3 * old.room + 3
+  StaysFew k = count_after (end_of_stay now g) k.known ≤ most
 
   by_half : leaves_half now old g ≡ true → StaysFew learnt
   by_half is =
       let less : 2 * count_after (end_of_stay now g) old.known < old.room = grind (arith, nat_tests) in
-      half (count_after (end_of_stay now g) old.known) (count_after (end_of_stay now g) learnt.known) old.room less
+      half (count_after (end_of_stay now g) old.known) (count_after (end_of_stay now g) learnt.known) old.room most share less
       (one_more (end_of_stay now g) old.room old.known learnt.known a (teaches_nobody kind) end did)
 
   by_limit : StaysFew (after_limit learnt a (end_of_stay now g))
   by_limit =
       fewer (count_after (end_of_stay now g) old.known)
-      (count_after (end_of_stay now g) (limited_from (map.get learnt.known a) learnt.known a (end_of_stay now g))) old.room few
+      (count_after (end_of_stay now g) (limited_from (map.get learnt.known a) learnt.known a (end_of_stay now g))) most few
       (limited_count (end_of_stay now g) old.room old.known learnt.known a (teaches_nobody kind) end did)
 
   -- he isn't stored, and nobody is taught
@@ -197,7 +197,7 @@ module _ (now : ℤ) (kind : Kind) (a : IpAddress) (g : Guard) (old learnt : Nei
       StaysFew (limited (limit_of_confirmed now kind a n g) learnt)
   few_confirmed n is late = by (is_packet kind) where
     kept : StaysFew learnt
-    kept = fewer (count_after (end_of_stay now g) old.known) (count_after (end_of_stay now g) learnt.known) old.room few
+    kept = fewer (count_after (end_of_stay now g) old.known) (count_after (end_of_stay now g) learnt.known) most few
         (confirmed_count (end_of_stay now g) old.room old.known learnt.known a n (teaches_nobody kind) end is late did)
 
     by : (p : Bool) → StaysFew (limited (if p then None else Some (limit_at now a (Some n.hardware_addr) g)) learnt)
@@ -230,7 +230,7 @@ other_kept m a b t apart = by (map.get m a) where
     here false = refl
 
 -- a limit of one address leaves the others
-limit_leaves : (known : Neighbors) (limit : Option Limit) (a b : IpAddress) → ((l : Limit) → limit ≡ Some l → l.address ≡ a) →
+pub limit_leaves : (known : Neighbors) (limit : Option Limit) (a b : IpAddress) → ((l : Limit) → limit ≡ Some l → l.address ≡ a) →
     eq_by_cmp address_cmp b a ≡ false → map.get (limited limit known).known b ≡ map.get known.known b
 limit_leaves known None a b of apart = refl
 limit_leaves known (Some l) a b of apart = by (has_address (map.get known.known l.address) l.unless) where
@@ -261,7 +261,7 @@ of_confirmed now kind a n g l is = by (is_packet kind) is where
   by true e = absurd cc
   by false e = let same : limit_at now a (Some n.hardware_addr) g ≡ l = cc in sym (ap (λ (x : Limit). x.address) same)
 
-of_sender : (now : ℤ) (kind : Kind) (a : IpAddress) (known : Neighbors) (o : Option Neighbor) (g : Guard) (l : Limit) →
+pub of_sender : (now : ℤ) (kind : Kind) (a : IpAddress) (known : Neighbors) (o : Option Neighbor) (g : Guard) (l : Limit) →
     limit_of now kind a known o g ≡ Some l → l.address ≡ a
 of_sender now kind a known None g l is = of_new now kind a known g l is
 of_sender now kind a known (Some n) g l is = by (is_before (end_of_stay now g) n.expires_at) is where
@@ -270,32 +270,32 @@ of_sender now kind a known (Some n) g l is = by (is_before (end_of_stay now g) n
   by false e = of_stranger now kind a known g l e
 
 -- one that is counted isn't of least end where so few are that one isn't
-not_evicted : (t : ℤ) (room : ℕ) (m : Known) (b : IpAddress) (n : Neighbor) → 4 ≤ room → 4 * count_after t m ≤ 3 * room + 3 → room ≤ map.len m →
+not_evicted : (t : ℤ) (most room : ℕ) (m : Known) (b : IpAddress) (n : Neighbor) → most < room → count_after t m ≤ most → room ≤ map.len m →
     map.get m b ≡ Some n → is_before t n.expires_at ≡ true → IsLeastEnd m b → ⊥
-not_evicted t room m b n four few full is late least =
+not_evicted t most room m b n less few full is late least =
     let same : least.entry ≡ n = let e : Some least.entry ≡ Some n = sym least.is_there ∙ is in cc in
     let all : count_after t m ≡ map.len m = count-all t m (λ a x there.
     let less : t <ℤ n.expires_at = lt_of t n.expires_at late in
     let le : least.entry.expires_at ≤ℤ x.expires_at = least.least a x there in
     let le' : n.expires_at ≤ℤ x.expires_at = subst (λ (y : Neighbor). y.expires_at ≤ℤ x.expires_at) same le in
     before t x.expires_at (omega (arith, ints))) in
-    omega (arith, four, few, full, all)
+    omega (arith, less, few, full, all)
 
 -- who is confirmed stays where somebody else came
-other_came : (t : ℤ) (room : ℕ) (old new : Known) (a b : IpAddress) (n : Neighbor) (teaches_none : Bool) (end : ℤ) → 4 ≤ room →
-    4 * count_after t old ≤ 3 * room + 3 → map.get old b ≡ Some n → is_before t n.expires_at ≡ true → eq_by_cmp address_cmp b a ≡ false →
+other_came : (t : ℤ) (most room : ℕ) (old new : Known) (a b : IpAddress) (n : Neighbor) (teaches_none : Bool) (end : ℤ) → most < room →
+    count_after t old ≤ most → map.get old b ≡ Some n → is_before t n.expires_at ≡ true → eq_by_cmp address_cmp b a ≡ false →
     Came room old new a teaches_none end → map.get new b ≡ Some n
-other_came t room old new a b n teaches_none end four few is late apart (Same same) = ap (λ (m : Known). map.get m b) same ∙ is
-other_came t room old new a b n teaches_none end four few is late apart (Over x e none put) =
+other_came t most room old new a b n teaches_none end less few is late apart (Same same) = ap (λ (m : Known). map.get m b) same ∙ is
+other_came t most room old new a b n teaches_none end less few is late apart (Over x e none put) =
     ap (λ (m : Known). map.get m b) put ∙ get-insert address_total old a x b ∙ ap (λ d. cond d (Some x) (map.get old b)) apart ∙ is
-other_came t room old new a b n teaches_none end four few is late apart (InPlace x e teaches v least full none put) =
+other_came t most room old new a b n teaches_none end less few is late apart (InPlace x e teaches v least full none put) =
     ap (λ (m : Known). map.get m b) put ∙ get-insert address_total (map.remove old v) a x b
     ∙ ap (λ d. cond d (Some x) (map.get (map.remove old v) b)) apart ∙ get-remove address_total old v b
     ∙ by (eq_by_cmp address_cmp b v) refl where
       by : (d : Bool) → eq_by_cmp address_cmp b v ≡ d → cond d None (map.get old b) ≡ Some n
       by true same =
           let key : b ≡ v = tied address_total address_same b v same in
-          absurd (not_evicted t room old b n four few full is late (subst (λ (w : IpAddress). IsLeastEnd old w) (sym key) least))
+          absurd (not_evicted t most room old b n less few full is late (subst (λ (w : IpAddress). IsLeastEnd old w) (sym key) least))
       by false other = is
 
 -- his own entry lasts as long as it did, or for a minute
@@ -304,7 +304,7 @@ pub record Lasts (m : Known) (b : IpAddress) (end : ℤ) : Type 0 where
   pub is_there : map.get m b ≡ Some neighbor
   pub lasts : end ≤ℤ neighbor.expires_at
 
-own_came : (room : ℕ) (old new : Known) (b : IpAddress) (n : Neighbor) (teaches_none : Bool) (end minute : ℤ) → map.get old b ≡ Some n →
+pub own_came : (room : ℕ) (old new : Known) (b : IpAddress) (n : Neighbor) (teaches_none : Bool) (end minute : ℤ) → map.get old b ≡ Some n →
     end ≤ℤ n.expires_at → end ≤ℤ minute → Came room old new b teaches_none minute → Lasts new b end
 own_came room old new b n teaches_none end minute is lasts later (Same same) = record {
   neighbor = n;
@@ -353,24 +353,34 @@ own_limit now kind b h g learnt n x at is only = by (is_packet kind) only where
         let one : entry.0.hardware_addr ≡ h = p entry.0 entry.1 in
         absurd (let bad : true ≡ false = sym (same (sym entry.2 ∙ one)) ∙ e in cc)
 
+-- a guard by which strangers have a stay limits whoever sends a frame
+pub limit_is : (c : Arrived) (old : Neighbors) → c.guard.strangers_stay ≢ 0 → (a : IpAddress) → sender_of (kind_of c.frame) ≡ Some a →
+    may_have_entry c.own a ≡ true →
+    limit_for (pos c.at) c.frame c.own old c.guard ≡ limit_of (pos c.at) (kind_of c.frame) a old (map.get old.known a) c.guard
+limit_is c old some a sender may =
+    let on : (c.guard.strangers_stay == 0) ≡ false = grind (arith, nat_tests) in
+    rw (sender, on, may) refl
+
+pub kept_room : (l : Option Limit) (k : Neighbors) → (limited l k).room ≡ k.room
+kept_room None k = refl
+kept_room (Some l) k = by (has_address (map.get k.known l.address) l.unless) where
+  by : (d : Bool) → (if d then k else after_limit k l.address l.expires_at).room ≡ k.room
+  by true = refl
+  by false = refl
+
 -- one frame
-pub record Keeps (t : ℕ) (b : IpAddress) (h : HardwareAddress) (end : ℕ) (known : Neighbors) : Type 0 where
-  pub four : 4 ≤ known.room
-  pub few : AreFew t known
+pub record Keeps (most t : ℕ) (b : IpAddress) (h : HardwareAddress) (end : ℕ) (known : Neighbors) : Type 0 where
+  pub share : known.room ≤ 2 * most
+  pub less : most < known.room
+  pub few : AreFew most t known
   pub is_known : IsKnownUntil known b h end
 
-module _ (c : Arrived) (b : IpAddress) (h : HardwareAddress) (end : ℕ) (old : Neighbors) (keeps : Keeps (c.at + c.guard.strangers_stay) b h end old)
+module _ (most : ℕ) (c : Arrived) (b : IpAddress) (h : HardwareAddress) (end : ℕ) (old : Neighbors) (keeps : Keeps most (c.at + c.guard.strangers_stay) b h end old)
     (some : c.guard.strangers_stay ≢ 0) (minute : end ≤ c.at + 60000000) (left : c.at + c.guard.strangers_stay < end) where
   confirmed_b : is_before (pos (c.at + c.guard.strangers_stay)) keeps.is_known.neighbor.expires_at ≡ true
   confirmed_b =
       let lasts = keeps.is_known.lasts in
       before (pos (c.at + c.guard.strangers_stay)) keeps.is_known.neighbor.expires_at (omega (arith, ints, lasts, left))
-
-  limit_is : (a : IpAddress) → sender_of (kind_of c.frame) ≡ Some a → may_have_entry c.own a ≡ true →
-      limit_for (pos c.at) c.frame c.own old c.guard ≡ limit_of (pos c.at) (kind_of c.frame) a old (map.get old.known a) c.guard
-  limit_is a sender may =
-      let on : (c.guard.strangers_stay == 0) ≡ false = grind (arith, nat_tests) in
-      rw (on, sender, may) refl
 
   lasts_by : (a : IpAddress) (learnt : Neighbors) → Learns c a old learnt → (d : Bool) → eq_by_cmp address_cmp b a ≡ d →
       IsAtNoOther b h (limited (limit_of (pos c.at) (kind_of c.frame) a old (map.get old.known a) c.guard) learnt) →
@@ -378,8 +388,8 @@ module _ (c : Arrived) (b : IpAddress) (h : HardwareAddress) (end : ℕ) (old : 
   lasts_by a learnt learns false apart only =
       let n = keeps.is_known.neighbor in
       let stays : map.get learnt.known b ≡ Some n =
-      other_came (pos (c.at + c.guard.strangers_stay)) old.room old.known learnt.known a b n (teaches_nobody (kind_of c.frame)) (pos (c.at + 60000000))
-      keeps.four keeps.few keeps.is_known.is_there confirmed_b apart (came c a old learnt learns) in
+      other_came (pos (c.at + c.guard.strangers_stay)) most old.room old.known learnt.known a b n (teaches_nobody (kind_of c.frame)) (pos (c.at + 60000000))
+      keeps.less keeps.few keeps.is_known.is_there confirmed_b apart (came c a old learnt learns) in
       record {
         neighbor = n;
         is_there =
@@ -408,59 +418,55 @@ module _ (c : Arrived) (b : IpAddress) (h : HardwareAddress) (end : ℕ) (old : 
         lasts = l.lasts;
       })
 
-  step : (new : Neighbors) → Leaves c old new → IsAtNoOther b h new → Keeps (c.at + c.guard.strangers_stay) b h end new
-  step new (All same) only = subst (λ (k : Neighbors). Keeps (c.at + c.guard.strangers_stay) b h end k) (sym same) keeps
+  step : (new : Neighbors) → Leaves c old new → IsAtNoOther b h new → Keeps most (c.at + c.guard.strangers_stay) b h end new
+  step new (All same) only = subst (λ (k : Neighbors). Keeps most (c.at + c.guard.strangers_stay) b h end k) (sym same) keeps
   step new (Less a learnt sender may learns is) only =
-      let limit = limit_is a sender may in
+      let limit = limit_is c old some a sender may in
       let is' : new ≡ limited (limit_of (pos c.at) (kind_of c.frame) a old (map.get old.known a) c.guard) learnt =
       is ∙ ap (λ (l : Option Limit). limited l learnt) limit in
       let left_of = limited (limit_of (pos c.at) (kind_of c.frame) a old (map.get old.known a) c.guard) learnt in
       let room : left_of.room ≡ old.room =
       kept_room (limit_of (pos c.at) (kind_of c.frame) a old (map.get old.known a) c.guard) learnt ∙ room_same c a old learnt learns in
-      subst (λ (k : Neighbors). Keeps (c.at + c.guard.strangers_stay) b h end k) (sym is') (record {
-        four = subst (λ (r : ℕ). 4 ≤ r) (sym room) keeps.four;
-        few = subst (λ (r : ℕ). 4 * count_after (pos (c.at + c.guard.strangers_stay)) left_of.known ≤ 3 * r + 3) (sym room)
-            (few_after (pos c.at) (kind_of c.frame) a c.guard old learnt (pos (c.at + 60000000)) (room_same c a old learnt learns) (came c a old learnt learns) keeps.few);
+      subst (λ (k : Neighbors). Keeps most (c.at + c.guard.strangers_stay) b h end k) (sym is') (record {
+        share = subst (λ (r : ℕ). r ≤ 2 * most) (sym room) keeps.share;
+        less = subst (λ (r : ℕ). most < r) (sym room) keeps.less;
+        few = few_after most (pos c.at) (kind_of c.frame) a c.guard old learnt (pos (c.at + 60000000)) keeps.share (came c a old learnt learns) keeps.few;
         is_known = lasts_by a learnt learns (eq_by_cmp address_cmp b a) refl (subst (IsAtNoOther b h) is' only);
-      }) where
-        kept_room : (l : Option Limit) (k : Neighbors) → (limited l k).room ≡ k.room
-        kept_room None k = refl
-        kept_room (Some l) k = by (has_address (map.get k.known l.address) l.unless) where
-          by : (d : Bool) → (if d then k else after_limit k l.address l.expires_at).room ≡ k.room
-          by true = refl
-          by false = refl
+      })
 
 -- few stay few as time goes on
-few_later : (t u : ℕ) (known : Neighbors) → t ≤ u → AreFew t known → AreFew u known
-few_later t u known le few =
+few_later : (most t u : ℕ) (known : Neighbors) → t ≤ u → AreFew most t known → AreFew most u known
+few_later most t u known le few =
     let less = count-fewer (pos t) (pos u) known.known (omega (arith, ints, le)) in
-    fewer (count_after (pos t) known.known) (count_after (pos u) known.known) known.room few less
+    fewer (count_after (pos t) known.known) (count_after (pos u) known.known) most few less
 
-ordered : (first last : ℕ) (arrived : List Arrived) → AreInOrder first last arrived → first ≤ last
+pub ordered : (first last : ℕ) (arrived : List Arrived) → AreInOrder first last arrived → first ≤ last
 ordered first last [] le = le
 ordered first last (c ∷ later) (low, rest) = let le = ordered c.at last later rest in omega (arith, low, le)
 
-many : (stay first last end : ℕ) (arrived : List Arrived) (old new : Neighbors) (b : IpAddress) (h : HardwareAddress) → stay ≢ 0 →
-    end ≤ first + 60000000 → last + stay < end → AreInOrder first last arrived → HaveStay stay arrived → Keeps (first + stay) b h end old →
-    (runs : Runs arrived old new) → StaysAt b h runs → Keeps (last + stay) b h end new
-many stay first last end [] old new b h some minute left order same keeps (End known) only = record {
-  four = keeps.four;
-  few = few_later (first + stay) (last + stay) known (omega (arith, order)) keeps.few;
+many : (most stay first last end : ℕ) (arrived : List Arrived) (old new : Neighbors) (b : IpAddress) (h : HardwareAddress) → stay ≢ 0 →
+    end ≤ first + 60000000 → last + stay < end → AreInOrder first last arrived → HaveStay stay arrived → Keeps most (first + stay) b h end old →
+    (runs : Runs arrived old new) → StaysAt b h runs → Keeps most (last + stay) b h end new
+many most stay first last end [] old new b h some minute left order same keeps (End known) only = record {
+  share = keeps.share;
+  less = keeps.less;
+  few = few_later most (first + stay) (last + stay) known (omega (arith, order)) keeps.few;
   is_known = keeps.is_known;
 }
-many stay first last end (c ∷ later) old new b h some minute left (low, order) (one, same) keeps (Then d rest k mid z leaves runs) (only, all) =
+many most stay first last end (c ∷ later) old new b h some minute left (low, order) (one, same) keeps (Then d rest k mid z leaves runs) (only, all) =
     let le = ordered c.at last later order in
-    let here : Keeps (c.at + c.guard.strangers_stay) b h end old = rw one (record {
-      four = keeps.four;
-      few = few_later (first + stay) (c.at + stay) old (omega (arith, low)) keeps.few;
+    let here : Keeps most (c.at + c.guard.strangers_stay) b h end old = rw one (record {
+      share = keeps.share;
+      less = keeps.less;
+      few = few_later most (first + stay) (c.at + stay) old (omega (arith, low)) keeps.few;
       is_known = keeps.is_known;
     }) in
-    let next : Keeps (c.at + c.guard.strangers_stay) b h end mid =
-    step c b h end old here (rw one some) (omega (arith, low, minute)) (rw one (omega (arith, le, left))) mid leaves only in
-    many stay c.at last end later mid new b h some (omega (arith, low, minute)) left order same (rw one at next) runs all
+    let next : Keeps most (c.at + c.guard.strangers_stay) b h end mid =
+    step most c b h end old here (rw one some) (omega (arith, low, minute)) (rw one (omega (arith, le, left))) mid leaves only in
+    many most stay c.at last end later mid new b h some (omega (arith, low, minute)) left order same (rw one at next) runs all
 
 pub confirmed_stay : ConfirmedStay
-confirmed_stay stay first last end arrived old new b h some four few is_known minute left order same runs all =
-    let kept = many stay first last end arrived old new b h some minute left order same
-    (record { four = four; few = few; is_known = is_known }) runs all in
+confirmed_stay most stay first last end arrived old new b h some share less few is_known minute left order same runs all =
+    let kept = many most stay first last end arrived old new b h some minute left order same
+    (record { share = share; less = less; few = few; is_known = is_known }) runs all in
     (kept.is_known, kept.few)

@@ -58,11 +58,11 @@ abbrev pub ListenerAnswersStay : Type 0
 ListenerAnswersStay =
     (at : ℤ) (others : List MldReportState) → AreNoSoonerMld at others → left_of_mld (mld.ToGeneralQuery at) others ≡ mld.ToGeneralQuery at
 
--- A request in response to a frame is followed by the turn of sockets for three seconds, as long as who was asked for isn't known; one of
--- a socket isn't
+-- A request in response to a frame is followed by the turn of sockets for three seconds, as long as who was asked for isn't known, and the
+-- clock goes back by no more than a minute; one of a socket isn't
 abbrev pub TurnsAreTaken : Type 0
 TurnsAreTaken =
-    (at now : ℕ) (a : IpAddress) (known : Neighbors) (g : Guard) → g.takes_turns ≡ true → now ≤ at + 3000000 →
+    (at now : ℕ) (a : IpAddress) (known : Neighbors) (g : Guard) → g.takes_turns ≡ true → now ≤ at + 3000000 → at ≤ now + 60000000 →
     map.get known.known a ≡ None →
     (is_turn_of_sockets (pos now) known (after_asking (pos at) (Some a) true g) ≡ true)
     × (is_turn_of_sockets (pos now) known (after_asking (pos at) (Some a) false g) ≡ false)

@@ -21,7 +21,7 @@ pub record ReceivesAdmitted (at : ℕ) (frame : List ℕ) (w : Watch) (old : Hos
     (new : Host) : Type 0 where
   pub receives : Receives (pos at) frame old told notes new
   pub is_on : w.is_on ≡ true
-  pub admitted : admits frame (if_ethernet old.hardware_addr) old.ip_addrs w ≡ true
+  pub admitted : admits (pos at) frame (if_ethernet old.hardware_addr) old.ip_addrs w ≡ true
 
 -- who is known at an address is known at this hardware address
 abbrev pub IsKnownOnlyAt : Host → IpAddress → EthernetAddress → Type 0

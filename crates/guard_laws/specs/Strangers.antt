@@ -1,5 +1,5 @@
 -- What strangers can't do to the neighbours that a host knows well, behind its guard.
-use Rattle.std.specs.Prelude.{◌≡◌, ◌≢◌, ℕ, ◌+◌, ◌*◌, ◌≤◌, ◌<◌, pos, true, false, List, [], ◌∷◌, Some, ◌≤ℤ◌}
+use Rattle.std.specs.Prelude.{◌≡◌, ◌≢◌, ℕ, ◌+◌, ◌-◌, ◌*◌, length, ◌≤◌, ◌<◌, pos, true, false, List, [], ◌∷◌, Some, ◌≤ℤ◌}
 use Rattle.std.specs.FinMap as map
 use Rattle.ip_address.specs.declared.cidr.IpCidr.{IpCidr}
 use Rattle.ip_address.specs.declared.hardware.HardwareAddress.{HardwareAddress}
@@ -63,15 +63,26 @@ pub record IsKnownUntil (known : Neighbors) (b : IpAddress) (h : HardwareAddress
   pub hardware : neighbor.hardware_addr ≡ h
   pub lasts : pos end ≤ℤ neighbor.expires_at
 
--- at most so many of the entries are confirmed that one at least isn't, where there is room for four
-abbrev pub AreFew : ℕ → Neighbors → Type 0
-AreFew at known = 4 * count_after (pos at) known.known ≤ 3 * known.room + 3
+-- at most so many of the entries are confirmed
+abbrev pub AreFew : (most : ℕ) → ℕ → Neighbors → Type 0
+AreFew most at known = count_after (pos at) known.known ≤ most
 
 -- Whatever frames strangers send, however many and however fast: a neighbour that is confirmed stays known at its hardware address, until
--- less of its time is left than a stranger stays. Nor do confirmed ones become so many that none is left for others
+-- less of its time is left than a stranger stays. Nor do confirmed ones become more than so many, if they are no more before: half of the
+-- entries, or any greater number that leaves one to others
 abbrev pub ConfirmedStay : Type 0
 ConfirmedStay =
-    (stay first last end : ℕ) (arrived : List Arrived) (old new : Neighbors) (b : IpAddress) (h : HardwareAddress) →
-    stay ≢ 0 → 4 ≤ old.room → AreFew (first + stay) old → IsKnownUntil old b h end → end ≤ first + 60000000 → last + stay < end →
+    (most stay first last end : ℕ) (arrived : List Arrived) (old new : Neighbors) (b : IpAddress) (h : HardwareAddress) →
+    stay ≢ 0 → old.room ≤ 2 * most → most < old.room → AreFew most (first + stay) old → IsKnownUntil old b h end → end ≤ first + 60000000 →
+    last + stay < end → AreInOrder first last arrived → HaveStay stay arrived → (runs : Runs arrived old new) → StaysAt b h runs →
+    IsKnownUntil new b h end × AreFew most (last + stay) new
+
+-- Newcomers have the other half. Who is known until the end of a stay, as a stranger is who comes now, and is alone in that, stays known
+-- at his hardware address for as many later frames as that half has room for, whoever sends them, and however fast
+abbrev pub NewcomersStay : Type 0
+NewcomersStay =
+    (stay at first last : ℕ) (arrived : List Arrived) (old new : Neighbors) (b : IpAddress) (h : HardwareAddress) → 1 ≤ stay →
+    stay ≤ 60000000 → at ≤ first → 2 * count_after (pos (at + stay)) old.known ≤ old.room + 1 → IsKnownUntil old b h (at + stay) →
+    count_after (pos (at + stay - 1)) old.known ≤ count_after (pos (at + stay)) old.known + 1 → 2 * length arrived + 3 ≤ old.room →
     AreInOrder first last arrived → HaveStay stay arrived → (runs : Runs arrived old new) → StaysAt b h runs →
-    IsKnownUntil new b h end × AreFew (last + stay) new
+    IsKnownUntil new b h (at + stay)

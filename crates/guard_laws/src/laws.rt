@@ -2,7 +2,7 @@
 ghost use Rattle.guard_laws.specs.Answers.{AnswersStay, LaterAnswersCount, ListenerAnswersStay, TurnsAreTaken};
 ghost use Rattle.guard_laws.specs.Claims.{NobodyClaimsAnOwnAddress, PinnedNeighborsStay};
 ghost use Rattle.guard_laws.specs.MessageClaims.{NobodyClaimsAnOwnIpv6Address, PinnedIpv6NeighborsStay};
-ghost use Rattle.guard_laws.specs.Strangers.{ConfirmedStay};
+ghost use Rattle.guard_laws.specs.Strangers.{ConfirmedStay, NewcomersStay};
 
 /// By a frame that its guard admits a host learns no other hardware address for its own IPv4 addresses than its own one.
 pub fn nobody_claims_an_own_address()
@@ -29,6 +29,11 @@ pub fn pinned_ipv6_neighbors_stay()
 /// frames strangers send, and however many. Confirmed ones never become so many that none is left for others.
 pub fn confirmed_stay()
     ensures { ConfirmedStay }
+{}
+
+/// A newcomer stays known for as many later frames, whoever sends them, as half of the entries are: confirmed ones leave that half.
+pub fn newcomers_stay()
+    ensures { NewcomersStay }
 {}
 
 /// However many queries of IGMP come, none puts off the answer to a general query of which nothing was reported yet, or takes its place,

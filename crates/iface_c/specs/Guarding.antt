@@ -23,6 +23,7 @@ watch_in c = record {
     keeps_own_addresses = holds_in c.own_addresses;
     drops_fragments = holds_in c.fragments;
     drops_loops = holds_in c.loops;
+    echo_requests = bucket_in c.echo_requests;
     strangers_stay = c.strangers_stay;
     takes_turns = holds_in c.turns;
     keeps_reports = holds_in c.reports;
@@ -31,9 +32,10 @@ watch_in c = record {
     asked = None;
   };
   answers = record {
-    echo_replies = bucket_in c.echo_replies;
     errors = bucket_in c.errors;
+    known_errors = bucket_in c.errors;
     resets = bucket_in c.resets;
+    known_resets = bucket_in c.resets;
     longest_error = c.longest_error;
   };
   counts = no_drops;
@@ -42,10 +44,10 @@ watch_in c = record {
   defence = record { interval = c.defend; last = None; owed = None };
 }
 
--- what most programs want: the usual rules and rates, but none of echo replies
+-- what most programs want: the usual rules and rates
 abbrev pub usual_guard : IfaceGuard
 usual_guard = record {
-  echo_replies = record { interval = 0; at_once = 0 };
+  echo_requests = record { interval = 0; at_once = 0 };
   errors = record { interval = 10000; at_once = 10 };
   resets = record { interval = 10000; at_once = 10 };
   strangers_stay = 20000000;
@@ -68,7 +70,7 @@ drops_shown host = record {
   pinned = host.watch.counts.pinned;
   fragment = host.watch.counts.fragment;
   loops = host.watch.counts.loops;
-  echo_reply = host.watch.counts.echo_reply;
+  echo_request = host.watch.counts.echo_request;
   error = host.watch.counts.error;
   reset = host.watch.counts.reset;
 }

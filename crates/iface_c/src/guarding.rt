@@ -4,7 +4,7 @@ ghost use Rattle.iface_c.specs.Calls.{Did};
 ghost use Rattle.iface_c.specs.Addresses.{address_in};
 ghost use Rattle.iface_c.specs.Guarding.{ShowsConflict, bucket_in, conflict_of, drops_shown, pinned_conflict_of, usual_guard};
 ghost use Rattle.iface_c.specs.Guarding.{watch_in};
-ghost use Rattle.iface_host.specs.Guarded.{after_pin, after_unpin, pin_refusal, unpin_refusal};
+ghost use Rattle.iface_host.specs.Guarded.{Pins, after_unpin, pin_refusal, unpin_refusal};
 ghost use Rattle.iface_c.specs.Handle.{host_in};
 ghost use Rattle.iface_c.specs.Properties.{Shows, ethernet_of, lack};
 ghost use Rattle.iface_c.specs.Status.{code_by, code_with};
@@ -40,11 +40,11 @@ impl IfaceRate {
 #[repr(C)]
 #[derive(Drop)]
 pub struct IfaceGuard {
-    /// Echo replies.
-    pub echo_replies: IfaceRate,
-    /// Errors of either ICMP.
+    /// Echo requests of either ICMP, and fragments of ICMP.
+    pub echo_requests: IfaceRate,
+    /// Errors of either ICMP; while a rate of these or of resets is used up, confirmed neighbours have as many.
     pub errors: IfaceRate,
-    /// Resets.
+    /// Resets, likewise.
     pub resets: IfaceRate,
     /// How long a neighbour is known that isn't confirmed, in microseconds; 0: as long as any other.
     pub strangers_stay: u32,
@@ -69,12 +69,12 @@ pub struct IfaceGuard {
 }
 
 impl IfaceGuard {
-    /// What most programs want: the rules and rates of [`Watch::new`], but no rate of echo replies.
+    /// What most programs want: the rules and rates of [`Watch::new`], which have no rate of echo requests.
     pub(crate) fn usual() -> IfaceGuard
         ensures { result ≡ usual_guard }
     {
         IfaceGuard {
-            echo_replies: IfaceRate {
+            echo_requests: IfaceRate {
                 interval: 0,
                 at_once: 0,
             },
@@ -109,6 +109,7 @@ impl IfaceGuard {
                 keeps_own_addresses: self.own_addresses != 0,
                 drops_fragments: self.fragments != 0,
                 drops_loops: self.loops != 0,
+                echo_requests: self.echo_requests.bucket(),
                 strangers_stay: self.strangers_stay,
                 takes_turns: self.turns != 0,
                 keeps_reports: self.reports != 0,
@@ -117,9 +118,10 @@ impl IfaceGuard {
                 asked: None,
             },
             answers: Answers {
-                echo_replies: self.echo_replies.bucket(),
                 errors: self.errors.bucket(),
+                known_errors: self.errors.bucket(),
                 resets: self.resets.bucket(),
+                known_resets: self.resets.bucket(),
                 longest_error: self.longest_error,
             },
             counts: Counts::NONE,
@@ -148,8 +150,8 @@ pub struct IfaceDrops {
     pub fragment: u64,
     /// Datagrams that could go to and fro for ever.
     pub loops: u64,
-    /// Echo replies that were held back.
-    pub echo_reply: u64,
+    /// Echo requests, and fragments of ICMP, beyond their rate.
+    pub echo_request: u64,
     /// Errors of either ICMP that were held back.
     pub error: u64,
     /// Resets that were held back.
@@ -178,7 +180,7 @@ pub extern "C" fn iface_guard_drops(
         pinned: counts.pinned,
         fragment: counts.fragment,
         loops: counts.loops,
-        echo_reply: counts.echo_reply,
+        echo_request: counts.echo_request,
         error: counts.error,
         reset: counts.reset,
     };
@@ -243,7 +245,7 @@ pub extern "C" fn iface_guard_pinned_conflict(
     }
 }
 
-/// Pins a neighbour to a hardware address.
+/// Pins a neighbour to a hardware address. An entry of it with another one expires at once.
 #[unsafe(no_mangle)]
 pub extern "C" fn iface_guard_pin(
     handle: &mut Iface,
@@ -252,7 +254,7 @@ pub extern "C" fn iface_guard_pin(
     hardware_address: &[u8; 6],
 ) -> u32
     ensures done { Did result (λ old new. IsSomeAnd (address_in address.now)
-        (λ pinned. new ≡ after_pin pinned (ethernet_of hardware_address.now) old)) handle.old handle.new }
+        (λ pinned. Pins pinned (ethernet_of hardware_address.now) old new)) handle.old handle.new }
     ensures code { result ≡ code_with (λ pinned host. pin_refusal host pinned (ethernet_of hardware_address.now))
         (address_in address.now) (host_in handle.old) }
 {

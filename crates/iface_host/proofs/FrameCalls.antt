@@ -26,7 +26,6 @@ use Rattle.guard.specs.Defence.{announced}
 use Rattle.guard.specs.Watch as guard
 use Rattle.ip_address.specs.declared.cidr.IpCidr.{IpCidr}
 use Rattle.ip_address.specs.declared.hardware.HardwareAddress.{HardwareAddress}
-use Rattle.guard.specs.declared.guard.Reason.{Reason}
 use Rattle.guard.specs.declared.watch.Watch.{Watch}
 use Rattle.iface_host.specs.Frames.{Gives, IsDue, IsWritten, Made, PollsInto, Round, Takes, after_response, is_piece_left, let_go, planned}
 use Rattle.iface_host.specs.Calls.{addresses_of}
@@ -69,24 +68,24 @@ changing [] = refl
 changing (octet ∷ octets) = ap not (eqb-suc-zero (length octets))
 
 -- what a guard holds back isn't written, and what it lets go is
-pub held : (t : ℤ) (frame : List ℕ) (answered : ℕ) (w : Watch) → guard.lets_go t frame answered w ≡ false → (out : List ℕ) →
-    IsWritten (let_go t (Some frame) answered w) 0 out out
-held t frame answered w e out = rw e (refl, refl)
+pub held : (t : ℤ) (frame : List ℕ) (answered : ℕ) (known : Bool) (w : Watch) → guard.lets_go t frame answered known w ≡ false →
+    (out : List ℕ) → IsWritten (let_go t (Some frame) answered known w) 0 out out
+held t frame answered known w e out = rw e (refl, refl)
 
-pub went : (t : ℤ) (frame : List ℕ) (answered : ℕ) (w : Watch) → guard.lets_go t frame answered w ≡ true → (n : ℕ) (before after : List ℕ) →
-    IsWritten (Some frame) n before after → IsWritten (let_go t (Some frame) answered w) n before after
-went t frame answered w e n before after is = rw e is
+pub went : (t : ℤ) (frame : List ℕ) (answered : ℕ) (known : Bool) (w : Watch) → guard.lets_go t frame answered known w ≡ true →
+    (n : ℕ) (before after : List ℕ) → IsWritten (Some frame) n before after → IsWritten (let_go t (Some frame) answered known w) n before after
+went t frame answered known w e n before after is = rw e is
 
 -- the front of a buffer that is no longer
 pub all_of : (n : ℕ) (octets : List ℕ) → length octets ≤ n → octets ≡ take n octets
 all_of n octets short = sym (take_all n octets short)
 
 -- a guard judges by the host's own hardware address and addresses
-pub admits_as : (frame : List ℕ) (hardware hardware' : Option HardwareAddress) → hardware ≡ hardware' →
-    (own own' : List IpCidr) → own ≡ own' → (w : Watch) → guard.admits frame hardware own w ≡ guard.admits frame hardware' own' w
-admits_as frame hardware hardware' same_hardware own own' same w =
-    ap (λ (h : Option HardwareAddress). guard.admits frame h own w) same_hardware
-    ∙ ap (λ (o : List IpCidr). guard.admits frame hardware' o w) same
+pub admits_as : (t : ℤ) (frame : List ℕ) (hardware hardware' : Option HardwareAddress) → hardware ≡ hardware' →
+    (own own' : List IpCidr) → own ≡ own' → (w : Watch) → guard.admits t frame hardware own w ≡ guard.admits t frame hardware' own' w
+admits_as t frame hardware hardware' same_hardware own own' same w =
+    ap (λ (h : Option HardwareAddress). guard.admits t frame h own w) same_hardware
+    ∙ ap (λ (o : List IpCidr). guard.admits t frame hardware' o w) same
 
 pub arrives_as : (t : ℤ) (frame : List ℕ) (hardware hardware' : Option HardwareAddress) → hardware ≡ hardware' →
     (own own' : List IpCidr) → own ≡ own' → (host : IfaceHost) (w : Watch) → w ≡ guard.after_arrival t frame hardware own host.watch →
@@ -97,14 +96,14 @@ arrives_as t frame hardware hardware' same_hardware own own' same host w is =
     ∙ ap (λ (o : List IpCidr). guard.after_arrival t frame hardware' o host.watch) same)
 
 -- a frame was taken
-pub received : (t : ℤ) (frame : List ℕ) (n : ℕ) (before after : List ℕ) (old : IfaceHost) (i : Interface) (s : Sockets (Bor (Unit {0})))
-    (shown result : Option (List ℕ)) → result ≡ shown → IsWritten (let_go t shown (length frame) old.watch) n before after →
+pub received : (t : ℤ) (frame : List ℕ) (known : Bool) (n : ℕ) (before after : List ℕ) (old : IfaceHost) (i : Interface) (s : Sockets (Bor (Unit {0})))
+    (shown result : Option (List ℕ)) → result ≡ shown → IsWritten (let_go t shown (length frame) known old.watch) n before after →
     HostRefinesReceiving t frame result (interfaces.StandsFor old.interface.value old.sockets) (interfaces.StandsFor i s) →
     (changed : Bool) → changed ≡ (old.changed || not (length frame == 0)) → (counts : FrameCounts) →
-    counts ≡ after_handing n (after_taking old.frames) → (w : Watch) → w ≡ after_response t shown (length frame) old.watch →
-    Takes t frame n before after old
+    counts ≡ after_handing n (after_taking old.frames) → (w : Watch) → w ≡ after_response t shown (length frame) known old.watch →
+    Takes t frame known n before after old
     (record old { interface = with_value old.interface i; sockets = s; changed = changed; frames = counts; watch = w })
-received t frame n before after old i s shown result is written r changed changed_is counts counts_is w w_is = record {
+received t frame known n before after old i s shown result is written r changed changed_is counts counts_is w w_is = record {
   shown = shown;
   written = written;
   received =
@@ -130,22 +129,15 @@ received t frame n before after old i s shown result is written r changed change
 }
 
 -- at the moment that was tested
--- a frame that is admitted is noted nowhere
-noted_nowhere : (why : Option Reason) → is_none why ≡ true → (t : ℤ) (frame : List ℕ) (w : Watch) → guard.after_reason t frame why w ≡ w
-noted_nowhere None none t frame w = refl
-noted_nowhere (Some r) none t frame w = absurd cc
-
 pub admitted : (t t' : ℤ) → t' ≡ t → (frame : List ℕ) (n : ℕ) (before after : List ℕ) (old mid new : IfaceHost) →
-    is_admitted frame old ≡ true → mid ≡ after_arrival t' frame old → TakesGuarded t' frame n before after mid new →
+    is_admitted t' frame old ≡ true → mid ≡ after_arrival t' frame old → TakesGuarded t' frame n before after mid new →
     Receives t frame n before after old new
 admitted t t' same frame n before after old mid new is mid_is takes =
-    let stays : mid ≡ old = mid_is ∙ ap (λ (w : Watch). record old { watch = w })
-    (noted_nowhere (guard.reason_for frame (hardware_addr_of old) (addresses_of old) old.watch) is t' frame old.watch) in
     subst (λ (m : ℤ). Receives m frame n before after old new) same
-    (Admitted is (subst (λ (h : IfaceHost). TakesGuarded t' frame n before after h new) stays takes))
+    (Admitted is (subst (λ (h : IfaceHost). TakesGuarded t' frame n before after h new) mid_is takes))
 
 pub dropped : (t t' : ℤ) → t' ≡ t → (frame : List ℕ) (n : ℕ) (before after : List ℕ) (old mid new : IfaceHost) →
-    is_admitted frame old ≡ false → mid ≡ after_arrival t' frame old → Defends n before after mid new → Receives t frame n before after old new
+    is_admitted t' frame old ≡ false → mid ≡ after_arrival t' frame old → Defends n before after mid new → Receives t frame n before after old new
 dropped t t' same frame n before after old mid new is mid_is defends =
     subst (λ (m : ℤ). Receives m frame n before after old new) same
     (Dropped is (subst (λ (h : IfaceHost). Defends n before after h new) mid_is defends))

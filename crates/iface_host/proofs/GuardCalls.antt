@@ -4,9 +4,10 @@ use Rattle.std.specs.Prelude.{ℤ, ◌==◌, ◌&&◌, ◌||◌, Option, is_none
 use Rattle.std.proofs.lemmas.Bool.Decides.{nat_tests}
 use Rattle.std.specs.FinMap as map
 use Rattle.ip_address.specs.declared.cidr.IpCidr.{IpCidr}
-use Rattle.guard.specs.Guard.{is_ordinary, is_turn_of_sockets}
+use Rattle.guard.specs.Answers.{is_short}
+use Rattle.guard.specs.Guard.{is_ordinary, is_turn_of_sockets, micros}
 use Rattle.guard.specs.Reports.{covers, is_idle, kept, kept_mld}
-use Rattle.guard.specs.Strangers.{has_address, limit_for}
+use Rattle.guard.specs.Strangers.{comes_from_known, has_address, limit_for}
 use Rattle.guard.specs.declared.strangers.Limit.{Limit}
 use Rattle.iface_tables.specs.Neighbor.{Neighbors, after_limit}
 use Rattle.iface_tables.specs.Slaac.{SlaacState}
@@ -19,7 +20,7 @@ use Rattle.interface.specs.Stands.{Becomes, IsPaced}
 use Rattle.interface.specs.declared.interface.Interface.{Interface}
 use Rattle.iface_host.specs.Calls.{addresses_of}
 use Rattle.iface_host.specs.Frames.{Takes}
-use Rattle.iface_host.specs.Guarded.{Changes, TakesGuarded, is_nothing_learnt, is_silenced, kept_by, leaves_all, limit_kept, limit_on, may_tell, reports_back, silence_back}
+use Rattle.iface_host.specs.Guarded.{Changes, TakesGuarded, is_known_on, is_nothing_learnt, is_ordinary_to, is_silenced, kept_by, limit_kept, limit_on, may_tell, reports_back, silence_back}
 use Rattle.iface_host.specs.Guarded.{silence_to_keep, update_back}
 use Rattle.iface_host.specs.Properties.{machine_of}
 use Rattle.iface_host.specs.Stands.{StandsFor}
@@ -132,9 +133,36 @@ limit_as t frame host own known same same' on =
     ap (λ (o : List IpCidr). limit_for t frame o known host.watch.guard) same
     ∙ ap (λ (k : Neighbors). limit_for t frame (addresses_of host) k host.watch.guard) same' ∙ rw on refl
 
-pub told_as : (frame : List ℕ) (host : IfaceHost) (own : List IpCidr) (r : Bool) → own ≡ addresses_of host → host.watch.is_on ≡ true →
-    r ≡ is_ordinary frame own → not r ≡ may_tell frame host
-told_as frame host own r same on is = ap not (is ∙ ap (is_ordinary frame) same) ∙ rw on refl
+pub known_as : (t : ℤ) (frame : List ℕ) (host : IfaceHost) (known : Neighbors) → known ≡ (machine_of host).neighbors →
+    host.watch.is_on ≡ true → is_short (micros t) host.watch.answers ≡ true → comes_from_known t frame known host.watch.guard ≡ is_known_on t frame host
+known_as t frame host known same on short =
+    ap (λ (k : Neighbors). comes_from_known t frame k host.watch.guard) same
+    ∙ known_by host.watch.is_on (is_short (micros t) host.watch.answers) (comes_from_known t frame (machine_of host).neighbors host.watch.guard) on short
+  where
+    known_by : (on short known : Bool) → on ≡ true → short ≡ true → known ≡ (on && short && known)
+    known_by on short known o s = rw (o, s) refl
+
+pub ordinary_as : (frame : List ℕ) (host : IfaceHost) (own : List IpCidr) → own ≡ addresses_of host → host.watch.is_on ≡ true →
+    is_ordinary frame own ≡ is_ordinary_to frame host
+ordinary_as frame host own same on = ap (is_ordinary frame) same ∙ rw on refl
+
+-- an ordinary frame comes to a guard that is on
+pub ordinary_on : (on ordinary : Bool) → (on && ordinary) ≡ true → (on ≡ true) × (ordinary ≡ true)
+ordinary_on true true e = (refl, refl)
+ordinary_on true false e = absurd cc
+ordinary_on false ordinary e = absurd cc
+
+pub none_of : (limit : Option Limit) → is_some limit ≡ false → limit ≡ None
+none_of None e = refl
+none_of (Some limit) e = absurd cc
+
+-- a frame that isn't ordinary may tell, where there is a guard
+pub tells_all : (frame : List ℕ) (host : IfaceHost) → host.watch.is_on ≡ true → is_ordinary_to frame host ≡ false → true ≡ may_tell frame host
+tells_all frame host on special = by host.watch.is_on (is_ordinary frame (addresses_of host)) on special where
+  by : (on ordinary : Bool) → on ≡ true → (on && ordinary) ≡ false → true ≡ (on && not ordinary)
+  by true true o e = absurd cc
+  by true false o e = refl
+  by false ordinary o e = absurd cc
 
 pub silenced_as : (t : ℤ) (host : IfaceHost) (known : Neighbors) → known ≡ (machine_of host).neighbors → host.watch.is_on ≡ true →
     host.schedule.is_waiting ≡ true → is_turn_of_sockets t known host.watch.guard ≡ is_silenced t host
@@ -176,29 +204,17 @@ standing_of host = record {
   changed = (machine_of host).slaac.changed;
 }
 
-off_left : (t : ℤ) (frame : List ℕ) (host : IfaceHost) → leaves_all t frame host ≡ true →
-    (may_tell frame host ≡ false) × (is_silenced t host ≡ false) × (limit_on t frame host ≡ None)
-off_left t frame host is = by host.watch.is_on refl (may_tell frame host) refl (is_silenced t host) refl (limit_on t frame host) refl is where
-  by : (on : Bool) → host.watch.is_on ≡ on → (m : Bool) → may_tell frame host ≡ m → (s : Bool) → is_silenced t host ≡ s →
-      (l : Option Limit) → limit_on t frame host ≡ l → (not on || (not m && not s && is_none l)) ≡ true →
-      (may_tell frame host ≡ false) × (is_silenced t host ≡ false) × (limit_on t frame host ≡ None)
-  by false off m tells s silenced l limit e = (rw off refl, rw off refl, rw off refl)
-  by true on true tells s silenced l limit e = absurd cc
-  by true on false tells true silenced l limit e = absurd cc
-  by true on false tells false silenced (Some l) limit e = absurd cc
-  by true on false tells false silenced None limit e = (tells, silenced, limit)
-
-pub left_all : (t : ℤ) (frame : List ℕ) (n : ℕ) (before after : List ℕ) (old new : IfaceHost) →
-    leaves_all t frame old ≡ true → Takes t frame n before after old new → TakesGuarded t frame n before after old new
-left_all t frame n before after old new is takes =
-    let none = off_left t frame old is in
+pub left_all : (t : ℤ) (frame : List ℕ) (n : ℕ) (before after : List ℕ) (old new : IfaceHost) → may_tell frame old ≡ false →
+    is_silenced t old ≡ false → limit_on t frame old ≡ None → (known : Bool) → known ≡ is_known_on t frame old →
+    Takes t frame known n before after old new → TakesGuarded t frame n before after old new
+left_all t frame n before after old new quiet loud whole known known_is takes =
     record {
       standing = standing_of old;
       is_standing = record {
-        silence = rw none.1 refl;
-        limit = sym none.2;
-        reports = rw none.0 refl;
-        neighbors = rw none.0 refl;
+        silence = rw loud refl;
+        limit = sym whole;
+        reports = rw quiet refl;
+        neighbors = rw quiet refl;
         igmp = refl;
         mld = refl;
         prefixes = refl;
@@ -207,7 +223,13 @@ left_all t frame n before after old new is takes =
       };
       begun = old;
       taken = new;
-      begins = rw none.1 (unchanged old (λ H. H) (λ H h. refl));
-      takes = takes;
+      begins = rw loud (unchanged old (λ H. H) (λ H h. refl));
+      takes = subst (λ (k : Bool). Takes t frame k n before after old new) known_is takes;
       keeps = unchanged new (kept_by (standing_of old)) (λ H h. refl);
     }
+
+-- without a guard, too
+pub unguarded : (t : ℤ) (frame : List ℕ) (n : ℕ) (before after : List ℕ) (old new : IfaceHost) → old.watch.is_on ≡ false →
+    Takes t frame false n before after old new → TakesGuarded t frame n before after old new
+unguarded t frame n before after old new off takes =
+    left_all t frame n before after old new (rw off refl) (rw off refl) (rw off refl) false (rw off refl) takes

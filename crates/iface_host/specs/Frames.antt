@@ -28,27 +28,28 @@ abbrev pub IsWritten : Option (List ℕ) → ℕ → List ℕ → List ℕ → T
 IsWritten None n before after = (n ≡ 0) × (after ≡ before)
 IsWritten (Some frame) n before after = (n ≡ length frame) × (take n after ≡ frame) × (drop n after ≡ drop n before)
 
--- what a guard lets go of a frame in response to one of so many octets, if there is one; and what it keeps afterwards
-abbrev pub let_go : ℤ → Option (List ℕ) → (answered : ℕ) → Watch → Option (List ℕ)
-let_go t None answered w = None
-let_go t (Some frame) answered w = if guard.lets_go t frame answered w then Some frame else None
+-- what a guard lets go of a frame in response to one of so many octets, of a known neighbour or not, if there is one; and what it keeps
+-- afterwards
+abbrev pub let_go : ℤ → Option (List ℕ) → (answered : ℕ) → (known : Bool) → Watch → Option (List ℕ)
+let_go t None answered known w = None
+let_go t (Some frame) answered known w = if guard.lets_go t frame answered known w then Some frame else None
 
-abbrev pub after_response : ℤ → Option (List ℕ) → (answered : ℕ) → Watch → Watch
-after_response t None answered w = w
-after_response t (Some frame) answered w = guard.after_response t frame answered w
+abbrev pub after_response : ℤ → Option (List ℕ) → (answered : ℕ) → (known : Bool) → Watch → Watch
+after_response t None answered known w = w
+after_response t (Some frame) answered known w = guard.after_response t frame answered known w
 
--- the machine takes a frame, and the frame that it sends, if there is one and the guard lets it go, is written; both are
+-- the machine takes a frame, of a known neighbour or not, and the frame that it sends, if there is one and the guard lets it go, is written; both are
 -- counted, and sockets may have changed where the machine's answer says so
-pub record Takes (t : ℤ) (frame : List ℕ) (n : ℕ) (before after : List ℕ) (old new : IfaceHost) : Type 0 where
+pub record Takes (t : ℤ) (frame : List ℕ) (known : Bool) (n : ℕ) (before after : List ℕ) (old new : IfaceHost) : Type 0 where
   pub shown : Option (List ℕ)
-  pub written : IsWritten (let_go t shown (length frame) old.watch) n before after
+  pub written : IsWritten (let_go t shown (length frame) known old.watch) n before after
   pub received : HostRefinesReceiving t frame shown (StandsFor old) (StandsFor new)
   pub rest : new ≡ record old {
     interface = new.interface;
     sockets = new.sockets;
     changed = old.changed || may_change (answer_to (Frame frame));
     frames = after_handing n (after_taking old.frames);
-    watch = after_response t shown (length frame) old.watch;
+    watch = after_response t shown (length frame) known old.watch;
   }
 
 -- what is kept of the sockets, and these

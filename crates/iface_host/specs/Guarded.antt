@@ -4,12 +4,14 @@ use Rattle.ip_address.specs.EthernetAddress as ethernet
 use Rattle.ip_address.specs.Ip.{is_unicast}
 use Rattle.ip_address.specs.declared.ethernet_address.EthernetAddress.{EthernetAddress}
 use Rattle.ip_address.specs.declared.hardware.HardwareAddress.{HardwareAddress}
+use Rattle.ip_address.specs.declared.hardware.HardwareAddress.TheVariants.{Ethernet}
 use Rattle.ip_address.specs.declared.ip.IpAddress.{IpAddress}
 use Rattle.guard.specs.Defence.{announced}
-use Rattle.guard.specs.Guard.{is_ordinary, is_turn_of_sockets}
+use Rattle.guard.specs.Answers.{is_short}
+use Rattle.guard.specs.Guard.{is_ordinary, is_turn_of_sockets, micros}
 use Rattle.guard.specs.Pins as pins
 use Rattle.guard.specs.Reports.{kept, kept_mld}
-use Rattle.guard.specs.Strangers.{limit_for, limited}
+use Rattle.guard.specs.Strangers.{comes_from_known, limit_for, limited}
 use Rattle.guard.specs.declared.strangers.Limit.{Limit}
 use Rattle.host_machine.specs.Context.Host.{Host as Machine, with_igmp_report, with_mld_report, with_neighbors, with_slaac}
 use Rattle.host_machine.specs.Interface.Config.{if_ethernet}
@@ -29,8 +31,8 @@ abbrev pub hardware_addr_of : IfaceHost → Option HardwareAddress
 hardware_addr_of host = if_ethernet (machine_of host).hardware_addr
 
 -- whether the host gets to see a frame, and what the guard keeps afterwards
-abbrev pub is_admitted : List ℕ → IfaceHost → Bool
-is_admitted frame host = guard.admits frame (hardware_addr_of host) (addresses_of host) host.watch
+abbrev pub is_admitted : ℤ → List ℕ → IfaceHost → Bool
+is_admitted t frame host = guard.admits t frame (hardware_addr_of host) (addresses_of host) host.watch
 
 abbrev pub after_arrival : ℤ → List ℕ → IfaceHost → IfaceHost
 after_arrival t frame host =
@@ -64,6 +66,15 @@ abbrev pub limit_on : ℤ → List ℕ → IfaceHost → Option Limit
 limit_on t frame host =
     if host.watch.is_on then limit_for t frame (addresses_of host) (machine_of host).neighbors host.watch.guard else None
 
+-- a frame comes from a neighbour that its guard knows well, and a rate of answers to whomever is used up
+abbrev pub is_known_on : ℤ → List ℕ → IfaceHost → Bool
+is_known_on t frame host =
+    host.watch.is_on && is_short (micros t) host.watch.answers && comes_from_known t frame (machine_of host).neighbors host.watch.guard
+
+-- nothing is asked of a frame but its source and its protocol
+abbrev pub is_ordinary_to : List ℕ → IfaceHost → Bool
+is_ordinary_to frame host = host.watch.is_on && is_ordinary frame (addresses_of host)
+
 -- until when it is silent, if it asks for nobody meanwhile; and so it is again afterwards
 abbrev pub silence_to_keep : ℤ → IfaceHost → Option ℤ
 silence_to_keep t host = if is_silenced t host then Some (machine_of host).neighbors.silent_until else None
@@ -79,11 +90,6 @@ limit_kept limit H = with_neighbors H (limited limit H.neighbors)
 -- a frame other than of UDP or TCP may tell of groups and routers
 abbrev pub may_tell : List ℕ → IfaceHost → Bool
 may_tell frame host = host.watch.is_on && not (is_ordinary frame (addresses_of host))
-
--- the guard leaves all that a frame changes, and lets the host ask for anybody meanwhile
-abbrev pub leaves_all : ℤ → List ℕ → IfaceHost → Bool
-leaves_all t frame host =
-    not host.watch.is_on || (not (may_tell frame host) && not (is_silenced t host) && is_none (limit_on t frame host))
 
 -- what the guard keeps of a host while it takes a frame at t
 pub record IsStanding (t : ℤ) (frame : List ℕ) (host : IfaceHost) (s : Standing) : Type 0 where
@@ -123,13 +129,15 @@ pub record TakesGuarded (t : ℤ) (frame : List ℕ) (n : ℕ) (before after : L
   pub begun : IfaceHost
   pub taken : IfaceHost
   pub begins : Changes (begun_at t (is_silenced t old)) old begun
-  pub takes : Takes t frame n before after begun taken
+  pub takes : Takes t frame (is_known_on t frame old) n before after begun taken
   pub keeps : Changes (kept_by standing) taken new
 
--- one that isn't admitted changes nothing but what the guard keeps, and is answered by an announcement if one is owed
+-- one that is admitted may have taken a token of the guard's; one that isn't changes nothing but what the guard keeps, and is answered
+-- by an announcement if one is owed
 pub data Receives (t : ℤ) (frame : List ℕ) (n : ℕ) (before after : List ℕ) (old new : IfaceHost) : Type 0 where
-  Admitted : is_admitted frame old ≡ true → TakesGuarded t frame n before after old new → Receives t frame n before after old new
-  Dropped : is_admitted frame old ≡ false → Defends n before after (after_arrival t frame old) new →
+  Admitted : is_admitted t frame old ≡ true → TakesGuarded t frame n before after (after_arrival t frame old) new →
+      Receives t frame n before after old new
+  Dropped : is_admitted t frame old ≡ false → Defends n before after (after_arrival t frame old) new →
       Receives t frame n before after old new
 
 -- a frame was sent, and the guard noted it
@@ -142,12 +150,20 @@ pub record NextIs (t : ℤ) (n : ℕ) (before after : List ℕ) (old new : Iface
   pub gives : Gives t n before after old given
   pub noted : new ≡ after_sending t (take n after) given
 
--- a neighbour was pinned, or is no more
+-- the guard knows that a neighbour is pinned, or is no more
 abbrev pub after_pin : IpAddress → EthernetAddress → IfaceHost → IfaceHost
 after_pin address hardware host = record host { watch = guard.after_pin address hardware host.watch }
 
 abbrev pub after_unpin : IpAddress → IfaceHost → IfaceHost
 after_unpin address host = record host { watch = guard.after_unpin address host.watch }
+
+-- an entry of a pinned neighbour with another hardware address expires at once
+abbrev pub false_entry : IpAddress → EthernetAddress → Limit
+false_entry address hardware = record { address = address; expires_at = pos 0; unless = Some (Ethernet hardware) }
+
+-- a neighbour was pinned
+abbrev pub Pins : IpAddress → EthernetAddress → IfaceHost → IfaceHost → Type 0
+Pins address hardware old new = Changes (limit_kept (Some (false_entry address hardware))) (after_pin address hardware old) new
 
 -- one of the two addresses isn't unicast; or eight others are pinned
 abbrev pub pin_refusal : IfaceHost → IpAddress → EthernetAddress → Option Refusal

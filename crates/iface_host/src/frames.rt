@@ -25,8 +25,8 @@ impl IfaceHost {
     /// a buffer. Answers how many octets that has, 0 where there is none. A frame that the host's guard drops changes
     /// nothing but what the guard keeps, and is answered by the announcement of an own address, if one is owed; of a
     /// response that it holds back nothing is written. Of one that it admits less may be left: the entry of its sender
-    /// expires sooner, an answer to a query that waits stays, and neighbours stay where nothing is learnt of routers. `BadMoment` if the moment is out of range, `NoRoom` if the buffer
-    /// has less than 1,514 octets.
+    /// expires sooner, an answer to a query that waits stays, and neighbours stay where nothing is learnt of routers.
+    /// `BadMoment` if the moment is out of range, `NoRoom` if the buffer has less than 1,514 octets.
     pub fn receive(&mut self, now: i64, frame: &[u8], out: &mut [u8]) -> Result<usize, Refusal>
         ensures why { result_err result ≡ frame_refusal now (length out.old) }
         ensures received { IfOk result (λ n. Receives now frame.now n out.old out.new self.old self.new) }
@@ -37,23 +37,32 @@ impl IfaceHost {
         if out.len() < FRAME_LEN {
             return Err(Refusal::NoRoom);
         }
+        if self.is_ordinary(frame) {
+            return Ok(self.take_ordinary(now, frame, out));
+        }
         if !self.admits(now, frame) {
             return Ok(self.defend(out));
         }
         Ok(self.take_guarded(now, frame, out))
     }
 
-    /// Takes a frame, and sends the response that the guard lets go.
-    pub(crate) fn take_frame(&mut self, now: Instant, frame: &[u8], out: &mut [u8]) -> usize
+    /// Takes a frame, of a known neighbour or not, and sends the response that the guard lets go.
+    pub(crate) fn take_frame(
+        &mut self,
+        now: Instant,
+        frame: &[u8],
+        known: bool,
+        out: &mut [u8],
+    ) -> usize
         requires moment { IsMoment now }
         requires room { 1514 ≤ length out.old }
-        ensures { Takes now frame.now result out.old out.new self.old self.new }
+        ensures { Takes now frame.now known result out.old out.new self.old self.new }
     {
         self.changed |= !frame.is_empty();
         self.frames.take();
         match self.interface.receive_frame(now, frame, &mut self.sockets) {
             Some(reply) => {
-                if !self.watch.lets_go(now, reply, frame.len()) {
+                if !self.watch.lets_go(now, reply, frame.len(), known) {
                     return 0;
                 }
                 let len = write_front(out, reply);

@@ -1,10 +1,10 @@
 //! The guard in front of a host, and behind it.
-ghost use Rattle.std.specs.Prelude.{◌≡◌, ◌≤◌, OnOk, OnErr, length, take};
+ghost use Rattle.std.specs.Prelude.{◌≡◌, ◌≤◌, OnOk, OnErr, false, true, length, take};
 ghost use Rattle.net_base.specs.Time.{IsMoment};
 ghost use Rattle.interface.specs.Stands.{IsPaced};
 ghost use Rattle.std.specs.Result.{result_err};
 ghost use Rattle.iface_host.specs.Guarded as spec;
-ghost use Rattle.iface_host.specs.Guarded.{Changes, Defends, IsStanding, TakesGuarded};
+ghost use Rattle.iface_host.specs.Guarded.{Changes, Defends, IsStanding, Pins, TakesGuarded};
 ghost use Rattle.iface_host.specs.Properties.{machine_of};
 ghost use Rattle.iface_host.specs.Stands.{watch_for};
 
@@ -65,21 +65,25 @@ impl IfaceHost {
     }
 
     /// Pins a neighbour to a hardware address, in place of the one that it is pinned to, if it is pinned: the guard drops ARP
-    /// packets and neighbour messages of it that tell another one. The host learns the address from the next message that tells
-    /// this one. `NotUnicast` if one of the two isn't unicast, else `TableFull` if it isn't pinned and eight others are.
+    /// packets and neighbour messages of it that tell another one. An entry with another one expires at once; the host learns the
+    /// address from the next message that tells this one. `NotUnicast` if one of the two isn't unicast, else `TableFull` if it isn't pinned and eight others are.
     pub fn pin(&mut self, address: IpAddress, hardware: EthernetAddress) -> Result<(), Refusal>
-        ensures pinned { OnOk result (self.new ≡ spec.after_pin address hardware self.old) }
+        ensures pinned { OnOk result (Pins address hardware self.old self.new) }
         ensures why { result_err result ≡ spec.pin_refusal self.old address hardware }
         ensures refused { OnErr result (self.new ≡ self.old) }
     {
         if !address.is_unicast() || !hardware.is_unicast() {
             return Err(Refusal::NotUnicast);
         }
-        if self.watch.pin(address, hardware) {
-            Ok(())
-        } else {
-            Err(Refusal::TableFull)
+        if !self.watch.pin(address, hardware) {
+            return Err(Refusal::TableFull);
         }
+        self.keep_limit(Some(Limit {
+            address,
+            expires_at: Instant::ZERO,
+            unless: Some(HardwareAddress::Ethernet(hardware)),
+        }));
+        Ok(())
     }
 
     /// Pins a neighbour no more. `NotThere` if it isn't pinned.
@@ -98,80 +102,139 @@ impl IfaceHost {
     /// Whether the host may see a frame that came at a moment.
     #[inline(always)]
     pub(crate) fn admits(&mut self, now: Instant, frame: &[u8]) -> bool
-        ensures admitted { result ≡ spec.is_admitted frame.now self.old }
+        ensures admitted { result ≡ spec.is_admitted now frame.now self.old }
         ensures rest { self.new ≡ spec.after_arrival now frame.now self.old }
+        ensures ordinary { spec.is_ordinary_to frame.now self.new ≡ spec.is_ordinary_to frame.now self.old }
     {
         let own = self.interface.ip_addrs();
         let hardware = self.interface.hardware_addr();
         self.watch.admits(now, frame, hardware, own)
     }
 
-    /// Takes a frame that the guard admits, at a moment, and leaves of what it changed what the guard leaves. Answers how many octets
-    /// the response has that is written to the front of a buffer, 0 where there is none.
+    /// Whether nothing is asked of a frame but its source and its protocol, where there is a guard.
+    #[inline(always)]
+    pub(crate) fn is_ordinary(&self, frame: &[u8]) -> bool
+        ensures { result ≡ spec.is_ordinary_to frame.now self.now }
+    {
+        self.watch.is_on && is_ordinary(frame, self.interface.ip_addrs())
+    }
+
+    /// Takes an ordinary frame at a moment, as [`IfaceHost::take_guarded`] does.
+    #[inline(always)]
+    pub(crate) fn take_ordinary(&mut self, now: Instant, frame: &[u8], out: &mut [u8]) -> usize
+        requires moment { IsMoment now }
+        requires room { 1514 ≤ length out.old }
+        requires ordinary { spec.is_ordinary_to frame.now self.old ≡ true }
+        ensures admitted { spec.is_admitted now frame.now self.old ≡ true }
+        ensures same { spec.after_arrival now frame.now self.old ≡ self.old }
+        ensures taken { TakesGuarded now frame.now result out.old out.new self.old self.new }
+    {
+        let own = self.interface.ip_addrs();
+        self.watch.leaves_ordinary(frame, own);
+        let neighbors = self.interface.neighbors();
+        let limit = self
+            .watch
+            .guard
+            .limit_of_ordinary(now, frame, own, neighbors);
+        self.take_limited(now, frame, limit, out)
+    }
+
+    /// Takes a frame that the guard admits, and that isn't ordinary where there is one, at a moment, and leaves of what it changed what the
+    /// guard leaves. Answers how many octets the response has that is written to the front of a buffer, 0 where there is none.
     pub(crate) fn take_guarded(&mut self, now: Instant, frame: &[u8], out: &mut [u8]) -> usize
         requires moment { IsMoment now }
         requires room { 1514 ≤ length out.old }
+        requires special { spec.is_ordinary_to frame.now self.old ≡ false }
         ensures { TakesGuarded now frame.now result out.old out.new self.old self.new }
     {
-        if self.leaves_all(now, frame) {
-            return self.take_frame(now, frame, out);
+        if !self.watch.is_on {
+            return self.take_frame(now, frame, false, out);
         }
-        self.take_and_keep(now, frame, out)
+        let limit = self.limit_on(now, frame);
+        self.take_and_keep(now, frame, true, limit, out)
     }
 
-    /// Whether the guard leaves all that a frame changes, and lets the host ask for anybody meanwhile: most datagrams and segments.
+    /// Takes a frame that tells of no groups and routers, with the limit that it brings to the entry of its sender. Most bring none, and
+    /// the guard leaves all that they change.
     #[inline(always)]
-    fn leaves_all(&self, now: Instant, frame: &[u8]) -> bool
-        requires { IsMoment now }
-        ensures { result ≡ spec.leaves_all now frame.now self.now }
-    {
-        !self.watch.is_on
-            || !self.may_tell(frame)
-                && !self.is_silenced(now)
-                && self.limit_on(now, frame).is_none()
-    }
-
-    /// Takes a frame, and keeps what the guard keeps of the host.
-    #[inline(never)]
-    fn take_and_keep(&mut self, now: Instant, frame: &[u8], out: &mut [u8]) -> usize
+    fn take_limited(
+        &mut self,
+        now: Instant,
+        frame: &[u8],
+        limit: Option<Limit>,
+        out: &mut [u8],
+    ) -> usize
         requires moment { IsMoment now }
         requires room { 1514 ≤ length out.old }
+        requires limit { limit ≡ spec.limit_on now frame.now self.old }
+        requires silent { spec.may_tell frame.now self.old ≡ false }
         ensures { TakesGuarded now frame.now result out.old out.new self.old self.new }
     {
-        let standing = self.standing(now, frame);
+        if limit.is_some() || self.is_silenced(now) {
+            return self.take_and_keep(now, frame, false, limit, out);
+        }
+        let known = self.is_known_on(now, frame);
+        self.take_frame(now, frame, known, out)
+    }
+
+    /// Takes a frame that may tell of groups and routers or not, and keeps what the guard keeps of the host.
+    #[inline(never)]
+    fn take_and_keep(
+        &mut self,
+        now: Instant,
+        frame: &[u8],
+        tells: bool,
+        limit: Option<Limit>,
+        out: &mut [u8],
+    ) -> usize
+        requires moment { IsMoment now }
+        requires room { 1514 ≤ length out.old }
+        requires tells { tells ≡ spec.may_tell frame.now self.old }
+        requires limit { limit ≡ spec.limit_on now frame.now self.old }
+        ensures { TakesGuarded now frame.now result out.old out.new self.old self.new }
+    {
+        let standing = self.standing(now, frame, tells, limit);
+        let known = self.is_known_on(now, frame);
         self.begin_silence(now, standing.silent_until.is_some());
-        let len = self.take_frame(now, frame, out);
+        let len = self.take_frame(now, frame, known, out);
         self.keep(&standing);
         len
     }
 
-    /// What the guard keeps of the host while it takes a frame at a moment.
-    fn standing(&self, now: Instant, frame: &[u8]) -> Standing
+    /// Whether a frame that came at a moment is of a neighbour whom the guard knows well, where a rate of answers to whomever is used up.
+    #[inline(always)]
+    fn is_known_on(&self, now: Instant, frame: &[u8]) -> bool
         requires { IsMoment now }
+        ensures { result ≡ spec.is_known_on now frame.now self.now }
+    {
+        if !self.watch.is_on || !self.watch.answers.is_short(now) {
+            return false;
+        }
+        self.watch
+            .guard
+            .comes_from_known(now, frame, self.interface.neighbors())
+    }
+
+    /// What the guard keeps of the host while it takes a frame at a moment.
+    fn standing(&self, now: Instant, frame: &[u8], tells: bool, limit: Option<Limit>) -> Standing
+        requires moment { IsMoment now }
+        requires tells { tells ≡ spec.may_tell frame.now self.now }
+        requires limit { limit ≡ spec.limit_on now frame.now self.now }
         ensures standing { IsStanding now frame.now self.now result }
         ensures paced { IsPaced result.igmp }
     {
-        let may_tell = self.may_tell(frame);
         let slaac = self.interface.slaac();
         Standing {
             silent_until: self.silence_to_keep(now),
-            limit: self.limit_on(now, frame),
-            keeps_reports: may_tell & self.watch.guard.keeps_reports,
-            keeps_neighbors: may_tell & self.watch.guard.keeps_neighbors,
+            limit,
+            keeps_reports: tells & self.watch.guard.keeps_reports,
+            keeps_neighbors: tells & self.watch.guard.keeps_neighbors,
             igmp: self.interface.igmp_report(),
             mld: self.interface.mld_report(),
             prefixes: slaac.prefix().len(),
             routers: slaac.routes().len(),
             changed: slaac.has_ra_update(),
         }
-    }
-
-    /// Whether a frame may tell of groups and routers: one that is no datagram of UDP and no segment of TCP.
-    #[inline(always)]
-    fn may_tell(&self, frame: &[u8]) -> bool
-        ensures { result ≡ spec.may_tell frame.now self.now }
-    {
-        self.watch.is_on && !is_ordinary(frame, self.interface.ip_addrs())
     }
 
     /// Until when the host is silent, if by a frame at a moment it asks for nobody, as a socket waits and it is the turn of sockets.
@@ -199,7 +262,6 @@ impl IfaceHost {
     }
 
     /// Until when the entry of a frame's sender is to last.
-    #[inline(always)]
     fn limit_on(&self, now: Instant, frame: &[u8]) -> Option<Limit>
         requires { IsMoment now }
         ensures { result ≡ spec.limit_on now frame.now self.now }

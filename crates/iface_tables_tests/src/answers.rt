@@ -13,8 +13,8 @@ const ERROR: Frame = (Kind::Ipv4(1, 1, 1, 3), &[]);
 
 /// Each kind of answer is told by its octets, and nothing else is one.
 const KINDS: [(Frame, Option<Answer>); 11] = [
-    (ECHO_REPLY, Some(Answer::EchoReply)),
-    ((Kind::Icmpv6(129, 1, 0), &[]), Some(Answer::EchoReply)),
+    (ECHO_REPLY, None),
+    ((Kind::Icmpv6(129, 1, 0), &[]), None),
     (ERROR, Some(Answer::Error)),
     ((Kind::Ipv4(1, 1, 1, 12), &[]), Some(Answer::Error)),
     ((Kind::Icmpv6(1, 1, 0), &[]), Some(Answer::Error)),
@@ -41,13 +41,14 @@ fn answers_are_told(rt: HostRuntime) {
     assert!(rt; first_other().is_none());
 }
 
-/// A frame at this many milliseconds, how long what it answers is, and as which answer it is held back.
-type Row = (u32, Frame, usize, Option<Answer>);
+/// A frame at this many milliseconds, how long what it answers is, whether that came from a known neighbour, and as which answer it is
+/// held back.
+type Row = (u32, Frame, usize, bool, Option<Answer>);
 
 /// Judges answers one after the other, and gives the place of the first row that says otherwise.
 fn first_wrong(answers: &mut Answers, rows: &[Row]) -> Option<usize> {
-    for (place, (millis, frame, len, held_back)) in rows.iter().enumerate() {
-        if answers.judge(at(*millis), octets_of(frame).as_slice(), *len) != *held_back {
+    for (place, (millis, frame, len, known, held_back)) in rows.iter().enumerate() {
+        if answers.judge(at(*millis), octets_of(frame).as_slice(), *len, *known) != *held_back {
             return Some(place);
         }
     }
@@ -65,15 +66,21 @@ fn are_right(answers: &mut Answers, rows: &[Row], times: usize) -> bool {
 }
 
 /// Ten of a kind are sent at once, and one more each ten milliseconds; kinds have rates of their own.
-const SENT: [Row; 1] = [(500, ERROR, 54, None)];
+const SENT: [Row; 1] = [(500, ERROR, 54, false, None)];
 
 const BEHIND_TEN: [Row; 6] = [
-    (500, (Kind::Icmpv6(1, 1, 0), &[]), 86, Some(Answer::Error)),
-    (500, ECHO_REPLY, 54, None),
-    (500, RESET, 54, None),
-    (509, ERROR, 54, Some(Answer::Error)),
-    (510, ERROR, 54, None),
-    (510, ERROR, 54, Some(Answer::Error)),
+    (
+        500,
+        (Kind::Icmpv6(1, 1, 0), &[]),
+        86,
+        false,
+        Some(Answer::Error),
+    ),
+    (500, ECHO_REPLY, 54, false, None),
+    (500, RESET, 54, false, None),
+    (509, ERROR, 54, false, Some(Answer::Error)),
+    (510, ERROR, 54, false, None),
+    (510, ERROR, 54, false, Some(Answer::Error)),
 ];
 
 #[test]
@@ -83,17 +90,52 @@ fn ten_errors_are_sent_at_once(rt: HostRuntime) {
     assert!(rt; are_sent && first_wrong(&mut answers, &BEHIND_TEN).is_none());
 }
 
+/// Where strangers have had theirs, as many are sent to known neighbours, and no more.
+const TO_KNOWN: [Row; 1] = [(500, ERROR, 54, true, None)];
+
+const BEHIND_TWENTY: [Row; 4] = [
+    (500, ERROR, 54, true, Some(Answer::Error)),
+    (500, RESET, 54, true, None),
+    (510, ERROR, 54, true, None),
+    (510, ERROR, 54, false, None),
+];
+
+#[test]
+fn known_neighbors_have_rates_of_their_own(rt: HostRuntime) {
+    let mut answers = Answers::new();
+    let is_short_at_first = answers.is_short(at(500));
+    let are_sent = are_right(&mut answers, &SENT, 10) && answers.is_short(at(500));
+    let are_sent_to_known = are_right(&mut answers, &TO_KNOWN, 10);
+    assert!(rt; !is_short_at_first && are_sent && are_sent_to_known);
+    assert!(rt; first_wrong(&mut answers, &BEHIND_TWENTY).is_none());
+}
+
+/// A clock that has gone back by a minute or less leaves a rate as it is. One that has gone back by more fills it.
+const LONG_AFTER: [Row; 1] = [(3_600_000, ERROR, 54, false, None)];
+
+const A_MINUTE_BEFORE: [Row; 1] = [(3_540_000, ERROR, 54, false, Some(Answer::Error))];
+
+const AN_HOUR_BEFORE: [Row; 1] = [(1_000, ERROR, 54, false, None)];
+
+#[test]
+fn a_clock_that_goes_back_costs_nothing(rt: HostRuntime) {
+    let mut answers = Answers::new();
+    let are_sent = are_right(&mut answers, &LONG_AFTER, 10);
+    let is_held_back = are_right(&mut answers, &A_MINUTE_BEFORE, 1);
+    assert!(rt; are_sent && is_held_back && are_right(&mut answers, &AN_HOUR_BEFORE, 10));
+}
+
 /// An error is at most three times as long as what it answers; one that is longer takes nothing of the rate.
-const TOO_LONG: [Row; 1] = [(500, ERROR, 17, Some(Answer::Error))];
+const TOO_LONG: [Row; 1] = [(500, ERROR, 17, false, Some(Answer::Error))];
 
 /// Echo replies and resets may have any length.
 const BEHIND_LONG_ONES: [Row; 3] = [
-    (500, ERROR, 18, None),
-    (500, ECHO_REPLY, 1, None),
-    (500, RESET, 1, None),
+    (500, ERROR, 18, false, None),
+    (500, ECHO_REPLY, 1, false, None),
+    (500, RESET, 1, false, None),
 ];
 
-const UNBOUNDED: [Row; 1] = [(500, ERROR, 1, None)];
+const UNBOUNDED: [Row; 1] = [(500, ERROR, 1, false, None)];
 
 #[test]
 fn long_errors_are_held_back(rt: HostRuntime) {

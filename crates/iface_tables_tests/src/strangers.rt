@@ -3,6 +3,7 @@ use crate::frames::{Change, Frame, HARDWARE, Kind, OWN, at, hardware, octets_of}
 use guard::guard::{Guard, Reason};
 use guard::watch::{Conflict, Watch};
 use ip_wire::{EthernetAddress, IpAddress, Ipv4Address};
+use net_base::bucket::Bucket;
 use net_base::time::Instant;
 
 /// A frame, and why it is dropped.
@@ -303,20 +304,68 @@ fn drops_are_counted(rt: HostRuntime) {
 /// Whether what the host answers at a second, as so many octets, goes.
 fn goes(watch: &mut Watch, first: u8) -> bool {
     let octets = octets_of(&(Kind::Ipv4(1, 1, 1, first), &[]));
-    watch.lets_go(at(1000), octets.as_slice(), 54)
+    watch.lets_go(at(1000), octets.as_slice(), 54, false)
 }
 
 /// What the host answers is counted, too; where the guard is off, all goes and nothing is counted.
 fn are_answers_counted(watch: &mut Watch) -> bool {
     for _ in 0..12 {
-        let _ = goes(watch, 0);
+        let _ = goes(watch, 3);
     }
-    let is_error_sent = goes(watch, 3);
+    let is_reply_sent = goes(watch, 0);
     watch.is_on = false;
-    is_error_sent
+    is_reply_sent
         && admits(watch, 1000, &(Kind::Arp(1), &[]))
-        && goes(watch, 0)
-        && [watch.counts.echo_reply, watch.counts.own_address] == [2, 0]
+        && goes(watch, 3)
+        && [watch.counts.error, watch.counts.own_address] == [2, 0]
+}
+
+/// Echo requests of either family, and fragments of ICMP, share their rate; other frames take nothing of it, nor do replies and errors.
+const ECHOES: [(u32, Frame, bool); 10] = [
+    (1000, (Kind::Ipv4(1, 9, 1, 8), &[]), true),
+    (1000, (Kind::Ipv4(1, 9, 1, 0), &[]), true),
+    (1000, (Kind::Ipv4(1, 9, 1, 3), &[]), true),
+    (
+        1000,
+        (Kind::Ports(9, 9), &[Change::Octets(20, &[0x20])]),
+        true,
+    ),
+    (1000, (Kind::Icmpv6(128, 9, 0), &[]), true),
+    (
+        1000,
+        (Kind::Ipv4(1, 9, 1, 0), &[Change::Octets(20, &[0x20])]),
+        false,
+    ),
+    (1000, (Kind::Ipv4(1, 9, 1, 8), &[]), false),
+    (1000, (Kind::Ports(9, 9), &[]), true),
+    (1010, (Kind::Ipv4(1, 9, 1, 8), &[]), true),
+    (1010, (Kind::Icmpv6(128, 9, 0), &[]), false),
+];
+
+/// Whether a guard with a rate of echo requests, two at once, lets these pass, and counts those that it drops.
+fn are_echoes_bounded(watch: &mut Watch) -> bool {
+    watch.guard.echo_requests = Bucket::new(10_000, 2);
+    for (millis, frame, passes) in &ECHOES {
+        if admits(watch, *millis, frame) != *passes {
+            return false;
+        }
+    }
+    watch.counts.echo_request == 3
+}
+
+/// Whether forty requests at once pass.
+fn forty_pass(watch: &mut Watch) -> bool {
+    for _ in 0..40 {
+        if !admits(watch, 1000, &(Kind::Ipv4(1, 9, 1, 8), &[])) {
+            return false;
+        }
+    }
+    true
+}
+
+#[test]
+fn echo_requests_are_bounded(rt: HostRuntime) {
+    assert!(rt; forty_pass(&mut Watch::new()) && are_echoes_bounded(&mut Watch::new()));
 }
 
 #[test]

@@ -1,5 +1,5 @@
 -- What passes between a device, its guard and a host.
-use Rattle.std.specs.Prelude.{◌≡◌, ◌≤◌, ℕ, ℤ, Bool, true, false, List, [], ◌∷◌, length, take, Option, if◌then◌else◌}
+use Rattle.std.specs.Prelude.{◌≡◌, ◌≤◌, ℕ, ℤ, Bool, true, false, List, [], ◌∷◌, take, Option, if◌then◌else◌}
 use Rattle.net_base.specs.Device.{Asked, Event, Frame, HandsNone, Nothing, Received, Sent, Withheld}
 use Rattle.ip_address.specs.declared.cidr.IpCidr.{IpCidr}
 use Rattle.ip_address.specs.declared.hardware.HardwareAddress.{HardwareAddress}
@@ -21,10 +21,10 @@ pub data Hears {D : Type 0} (tells : D → List Event → D → Type 0) (t : ℤ
   NoFrame : result ≡ heard.Nothing → HandsNone tells t d d' → w' ≡ w →
       Hears tells t hardware own result buffer d w d' w'
   IsDropped : (frame : List ℕ) → result ≡ heard.Dropped → tells d (Received t (Frame frame) ∷ []) d' →
-      admits frame hardware own w ≡ false → w' ≡ after_arrival t frame hardware own w →
+      admits t frame hardware own w ≡ false → w' ≡ after_arrival t frame hardware own w →
       Hears tells t hardware own result buffer d w d' w'
   IsPassed : (len : ℕ) → result ≡ heard.Frame len → len ≤ 1514 → tells d (Received t (Frame (take len buffer)) ∷ []) d' →
-      admits (take len buffer) hardware own w ≡ true → w' ≡ after_arrival t (take len buffer) hardware own w →
+      admits t (take len buffer) hardware own w ≡ true → w' ≡ after_arrival t (take len buffer) hardware own w →
       Hears tells t hardware own result buffer d w d' w'
 
 -- a frame with no number of its own was sent, or not

@@ -1,5 +1,5 @@
 -- What passes a guard, passes unaltered and in order.
-use Rattle.std.specs.Prelude.{◌≡◌, ℕ, ℤ, true, false, pos, List, [], ◌∷◌}
+use Rattle.std.specs.Prelude.{◌≡◌, ℕ, true, false, pos, List, [], ◌∷◌}
 use Rattle.guard.specs.Laws.{Arrival}
 use Rattle.guard.specs.Watch.{admits, after_arrival}
 use Rattle.guard.specs.declared.watch.Watch.{Watch}
@@ -8,10 +8,10 @@ use Rattle.guard.specs.declared.watch.Watch.{Watch}
 pub data Sees : Watch → (arrived : List Arrival) → (seen : List (List ℕ)) → Watch → Type 0 where
   None : (w : Watch) → Sees w [] [] w
   Passed : (w w' : Watch) (a : Arrival) (later : List Arrival) (seen : List (List ℕ)) →
-      admits a.frame a.hardware a.own w ≡ true →
+      admits (pos a.at) a.frame a.hardware a.own w ≡ true →
       Sees (after_arrival (pos a.at) a.frame a.hardware a.own w) later seen w' → Sees w (a ∷ later) (a.frame ∷ seen) w'
   Dropped : (w w' : Watch) (a : Arrival) (later : List Arrival) (seen : List (List ℕ)) →
-      admits a.frame a.hardware a.own w ≡ false →
+      admits (pos a.at) a.frame a.hardware a.own w ≡ false →
       Sees (after_arrival (pos a.at) a.frame a.hardware a.own w) later seen w' → Sees w (a ∷ later) seen w'
 
 -- some are left of others, in their order

@@ -72,16 +72,16 @@ impl<D: Device> Guarded<D> {
         }
     }
 
-    /// Sends at a moment what the host answers to a frame of so many octets that was heard, unless the guard holds it back. Returns
-    /// whether it was sent.
-    pub fn answer(&mut self, now: Instant, frame: &[u8], answered: usize) -> bool
+    /// Sends at a moment what the host answers to a frame of so many octets that was heard, of a known neighbour or not, unless the guard
+    /// holds it back. Returns whether it was sent.
+    pub fn answer(&mut self, now: Instant, frame: &[u8], answered: usize, known: bool) -> bool
         requires permission { D.may_transmit self.old.device ≡ true }
         requires short { length frame.now ≤ 1514 }
-        ensures sent { result ≡ watch.lets_go now frame.now answered self.old.watch }
-        ensures watch { self.new.watch ≡ watch.after_response now frame.now answered self.old.watch }
+        ensures sent { result ≡ watch.lets_go now frame.now answered known self.old.watch }
+        ensures watch { self.new.watch ≡ watch.after_response now frame.now answered known self.old.watch }
         ensures told { D.tells self.old.device (spec.sent_if result frame.now) self.new.device }
     {
-        if self.watch.lets_go(now, frame, answered) {
+        if self.watch.lets_go(now, frame, answered, known) {
             self.device.send(PacketMeta::EMPTY, frame);
             true
         } else {

@@ -12,9 +12,9 @@ returns-clause-standing c =
     let slaac : c.slaac-slaac.result.now ≡ (machine_of c.args.self.now).slaac = rw c.deref.ensures at (c.slaac-slaac.ensures no_sockets) in
     record {
       silence = c.silence_to_keep.ensures;
-      limit = c.limit_on.ensures;
-      reports = ap (λ (b : Bool). b && c.args.self.now.watch.guard.keeps_reports) c.may_tell-may_tell.ensures;
-      neighbors = ap (λ (b : Bool). b && c.args.self.now.watch.guard.keeps_neighbors) c.may_tell-may_tell.ensures;
+      limit = c.requires.limit;
+      reports = ap (λ (b : Bool). b && c.args.self.now.watch.guard.keeps_reports) c.requires.tells;
+      neighbors = ap (λ (b : Bool). b && c.args.self.now.watch.guard.keeps_neighbors) c.requires.tells;
       igmp = rw c.deref-2.ensures at (c.igmp_report.ensures.value no_sockets);
       mld = rw c.deref-3.ensures at (c.mld_report.ensures no_sockets);
       prefixes = ap (λ (l : List Prefix). length l) (c.prefix.ensures.value ∙ ap (λ (s : SlaacState). s.prefixes) slaac);

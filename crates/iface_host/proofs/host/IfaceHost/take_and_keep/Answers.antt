@@ -1,5 +1,6 @@
 use Rattle.std.proofs.Common.{◌≡◌, ◌∙◌, ap, subst, Bool}
 use Rattle.std.specs.Prelude.{ℤ, Option, is_some}
+use Rattle.iface_host.specs.Frames.{Takes}
 use Rattle.iface_host.specs.Guarded.{Changes, begun_at, is_silenced}
 use Rattle.iface_host.proofs.GuardCalls.{silenced_some}
 use Rattle.iface_host.proofs.host.IfaceHost.take_and_keep.Goals as goal
@@ -14,6 +15,7 @@ returns c =
       begun = c.begin_silence.new.self;
       taken = c.take_frame-len.new.self;
       begins = subst (λ (b : Bool). Changes (begun_at c.args.now b) c.args.self.now c.begin_silence.new.self) silenced c.begin_silence.ensures;
-      takes = c.take_frame-len.ensures;
+      takes = subst (λ (k : Bool). Takes c.args.now c.args.frame.now k c.take_frame-len.result c.args.out.now c.take_frame-len.new.out
+          c.begin_silence.new.self c.take_frame-len.new.self) c.is_known_on-known.ensures c.take_frame-len.ensures;
       keeps = c.keep.ensures;
     }

@@ -1,5 +1,4 @@
-use Rattle.std.proofs.Common.{◌≡◌, ◌∙◌, true, false, refl, rules, sym, take}
-use Rattle.guard.specs.Watch.{admits}
+use Rattle.std.proofs.Common.{◌∙◌, refl, sym, take}
 use Rattle.guard.specs.Details.Guarded.{IsDropped, IsPassed}
 use Rattle.guard.proofs.guarded_device.guarded.Guarded.hear.Goals as goal
 
