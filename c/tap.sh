@@ -58,11 +58,6 @@ three_at_a_time() {
     [ "$(grep -c ' 0% packet loss' <<<"$told")" = 3 ]
 }
 
-# It has to fail, since nobody answers.
-fails() {
-    ! "$@"
-}
-
 start "$folder/tap_host" tap0 170
 sleep 2 # until the kernel may use its link-local address
 try ping -c 3 -i 0.2 192.168.69.1
@@ -103,6 +98,21 @@ for program in segment_echo tcp_echo; do
     stop
 done
 
+# A service tells where it listens, and has its page there.
+start "$folder/http_hello" tap0 60 >"$scratch/said"
+has_page() {
+    local page
+    exec 3<>"/dev/tcp/$1/80" || return 1
+    printf 'GET / HTTP/1.0\r\n\r\n' >&3
+    page=$(timeout 10 cat <&3)
+    exec 3>&-
+    grep -q '<h1>Hello, connections!</h1>' <<<"$page"
+}
+try has_page 192.168.69.7
+try has_page fd69::7
+try grep -x 'listening at port 80 of 192.168.69.7, fd69::7, fe80::7' "$scratch/said"
+stop
+
 # A program that connects by itself: pages of one octet and of a megabyte, one that isn't there, a port at which nobody listens, and
 # a peer that isn't there.
 printf x >"$scratch/octet"
@@ -125,6 +135,8 @@ for ends in '192.168.69.4/24 192.168.69.100 192.168.69.77' 'fd69::4/64 [fd69::10
     try says 'the peer refused the connection' "$own" "http://$peer:8001/"
     try says "the peer doesn't answer" "$own" "http://$nobody:8000/"
 done
+try says '10.9.9.9: no route' 192.168.69.4/24 http://10.9.9.9:8000/
+try says '2001:db8::9: no route' fd69::4/64 'http://[2001:db8::9]:8000/'
 # The same through relay.c, which loses, reorders, repeats or delays frames.
 fetches_through() {
     "$folder/relay" -r 7 -b "$1" -s tap0 sh -c "'$folder/fetch' @3 $2 '$3' >'$scratch/page'" 2>/dev/null
@@ -136,11 +148,32 @@ for bad in loss=1 reorder=10 repeat=5 delay=25; do
 done
 stop
 
-# A neighbour that answers, and one that doesn't.
+# A neighbour that answers, one that doesn't, a router that doesn't, and no way at all.
+tells() {
+    local text=$1 said
+    shift
+    ! said=$("$@" 2>&1) && grep -xF "$text" <<<"$said"
+}
 try "$folder/ping" tap0 192.168.69.4/24 192.168.69.100 -c 3 -i 0.2
 try "$folder/ping" tap0 fe80::4/64 fe80::100 -c 3 -i 0.2
 try "$folder/ping" tap0 192.168.69.4/24 192.168.69.100 -c 20 -i 0.02 -s 3000
-try fails "$folder/ping" tap0 192.168.69.4/24 192.168.69.77 -c 1
+try tells "192.168.69.77 doesn't answer" "$folder/ping" tap0 192.168.69.4/24 192.168.69.77 -c 1
+try tells "fe80::77 doesn't answer" "$folder/ping" tap0 fe80::4/64 fe80::77 -c 1
+try tells "10.9.9.9: the router 192.168.69.77 doesn't answer" "$folder/ping" tap0 192.168.69.4/24 10.9.9.9 -r 192.168.69.77 -c 1
+try tells '10.9.9.9: no route' "$folder/ping" tap0 192.168.69.4/24 10.9.9.9 -c 1
+try tells '2001:db8::9: no route' "$folder/ping" tap0 fe80::4/64 2001:db8::9 -c 1
+try tells 'lo, as a TAP device of /dev/net/tun: Invalid argument' "$folder/ping" lo 192.168.69.4/24 192.168.69.100 -c 1
+
+# Without an end: a signal ends it, and each request was answered.
+until_stopped() {
+    local pings
+    "$folder/ping" tap0 192.168.69.4/24 192.168.69.100 -c 0 -i 0.2 >"$scratch/said" &
+    pings=$!
+    sleep 2.1
+    kill -INT $pings
+    wait $pings && grep 'until it is stopped' "$scratch/said" && grep ' 0% packet loss' "$scratch/said"
+}
+try until_stopped
 
 # Who has an address, and who is on the link: two addresses of IPv4, and the kernel's link-local one.
 prints() {
@@ -154,7 +187,8 @@ hardware=$(ip -o link show tap0 | sed 's/.*ether \([^ ]*\).*/\1/')
 ip addr add 192.168.69.200/24 dev tap0
 try prints "192.168.69.100 is at $hardware" "$folder/arping" tap0 192.168.69.4/24 192.168.69.100 -c 2
 try prints "fe80::100 is at $hardware" "$folder/arping" tap0 fe80::4/64 fe80::100 -c 2
-try fails "$folder/arping" tap0 192.168.69.4/24 192.168.69.77 -c 1
+try tells '192.168.69.77: no answer' "$folder/arping" tap0 192.168.69.4/24 192.168.69.77 -c 1
+try tells '10.9.9.9: no route' "$folder/arping" tap0 192.168.69.4/24 10.9.9.9 -c 1
 try prints '253 requests, 2 hosts' "$folder/sweep" tap0 192.168.69.4/24 -q 200 -W 1
 try prints '3 requests, 1 hosts' "$folder/sweep" tap0 fe80::4/64 -W 1
 exit $status

@@ -105,13 +105,15 @@ int main(int argc, char **argv) {
         else return usage();
     }
     if (argc - optind != 3) return usage();
+    a.own = cidr_of(argv[optind + 1]), a.to = address_of(argv[optind + 2]);
     a.tap = open_tap(argv[optind]);
     await_link(argv[optind]);
-    a.own = cidr_of(argv[optind + 1]), a.to = address_of(argv[optind + 2]);
     iface_config_init(&config);
     config.seed = (uint64_t)now_micros(), config.hardware_address[0] = 2, config.hardware_address[5] = 4;
     config.patience = (uint64_t)interval + 2 * SECOND;
     must("host", iface_new(&a.host, &config));
+    must(argv[optind + 1], iface_set_addresses(&a.host, &a.own, 1));
+    need_way(&a.host, &a.to);
     for (unsigned i = 0; i < count; i++) {
         ask(&a, interval);
         if (a.answers == 0) printf("%s: no answer\n", text_of(&a.to));

@@ -46,6 +46,7 @@ int main(int argc, char **argv) {
         fprintf(stderr, "usage: dhcp_host DEVICE SECONDS [ADDRESS]\n");
         return 2;
     }
+    unsigned seconds = (unsigned)number_of(argv[2], 1, 1e9);
     int tap = open_tap(argv[1]);
     await_link(argv[1]);
     iface host = IFACE_NONE;
@@ -60,7 +61,7 @@ int main(int argc, char **argv) {
     signal(SIGTERM, on_signal);
     signal(SIGINT, on_signal);
     signal(SIGALRM, on_signal);
-    alarm((unsigned)atoi(argv[2]));
+    alarm(seconds);
     while (!is_over) {
         int64_t at, leased_at;
         lease_address(&client, &host);

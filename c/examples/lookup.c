@@ -45,8 +45,6 @@ int main(int argc, char **argv) {
         fprintf(stderr, "usage: lookup DEVICE OWN/PREFIX SERVER[,SERVER..] NAME [A|AAAA]\n");
         return 2;
     }
-    int tap = open_tap(argv[1]);
-    await_link(argv[1]);
     iface host = IFACE_NONE;
     iface_dns dns = IFACE_DNS_NONE;
     struct iface_config config;
@@ -57,6 +55,8 @@ int main(int argc, char **argv) {
     uint64_t key[2];
     size_t query;
     read_servers(argv[3], servers);
+    int tap = open_tap(argv[1]);
+    await_link(argv[1]);
     if (getrandom(key, sizeof key, 0) != sizeof key) must("secret", IFACE_NO_ROOM);
     iface_config_init(&config);
     config.seed = (uint64_t)now_micros(), config.hardware_address[0] = 2, config.hardware_address[5] = 1;

@@ -41,6 +41,7 @@ static inline void start_fetch(iface_streams *tcp, iface *host, struct fetch *f,
     struct iface_endpoint local = {IFACE_ANY, 0};
     uint32_t code;
     memset(f, 0, sizeof *f);
+    need_way(host, &from->address);
     do {
         draw(&local.port, sizeof local.port);
         local.port |= 0xc000; /* from 49152 on (RFC 6335, 6) */

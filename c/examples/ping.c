@@ -4,9 +4,10 @@
  *
  *   ping tap0 192.168.69.4/24 192.168.69.100 -c 4
  *
- * COUNT is 4, and 0 is for ever; the interval 1 s; the payload 56 octets; the hop limit 64. After the last request it waits 4 s
- * for replies. It fails unless each request is answered. Beside replies it prints errors about its requests, which come
- * to a raw socket: the library verifies the header's checksum of these, and the program that of the message.
+ * COUNT is 4, and 0 is until it is stopped; the interval 1 s; the payload 56 octets; the hop limit 64. After the last request it
+ * waits 4 s for replies. It fails unless each request is answered. Without a way to the destination nothing is sent. Beside
+ * replies it prints who doesn't answer its requests for a hardware address, and errors about its echo requests, which come to a
+ * raw socket: the library verifies the header's checksum of these, and the program that of the message.
  */
 #include "tap.h"
 
@@ -36,6 +37,7 @@ struct ping {
     int tap;
     uint32_t socket, errors; /* of echo messages, and of all messages of ICMP */
     struct iface_address to;
+    struct iface_cidr own;
     struct options wanted;
     struct {
         int64_t at;
@@ -115,25 +117,34 @@ static void errors(struct ping *p) {
 static void open_all(struct ping *p, const char *device, const char *own) {
     const struct iface_rooms rooms = IFACE_ROOMS(64, 32 * LONGEST);
     struct iface_config config;
-    struct iface_cidr address = cidr_of(own);
+    p->own = cidr_of(own);
     p->tap = open_tap(device);
     await_link(device);
     iface_config_init(&config);
     config.seed = (uint64_t)now_micros(), config.hardware_address[0] = 2, config.hardware_address[5] = 4;
     must("host", iface_new(&p->host, &config));
-    must(own, iface_add_address(&p->host, &address.address, address.prefix_len));
+    must(own, iface_add_address(&p->host, &p->own.address, p->own.prefix_len));
     if (p->wanted.router) {
         struct iface_address router = address_of(p->wanted.router);
         must(p->wanted.router, iface_set_default_route(&p->host, &router));
     }
+    need_way(&p->host, &p->to);
     must("socket", iface_icmp_open_ident(&p->host, IDENT, &rooms, &p->socket));
     must("hop limit", iface_set_hop_limit(&p->host, p->socket, p->wanted.hop_limit));
     must("socket", iface_raw_open(&p->host, p->to.version, p->to.version == 4 ? 1 : 58, &rooms, &p->errors));
 }
 
+/* Prints who was asked for its hardware address and didn't answer, if the host gave up a request for that. */
+static void tell_silence(struct ping *p) {
+    struct iface_address silent;
+    if (iface_given_up(&p->host, p->socket, &silent) != IFACE_OK) return;
+    if (is_in(&silent, &p->own.address, p->own.prefix_len)) printf("%s doesn't answer\n", text_of(&silent));
+    else printf("%s: the router %s doesn't answer\n", text_of(&silent), p->wanted.router);
+    fflush(stdout);
+}
+
 /* Sends requests and takes replies until all are there, the last one has waited long enough, or a signal. */
 static void run(struct ping *p) {
-    struct iface_address silent;
     int64_t at, next = now_micros(), end = IFACE_NEVER;
     unsigned count = p->wanted.count;
     while (!is_over && (!count || p->received < count) && now_micros() < end) {
@@ -144,7 +155,7 @@ static void run(struct ping *p) {
             if (count && p->sent == count) has_more = 0, end = now_micros() + p->wanted.wait;
         }
         send_all(&p->host, p->tap, &at);
-        if (iface_given_up(&p->host, p->socket, &silent) == IFACE_OK) printf("%s doesn't answer\n", text_of(&silent));
+        tell_silence(p);
         int64_t until = has_more ? next : end;
         sleep_until(p->tap, at < until ? at : until);
         for (int burst = 0; burst < 64 && take_frame(&p->host, p->tap); burst++) {
@@ -183,14 +194,15 @@ int main(int argc, char **argv) {
     static struct ping p = {.host = IFACE_NONE, .wanted = {4, SECOND, 4 * SECOND, 56, 64, NULL}};
     if (!read_options(argc, argv, &p.wanted)) {
         fprintf(stderr, "usage: ping DEVICE OWN/PREFIX DESTINATION [-c COUNT] [-i SECONDS] [-s OCTETS] [-t HOPS] "
-                        "[-W SECONDS] [-r ROUTER]\n");
+                        "[-W SECONDS] [-r ROUTER]; COUNT 0 is until it is stopped\n");
         return 2;
     }
     p.to = address_of(argv[optind + 2]);
     open_all(&p, argv[optind], argv[optind + 1]);
     signal(SIGINT, on_signal);
     signal(SIGTERM, on_signal);
-    printf("PING %s: %zu octets of payload\n", text_of(&p.to), p.wanted.size);
+    printf("PING %s: %zu octets of payload%s\n", text_of(&p.to), p.wanted.size, p.wanted.count ? "" : ", until it is stopped");
+    fflush(stdout);
     int64_t begin = now_micros();
     run(&p);
     print_statistics(&p, now_micros() - begin);

@@ -143,6 +143,7 @@ int main(int argc, char **argv) {
         fprintf(stderr, "usage: segment_echo DEVICE SECONDS\n");
         return 2;
     }
+    unsigned seconds = (unsigned)number_of(argv[2], 1, 1e9);
     int tap = open_tap(argv[1]);
     iface_config_init(&config);
     config.seed = (uint64_t)now_micros(), config.hardware_address[0] = 2, config.hardware_address[5] = 7;
@@ -153,7 +154,7 @@ int main(int argc, char **argv) {
     }
     must("socket", iface_tcp_open(&host, &local, &any, &rooms, &socket));
     signal(SIGTERM, on_signal), signal(SIGINT, on_signal), signal(SIGALRM, on_signal);
-    alarm((unsigned)atoi(argv[2]));
+    alarm(seconds);
     while (!is_over) {
         int64_t at;
         send_again(&host, socket);

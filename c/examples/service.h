@@ -30,6 +30,16 @@ static inline void make_host(iface *host, iface_streams *tcp) {
     make_streams(tcp, host, PLACES, ROOM);
 }
 
+/* Prints where a service listens. */
+static inline void tell_ends(iface *host, uint16_t port) {
+    struct iface_address own;
+    uint8_t bits;
+    printf("listening at port %u of", port);
+    for (uint32_t i = 0; iface_address_at(host, i, &own, &bits) == IFACE_OK; i++) printf("%s %s", i ? "," : "", text_of(&own));
+    printf("\n");
+    fflush(stdout);
+}
+
 /* Calls a service for each connection, until it says that one is over: then that is released. */
 static inline void serve_all(iface_streams *tcp, size_t listener, int (*serve)(iface_streams *, const struct iface_stream *)) {
     static struct iface_stream open[PLACES];
@@ -52,11 +62,13 @@ static inline int run_service(int argc, char **argv, uint16_t port, int (*serve)
         fprintf(stderr, "usage: %s DEVICE SECONDS\n", argv[0]);
         return 2;
     }
+    unsigned seconds = (unsigned)number_of(argv[2], 1, 1e9);
     int tap = open_tap(argv[1]);
     make_host(&host, &tcp);
     must("listen", iface_stream_listen(&tcp, &local, PLACES, &listener));
+    tell_ends(&host, port);
     signal(SIGTERM, on_signal), signal(SIGINT, on_signal), signal(SIGALRM, on_signal);
-    alarm((unsigned)atoi(argv[2]));
+    alarm(seconds);
     while (!is_over) {
         serve_all(&tcp, listener, serve);
         take_turn(&host, &tcp, tap, IFACE_NEVER);

@@ -47,8 +47,8 @@ int main(int argc, char **argv) {
         fprintf(stderr, "usage: slaac_echo DEVICE SECONDS\n");
         return 2;
     }
+    int64_t at, end = now_micros() + (int64_t)number_of(argv[2], 1, 1e9) * SECOND;
     int tap = open_tap(argv[1]);
-    int64_t at, end = now_micros() + (int64_t)atoi(argv[2]) * SECOND;
     iface host = IFACE_NONE;
     struct iface_config config;
     struct iface_endpoint any = {.port = PORT};

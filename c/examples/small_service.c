@@ -116,12 +116,13 @@ int main(int argc, char **argv) {
     }
     s.page = url_of(argv[3]);
     if (s.is_slaac) s.servers[0] = address_of(argv[4]);
+    unsigned seconds = (unsigned)number_of(argv[2], 1, 1e9);
     int tap = open_tap(argv[1]);
     await_link(argv[1]);
     make(&s);
     must("listen", iface_stream_listen(&s.tcp, &local, 16, &listener));
     signal(SIGTERM, on_signal), signal(SIGINT, on_signal), signal(SIGALRM, on_signal);
-    alarm((unsigned)atoi(argv[2]));
+    alarm(seconds);
     while (!is_over) {
         int64_t at = go_on_with(&s);
         serve_all(&s.tcp, listener, serve);

@@ -9,6 +9,7 @@
 #include "iface.h"
 
 #include <arpa/inet.h>
+#include <errno.h>
 #include <fcntl.h>
 #include <linux/if.h>
 #include <linux/if_tun.h>
@@ -86,16 +87,30 @@ static inline struct iface_address link_local_of(const uint8_t m[6]) {
     return a;
 }
 
+/* Ends the program unless there is a device of this name: the system would make one of a name that is misspelt. */
+static inline void need_device(const char *name) {
+    struct ifreq asked;
+    int any = socket(AF_INET, SOCK_DGRAM, 0);
+    memset(&asked, 0, sizeof asked);
+    strncpy(asked.ifr_name, name, IFNAMSIZ - 1);
+    if (strlen(name) >= IFNAMSIZ || ioctl(any, SIOCGIFINDEX, &asked) < 0) {
+        fprintf(stderr, "%s: no such device\n", name);
+        exit(1);
+    }
+    close(any);
+}
+
 /* A TAP device, by its name: it exists, and is up. @3 is descriptor 3, at which relay.c gives a program its frames. */
 static inline int open_tap(const char *name) {
     struct ifreq wanted;
-    if (name[0] == '@') return atoi(name + 1);
+    if (name[0] == '@') return (int)number_of(name + 1, 0, 1023);
+    need_device(name);
     memset(&wanted, 0, sizeof wanted);
     wanted.ifr_flags = IFF_TAP | IFF_NO_PI;
     strncpy(wanted.ifr_name, name, IFNAMSIZ - 1);
     int tap = open("/dev/net/tun", O_RDWR | O_NONBLOCK | O_CLOEXEC);
     if (tap < 0 || ioctl(tap, TUNSETIFF, &wanted) < 0) {
-        perror("/dev/net/tun");
+        fprintf(stderr, "%s, as a TAP device of /dev/net/tun: %s\n", name, strerror(errno));
         exit(1);
     }
     return tap;
@@ -114,6 +129,35 @@ static inline void await_link(const char *name) {
     }
     if (!is_running) fprintf(stderr, "%s isn't up\n", name);
     close(any);
+}
+
+/* Whether an address is in a network. */
+static inline int is_in(const struct iface_address *a, const struct iface_address *network, uint8_t prefix_len) {
+    size_t whole = prefix_len / 8;
+    if (a->version != network->version || memcmp(a->octets, network->octets, whole) != 0) return 0;
+    return prefix_len % 8 == 0 || (a->octets[whole] ^ network->octets[whole]) >> (8 - prefix_len % 8) == 0;
+}
+
+/* Whether a host knows where to send a packet for a destination: to a group or to all, into an own network, or by a route. */
+static inline int knows_way(iface *host, const struct iface_address *to) {
+    static const uint8_t all[4] = {255, 255, 255, 255};
+    struct iface_address a, router;
+    uint8_t bits;
+    int64_t until, now = now_micros();
+    if (to->version == 6 ? to->octets[0] == 0xff : to->octets[0] >> 4 == 14 || memcmp(to->octets, all, 4) == 0) return 1;
+    for (uint32_t i = 0; iface_address_at(host, i, &a, &bits) == IFACE_OK; i++)
+        if (is_in(to, &a, bits)) return 1;
+    for (uint32_t i = 0; iface_route_at(host, i, &a, &bits, &router, &until) == IFACE_OK; i++)
+        if (is_in(to, &a, bits) && until >= now) return 1;
+    return 0;
+}
+
+/* Ends the program where a host doesn't: a packet for the destination would wait, and be given up, as one for a neighbour that
+ * doesn't answer. */
+static inline void need_way(iface *host, const struct iface_address *to) {
+    if (knows_way(host, to)) return;
+    fprintf(stderr, "%s: no route\n", text_of(to));
+    exit(1);
 }
 
 /* Sends a frame: one that the device doesn't take is told of, and lost. */

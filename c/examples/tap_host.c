@@ -60,6 +60,7 @@ int main(int argc, char **argv) {
         fprintf(stderr, "usage: tap_host DEVICE SECONDS\n");
         return 2;
     }
+    unsigned seconds = (unsigned)number_of(argv[2], 1, 1e9);
     int tap = open_tap(argv[1]);
     iface host = IFACE_NONE;
     uint32_t socket;
@@ -67,7 +68,7 @@ int main(int argc, char **argv) {
     signal(SIGTERM, on_signal);
     signal(SIGINT, on_signal);
     signal(SIGALRM, on_signal);
-    alarm((unsigned)atoi(argv[2]));
+    alarm(seconds);
     while (!is_over) {
         int64_t at;
         send_all(&host, tap, &at);

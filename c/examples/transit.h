@@ -58,13 +58,6 @@ static inline int is_forwardable(const struct iface_address *a) {
     return a->octets[0] != 0xff && (memcmp(a->octets, zeros, 15) != 0 || a->octets[15] > 1);
 }
 
-/* Whether an address is in a network. */
-static inline int is_in(const struct iface_address *a, const struct iface_address *network, uint8_t prefix_len) {
-    size_t whole = prefix_len / 8;
-    if (a->version != network->version || memcmp(a->octets, network->octets, whole) != 0) return 0;
-    return prefix_len % 8 == 0 || (a->octets[whole] ^ network->octets[whole]) >> (8 - prefix_len % 8) == 0;
-}
-
 /* Whether an address of a network of IPv4 is the network's own, or its broadcast address (RFC 1812, 4.2.3.1 and 5.3.5). Of a
  * prefix of 31 or 32 bits there is neither (RFC 3021). */
 static inline int is_end_of_network(const struct iface_address *a, uint8_t prefix_len) {

@@ -33,7 +33,7 @@ pub const IFACE_MAX_PREFIX_COUNT: usize = 8;
 pub const IFACE_MAX_ROUTE_COUNT: usize = 32;
 
 /// How many neighbours there may be, unless [`Config::neighbors`](crate::iface::Config::neighbors) says otherwise.
-pub const IFACE_NEIGHBOR_CACHE_COUNT: usize = 64;
+pub const IFACE_NEIGHBOR_CACHE_COUNT: usize = 128;
 
 /// How many hop-by-hop options of a packet of IPv6 are read.
 pub const IPV6_HBH_MAX_OPTIONS: usize = 4;

@@ -5,6 +5,7 @@ mod common;
 
 use common::{OWN, arp, ethernet, ipv4, millis, udp4};
 use fumitorygate::Error;
+use fumitorygate::config::{IFACE_NEIGHBOR_CACHE_COUNT, REASSEMBLY_BUFFER_COUNT};
 use fumitorygate::iface::{
     Config, Conflict, Interface, MulticastError, PollIngressSingleResult, PollResult, Rate, Route, RouteTableFull,
     SocketSet,
@@ -46,6 +47,16 @@ fn patience_is_set_from_the_start() {
     assert_eq!(config.patience, Duration::from_secs(3));
     assert_eq!(config.reassembly_timeout, Duration::from_secs(10));
     assert_eq!((config.random_seed, config.sockets, config.slaac), (0, 8, false));
+}
+
+/// What `config` tells as usual is what an interface has unless its `Config` says otherwise.
+#[test]
+fn usual_numbers_are_told() {
+    let config = Config::new(HardwareAddress::Ip);
+    assert_eq!(
+        (config.neighbors as usize, config.fragmented as usize),
+        (IFACE_NEIGHBOR_CACHE_COUNT, REASSEMBLY_BUFFER_COUNT)
+    );
 }
 
 /// `docs/C.md`, A guard: what claims the own address is dropped, counted and told (RFC 5227 2.4), unless there is no guard.
