@@ -5,7 +5,7 @@ use Rattle.std.proofs.Common.{◌≡◌, ℕ, Bool, true, false, List, [], ◌�
 use Rattle.std.proofs.Common.{length, take, arith, ◌≤◌}
 use Rattle.std.proofs.lemmas.List.{length-take-le, take_all}
 use Rattle.std.proofs.Math.Dec.{eqb-suc-zero}
-use Rattle.std.specs.Prelude.{ℤ, pos, ◌||◌, ◌==◌, is_none, not, Err, IfOk, Result}
+use Rattle.std.specs.Prelude.{ℤ, pos, ◌||◌, ◌==◌, not, Err, IfOk, Result}
 use Rattle.std.specs.Borrow.{Bor}
 use Rattle.std.specs.Box.{with_value}
 use Rattle.socket_set.specs.SocketSet.{Sockets}
@@ -28,7 +28,6 @@ use Rattle.ip_address.specs.declared.cidr.IpCidr.{IpCidr}
 use Rattle.ip_address.specs.declared.hardware.HardwareAddress.{HardwareAddress}
 use Rattle.guard.specs.declared.watch.Watch.{Watch}
 use Rattle.iface_host.specs.Frames.{Gives, IsDue, IsWritten, Made, PollsInto, Round, Takes, after_response, is_piece_left, let_go, planned}
-use Rattle.iface_host.specs.Calls.{addresses_of}
 use Rattle.iface_host.specs.Guarded.{Admitted, Defends, Dropped, NextIs, Receives, TakesGuarded, after_arrival, after_sending, hardware_addr_of, is_admitted}
 use Rattle.iface_host.specs.Counters.{after_handing, after_taking}
 use Rattle.iface_host.specs.Outbox.{Tells, Waiting, with_room}
@@ -128,19 +127,21 @@ received t frame known n before after old i s shown result is written r changed 
       }) w_is;
 }
 
--- at the moment that was tested
-pub admitted : (t t' : ℤ) → t' ≡ t → (frame : List ℕ) (n : ℕ) (before after : List ℕ) (old mid new : IfaceHost) →
-    is_admitted t' frame old ≡ true → mid ≡ after_arrival t' frame old → TakesGuarded t' frame n before after mid new →
+pub admitted : (t : ℤ) (frame : List ℕ) (n : ℕ) (before after : List ℕ) (old mid new : IfaceHost) →
+    is_admitted t frame old ≡ true → mid ≡ after_arrival t frame old → TakesGuarded t frame n before after mid new →
     Receives t frame n before after old new
-admitted t t' same frame n before after old mid new is mid_is takes =
-    subst (λ (m : ℤ). Receives m frame n before after old new) same
-    (Admitted is (subst (λ (h : IfaceHost). TakesGuarded t' frame n before after h new) mid_is takes))
+admitted t frame n before after old mid new is mid_is takes =
+    Admitted is (subst (λ (h : IfaceHost). TakesGuarded t frame n before after h new) mid_is takes)
 
-pub dropped : (t t' : ℤ) → t' ≡ t → (frame : List ℕ) (n : ℕ) (before after : List ℕ) (old mid new : IfaceHost) →
-    is_admitted t' frame old ≡ false → mid ≡ after_arrival t' frame old → Defends n before after mid new → Receives t frame n before after old new
-dropped t t' same frame n before after old mid new is mid_is defends =
-    subst (λ (m : ℤ). Receives m frame n before after old new) same
-    (Dropped is (subst (λ (h : IfaceHost). Defends n before after h new) mid_is defends))
+pub dropped : (t : ℤ) (frame : List ℕ) (n : ℕ) (before after : List ℕ) (old mid new : IfaceHost) →
+    is_admitted t frame old ≡ false → mid ≡ after_arrival t frame old → Defends n before after mid new → Receives t frame n before after old new
+dropped t frame n before after old mid new is mid_is defends =
+    Dropped is (subst (λ (h : IfaceHost). Defends n before after h new) mid_is defends)
+
+-- at the moment that was tested
+pub heard : (t t' : ℤ) → t' ≡ t → (frame : List ℕ) (n : ℕ) (before after : List ℕ) (old new : IfaceHost) →
+    Receives t' frame n before after old new → Receives t frame n before after old new
+heard t t' same frame n before after old new receives = subst (λ (m : ℤ). Receives m frame n before after old new) same receives
 
 -- an announcement was written and counted, or none was owed
 pub defended : (n : ℕ) (before after : List ℕ) (old : IfaceHost) (hardware : Option HardwareAddress) → hardware ≡ hardware_addr_of old →

@@ -1,5 +1,5 @@
 -- A host behind its guard: what it gets to see, and what is sent.
-use Rattle.std.specs.Prelude.{ℕ, ℤ, pos, ◌+ℤ◌, ◌≡◌, ◌==◌, ◌&&◌, ◌||◌, is_none, not, Bool, true, false, List, length, take, Option, Some, None, if◌then◌else◌}
+use Rattle.std.specs.Prelude.{ℕ, ℤ, pos, ◌+ℤ◌, ◌≡◌, ◌==◌, ◌&&◌, not, Bool, true, false, List, length, take, Option, Some, None, if◌then◌else◌}
 use Rattle.ip_address.specs.EthernetAddress as ethernet
 use Rattle.ip_address.specs.Ip.{is_unicast}
 use Rattle.ip_address.specs.declared.ethernet_address.EthernetAddress.{EthernetAddress}

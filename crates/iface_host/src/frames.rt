@@ -37,13 +37,24 @@ impl IfaceHost {
         if out.len() < FRAME_LEN {
             return Err(Refusal::NoRoom);
         }
+        Ok(self.hear(now, frame, out))
+    }
+
+    /// Takes a frame that came at a moment, if the guard admits it. Answers how many octets the response has that is written to the
+    /// front of a buffer, 0 where there is none.
+    #[inline(always)]
+    fn hear(&mut self, now: Instant, frame: &[u8], out: &mut [u8]) -> usize
+        requires moment { IsMoment now }
+        requires room { 1514 ≤ length out.old }
+        ensures { Receives now frame.now result out.old out.new self.old self.new }
+    {
         if self.is_ordinary(frame) {
-            return Ok(self.take_ordinary(now, frame, out));
+            return self.take_ordinary(now, frame, out);
         }
         if !self.admits(now, frame) {
-            return Ok(self.defend(out));
+            return self.defend(out);
         }
-        Ok(self.take_guarded(now, frame, out))
+        self.take_guarded(now, frame, out)
     }
 
     /// Takes a frame, of a known neighbour or not, and sends the response that the guard lets go.

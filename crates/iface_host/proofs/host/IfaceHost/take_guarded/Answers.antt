@@ -1,4 +1,4 @@
-use Rattle.std.proofs.Common.{◌≡◌, false, sym, true, rules}
+use Rattle.std.proofs.Common.{◌≡◌, false, true, rules}
 use Rattle.iface_host.proofs.GuardCalls.{tells_all}
 use Rattle.iface_host.proofs.GuardCalls.{unguarded}
 use Rattle.iface_host.proofs.host.IfaceHost.take_guarded.Goals as goal

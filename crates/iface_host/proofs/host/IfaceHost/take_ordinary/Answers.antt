@@ -1,4 +1,4 @@
-use Rattle.std.proofs.Common.{◌≡◌, ◌∙◌, ap, refl, sym, true}
+use Rattle.std.proofs.Common.{◌≡◌, ◌∙◌, ap, refl, sym}
 use Rattle.host_machine.specs.Context.Host.{no_sockets}
 use Rattle.guard.specs.Guard.{is_ordinary}
 use Rattle.iface_host.specs.Calls.{addresses_of}
