@@ -3,7 +3,7 @@
 
 usage: listings.py           makes an empty folder with the crates and the lines of crates.txt that CLIENT.md says, and the program
                              docs/listings, in which each listing stands; runs it by `rt try`, which proves nothing; and is its
-                             peer: what it sends has to be what crates/udp_echo sends. It takes a minute where nothing else runs
+                             peer: what it sends has to be what crates/udp_echo sends. It takes a minute of a processor
        listings.py --check   names each listing that stands neither in that program nor in a crate; pages.py does it, too
 """
 import functools
