@@ -66,6 +66,8 @@ def of_memory():
     """What an interface takes: what c/memory.c prints, of which docs/C.md has the table."""
     due = number(next(row[1] for row in rows(read("docs/C.md"), "Memory") if row[0] == "of these the block of its interface"))
     yield from told("README.md", r"([\d,]+) octets an interface", (due,))
+    host = next(row for row in rows(read("docs/C.md"), "Memory") if row[0] == "a host, by `iface_new`")
+    yield from told("README.md", r"a host takes \[([\d,]+) by default, ([\d,]+) at the least\]", (number(host[1]), number(host[2])))
     yield from told("docs/PERFORMANCE.md", r"An `Interface` takes ([\d,]+) octets", (due,))
     parts = [number(re.search(r"[\d,]+", row[1]).group(0)) for row in rows(read("docs/PERFORMANCE.md"), "Memory")[1:]]
     if sum(parts) != due:
