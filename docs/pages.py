@@ -1,8 +1,9 @@
 #!/usr/bin/env python3
 """Tests the pages: that each link leads to a file and to a heading there, that each file that a page names is there,
 that tables and lines aren't too long, that the examples of CONTRIBUTING.md stand somewhere, that MAP.md has each crate once,
-that numbers of crates are those of crates.txt, that who copies crates by CLIENT.md has all that their lines name, that
-THEOREM.md has each law, and no other, and tells how many there are, and that what promises stand on is counted right. Of
+that calls of C that they name are in iface.h, that numbers of crates are those of crates.txt, that who copies crates by CLIENT.md has all that their lines name, that
+THEOREM.md has each law, and no other, and tells how many there are, that what promises stand on is counted right, that numbers are
+those of what they count (figures.py), and that each listing of CLIENT.md and TCP.md stands in a program (listings.py). Of
 crates.txt it tests that each crate names those that its line has, and that there aren't too many paths down; and of
 definitions, that those on which no promise stands are in a folder of their own (promises.py).
 
@@ -14,7 +15,9 @@ import pathlib
 import re
 import sys
 
+import figures
 import files_behind
+import listings
 import promises
 import reference
 
@@ -156,6 +159,12 @@ def test_behind(text):
                 yield f"behind {name}: {', '.join(told)}, and not {', '.join(counted)}"
 
 
+def test_calls(text, declared):
+    """Names each call of C that a page names and that iface.h doesn't declare."""
+    for name in sorted(set(re.findall(r"`(iface_[a-z0-9_]*[a-z0-9])`", text)) - declared):
+        yield f"iface.h has no {name}"
+
+
 def test_counts(text, lines):
     """Names each number of crates that isn't that of crates.txt, or of what a client copies."""
     client = (TOP / "docs" / "CLIENT.md").read_text(encoding="utf-8")
@@ -231,15 +240,19 @@ def main(arguments):
             print(f"{len(re.findall(WORD, text)):6} {page.relative_to(TOP)}")
         return False
     problems, ends, crates = [], ends_of_paths(), read_crates()
+    declared = set(re.findall(r"\biface_\w+", (TOP / "c" / "iface.h").read_text(encoding="utf-8"))) | set(crates)
     for page, text in texts.items():
-        found = [*test_links(page, text, texts), *test_files(text, ends), *test_counts(text, len(crates)), *test_behind(text)]
+        found = [*test_links(page, text, texts), *test_files(text, ends), *test_counts(text, len(crates)), *test_behind(text),
+                 *test_calls(text, declared)]
         found += [] if page.name in OF_ANY_LENGTH else test_lines(text)
         problems += [f"{page.relative_to(TOP)}: {problem}" for problem in found]
     for name, test in (("CONTRIBUTING.md", test_examples), ("THEOREM.md", test_laws), ("THEOREM.md", test_law_counts),
                        ("CLIENT.md", test_copies), ("MAP.md", test_map)):
         problems += [f"docs/{name}: {problem}" for problem in test(texts[TOP / "docs" / name])]
     problems += [f"crates.txt: {problem}" for problem in (*test_uses(crates), *test_paths(crates))]
-    problems += promises.misplaced(promises.promised())
+    problems += [*promises.misplaced(promises.promised()), *figures.problems()]
+    for name in listings.PAGES:
+        problems += [f"docs/{name}: {problem}" for problem in listings.unknown(texts[TOP / "docs" / name])]
     print("\n".join(problems + [f"{len(texts)} pages, {len(problems) or 'no'} problems"]))
     return bool(problems)
 

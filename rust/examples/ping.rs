@@ -51,7 +51,7 @@ fn main() {
         at.map_or(default, |at| args[at + 1].parse().expect("a number"))
     };
     let remote_addr: IpAddress = address.parse().expect("an address");
-    let count = u16::try_from(option("-c", 4)).expect("a count");
+    let count = u16::try_from(option("-c", 4)).ok().filter(|count| *count > 0).expect("COUNT is from 1 to 65535");
     let timeout = Duration::from_secs(option("-t", 5));
     let interval = Duration::from_millis(option("-i", 1000));
 
