@@ -28,8 +28,10 @@ pub fn take_guarded(
         let limit = watch
             .guard
             .limit_for(now, frame, interface.ip_addrs(), interface.neighbors());
+        let known = watch.answers.is_short(now)
+            && watch.guard.comes_from_known(now, frame, interface.neighbors());
         if let Some(reply) = interface.receive_frame(now, frame, &mut sockets) {
-            if watch.lets_go(now, reply, frame.len()) {
+            if watch.lets_go(now, reply, frame.len(), known) {
                 transmit(reply);
             }
         }
@@ -61,7 +63,7 @@ pub fn serve_guarded(
         ) {
             Heard::Frame(len) => {
                 if let Some(reply) = interface.receive_frame(now, &buffer[..len], &mut sockets) {
-                    guarded.answer(now, reply, len);
+                    guarded.answer(now, reply, len, false);
                 }
             }
             Heard::Dropped => {}
