@@ -56,7 +56,7 @@ def pieces(words):
 @functools.lru_cache
 def sources():
     """The code in which a listing may stand, by its file."""
-    files = [*PROGRAM.glob("src/*.rt"), *TOP.glob("crates/*/src/**/*.rt")]
+    files = [*PROGRAM.glob("*.rt.txt"), *TOP.glob("crates/*/src/**/*.rt")]
     return {file: packed(file.read_text(encoding="utf-8")) for file in files}
 
 
@@ -82,7 +82,10 @@ def make(folder):
     lines = {line.split(":")[0]: line for line in (TOP / "crates.txt").read_text(encoding="utf-8").splitlines()}
     for name in names:
         shutil.copytree(TOP / "crates" / name, folder / "crates" / name, ignore=shutil.ignore_patterns("must-fail", "out"))
-    shutil.copytree(PROGRAM, folder / "crates" / "my_host")
+    source = folder / "crates" / "my_host" / "src"
+    source.mkdir(parents=True)
+    for file in PROGRAM.glob("*.rt.txt"):  # `rt ci` refuses a .rt file outside a crate of the list
+        shutil.copyfile(file, source / file.name.removesuffix(".txt"))
     own = re.search(r"`(my_host: [^`]*)`", page).group(1)
     (folder / "crates.txt").write_text("\n".join([*(lines[name] for name in names), f"{own} {MORE}"]) + "\n", encoding="utf-8")
     (folder / "HANDLES").write_text(re.search(r"`(Handles allowed: [^`]*)`", page).group(1) + "\n", encoding="utf-8")
