@@ -4,7 +4,8 @@ ghost use Rattle.iface_c.specs.Calls.{Did};
 ghost use Rattle.iface_c.specs.Addresses.{address_in};
 ghost use Rattle.iface_c.specs.Guarding.{ShowsConflict, bucket_in, conflict_of, drops_shown, pinned_conflict_of, usual_guard};
 ghost use Rattle.iface_c.specs.Guarding.{watch_in};
-ghost use Rattle.iface_host.specs.Guarded.{Pins, after_unpin, pin_refusal, unpin_refusal};
+ghost use Rattle.iface_host.specs.Guarded as guarded;
+ghost use Rattle.iface_host.specs.Guarded.{after_unpin, pin_refusal, unpin_refusal};
 ghost use Rattle.iface_c.specs.Handle.{host_in};
 ghost use Rattle.iface_c.specs.Properties.{Shows, ethernet_of, lack};
 ghost use Rattle.iface_c.specs.Status.{code_by, code_with};
@@ -254,7 +255,7 @@ pub extern "C" fn iface_guard_pin(
     hardware_address: &[u8; 6],
 ) -> u32
     ensures done { Did result (λ old new. IsSomeAnd (address_in address.now)
-        (λ pinned. Pins pinned (ethernet_of hardware_address.now) old new)) handle.old handle.new }
+        (λ pinned. guarded.Pins pinned (ethernet_of hardware_address.now) old new)) handle.old handle.new }
     ensures code { result ≡ code_with (λ pinned host. pin_refusal host pinned (ethernet_of hardware_address.now))
         (address_in address.now) (host_in handle.old) }
 {
