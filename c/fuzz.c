@@ -197,6 +197,7 @@ static void some_streams(struct iface_streams_config *c) {
     c->packets = below(32), c->packet_octets = below(20000), c->far_octets = below(4000), c->ipv4 = (uint8_t)(below(8) > 0);
     c->ipv6 = (uint8_t)below(2), c->nagle = (uint8_t)below(2), c->congestion_control = (uint8_t)below(2), c->ack_delay = below(20000);
     c->keep_alive = below(2) * 5000000, c->timeout = below(2) * 9000000, c->time_wait = below(20000000);
+    c->release_timeout = below(200000000);
 }
 
 /* A moment, or one before it, or one that is none. The guard's rates wait for the latest one to come again, so none is far ahead. */

@@ -735,7 +735,9 @@ struct iface_streams_config {
                                   for it; 0 for twelve tries: 0 */
     uint64_t ack_delay;        /* how long an acknowledgement of octets in order may wait: 10,000 */
     uint64_t shortest_timeout; /* the shortest time after which something is sent again: 200,000 */
-    uint64_t time_wait;        /* how long TIME-WAIT lasts: 60,000,000. All of these are in microseconds */
+    uint64_t time_wait;        /* how long TIME-WAIT lasts: 60,000,000 */
+    uint64_t release_timeout;  /* how long a connection may go on that was released, before it ends in a reset, whatever its peer
+                                  does: 120,000,000. All of these are in microseconds */
     uint32_t places;           /* how many connections there are at most, from 1 to 2^30: 16 */
     uint32_t send_room;        /* how many octets each may hold that aren't acknowledged, at most 2^30: 16,384 */
     uint32_t receive_room;     /* how many octets each may hold that aren't read, at most 2^30: 16,384 */
@@ -821,7 +823,8 @@ uint32_t iface_stream_close_listener(iface_streams *tcp, size_t listener);
  * none. Writes its name. The next iface_streams_poll sends the SYN, and iface_stream_state tells what becomes of it. An address of
  * `local` that the host doesn't have ends it then, as if aborted.
  * BAD_ARGUMENT, NO_STREAMS, NO_HOST, BAD_MOMENT, BAD_PORT (also the peer's), NOT_THERE (no own address of this family), BAD_ADDRESS
- * (one that isn't unicast, or they are of two families), IN_USE (choose another port), TABLE_FULL (each place has a connection). */
+ * (one that isn't unicast, or they are of two families), IN_USE (choose another port), TABLE_FULL (each place has a connection, and
+ * none that was released is in TIME-WAIT). */
 uint32_t iface_stream_connect(iface_streams *tcp, iface *host, int64_t now, const struct iface_endpoint *local,
                               const struct iface_endpoint *remote, struct iface_stream *stream);
 
@@ -897,7 +900,7 @@ _Static_assert(sizeof(struct iface_rate) == 8 && sizeof(struct iface_guard) == 4
 _Static_assert(sizeof(struct iface_drops) == 64, "as the library lays them out");
 _Static_assert(sizeof(struct iface_lease) == 112 && sizeof(iface_dhcp) == 16, "as the library lays them out");
 _Static_assert(sizeof(struct iface_dns_answer) == 72 && sizeof(iface_dns) == 16, "as the library lays them out");
-_Static_assert(sizeof(struct iface_streams_config) == 120 && sizeof(iface_streams) == 16, "as the library lays them out");
+_Static_assert(sizeof(struct iface_streams_config) == 128 && sizeof(iface_streams) == 16, "as the library lays them out");
 _Static_assert(sizeof(struct iface_stream) == 16, "as the library lays them out");
 _Static_assert(sizeof(struct iface_rooms) == 16 && sizeof(struct iface_segment) == 32, "as the library lays them out");
 #endif

@@ -62,19 +62,23 @@ static uint32_t sum_of_segment(const uint8_t *packet, size_t length) {
     return sum_of(packet + 20, length - 20, sum_of(packet + 12, 8, 6 + (uint32_t)(length - 20)));
 }
 
-/* Hands the host a segment of a peer at 10.0.0.2 to 10.0.0.1. */
-static void come(iface *host, int64_t now, const struct peer *p, uint8_t flags, const char *text) {
+/* Hands the host a segment of a peer at 10.0.0.2 to 10.0.0.1, with a window. */
+static void come_with(iface *host, int64_t now, const struct peer *p, uint8_t flags, uint16_t window, const char *text) {
     uint8_t packet[600] = {0x45, 0, 0, 0, 0, 0, 0x40, 0, 64, 6, 0, 0, 10, 0, 0, 2, 10, 0, 0, 1};
     size_t n = 77, length = 40 + strlen(text);
     put(packet + 2, 2, (uint32_t)length);
     put(packet + 10, 2, 0xffff & ~sum_of(packet, 20, 0));
     put(packet + 20, 2, p->port), put(packet + 22, 2, p->to), put(packet + 24, 4, p->seq), put(packet + 28, 4, p->ack);
     packet[32] = 0x50, packet[33] = flags;
-    put(packet + 34, 2, 8192);
+    put(packet + 34, 2, window);
     memcpy(packet + 40, text, length - 40);
     put(packet + 36, 2, 0xffff & ~sum_of_segment(packet, length));
     must("receive", iface_receive(host, now, packet, length, out, sizeof out, &n));
     wants("no frame in response", n, 0);
+}
+
+static void come(iface *host, int64_t now, const struct peer *p, uint8_t flags, const char *text) {
+    come_with(host, now, p, flags, 8192, text);
 }
 
 /* The next segment that the host sends, with a right checksum; or there is none, of length -1 and no flags. */
@@ -463,6 +467,170 @@ static void closes_a_listener(void) {
     must("free", iface_streams_free(&tcp, &host)), must("free", iface_free(&host));
 }
 
+/* The program closes first, the peer then, and the program lets go of it: TIME-WAIT (RFC 9293 3.6, case 1). */
+static void closes_first(iface_streams *tcp, iface *host, int64_t now, const struct iface_stream *s, struct peer *p) {
+    must("close", iface_stream_close(tcp, s));
+    struct segment end = turn(tcp, host, now);
+    wants("an end", end.flags & FIN, FIN), wants("its number", end.seq, p->ack);
+    p->ack++, come(host, now, p, ACK | FIN, ""), p->seq++;
+    wants("the end is acknowledged", turn(tcp, host, now).ack, p->seq), wants_state(tcp, s, IFACE_TIME_WAIT);
+}
+
+static void lets_go(iface_streams *tcp, iface *host, int64_t now, const struct iface_stream *s) {
+    must("release", iface_stream_release(tcp, s)), wants_nothing("nothing more", tcp, host, now);
+}
+
+/* A server that closes first, with four places: a hundred connections in a second. The oldest one in TIME-WAIT gives its place. */
+static void serves_beyond_time_wait(void) {
+    iface host = IFACE_NONE;
+    iface_streams tcp = IFACE_STREAMS_NONE;
+    struct iface_stream s = {77, 77}, opened[5];
+    struct iface_endpoint local = {IFACE_ANY, 40000};
+    struct peer p, old = {0, 0, 0, 0};
+    make(&host, 4), make_streams(&tcp, &host, 4);
+    size_t listener = listen_at(&tcp, 7, 4);
+    for (uint16_t i = 0; i < 100; i++) {
+        int64_t now = second + 10000 * i;
+        p = come_in(&tcp, &host, now, (uint16_t)(4000 + i), 7);
+        must("accept", iface_stream_accept(&tcp, listener, &s)), writes(&tcp, &host, now, &s, &p, "a page");
+        closes_first(&tcp, &host, now, &s, &p), lets_go(&tcp, &host, now, &s);
+        if (i == 96) old = p;
+    }
+    /* the last four wait: the peer's end once more is acknowledged */
+    int64_t now = 2 * second;
+    struct peer again = p;
+    again.seq--, come(&host, now, &again, ACK | FIN, "");
+    struct segment answer = turn(&tcp, &host, now);
+    wants("an acknowledgement", answer.flags, ACK), wants("of the end", answer.ack, p.seq);
+    wants_nothing("nothing more", &tcp, &host, now);
+    /* a connection that the program opens takes the place of the oldest one, whose peer is now answered by a reset */
+    must("connect", iface_stream_connect(&tcp, &host, now, &local, &at_peer, &opened[0]));
+    wants("a SYN", turn(&tcp, &host, now).flags, SYN);
+    old.seq--, come(&host, now, &old, ACK | FIN, "");
+    answer = turn(&tcp, &host, now), wants("a reset", answer.flags, RST), wants("of the number", answer.seq, old.ack);
+    for (uint16_t i = 1; i < 4; i++) {
+        local.port++, must("connect", iface_stream_connect(&tcp, &host, now, &local, &at_peer, &opened[i]));
+        wants("a SYN", turn(&tcp, &host, now).flags, SYN);
+    }
+    /* no other one gives its place */
+    local.port++, wants("no place", iface_stream_connect(&tcp, &host, now, &local, &at_peer, &opened[4]), IFACE_TABLE_FULL);
+    for (int i = 0; i < 4; i++) wants_state(&tcp, &opened[i], IFACE_SYN_SENT);
+    must("free", iface_streams_free(&tcp, &host)), must("free", iface_free(&host));
+}
+
+/* A connection in TIME-WAIT that its program hasn't let go of keeps its place, its name and its octets. */
+static void keeps_time_wait(void) {
+    iface host = IFACE_NONE;
+    iface_streams tcp = IFACE_STREAMS_NONE;
+    struct iface_stream s = {77, 77}, other = {77, 77};
+    struct iface_endpoint local = {IFACE_ANY, 40001};
+    size_t n = 77;
+    make(&host, 4), make_streams(&tcp, &host, 1);
+    struct peer p = go_out(&tcp, &host, second, 40000, &s);
+    come(&host, second, &p, ACK, "the last"), p.seq += 8, wants("acknowledged", turn(&tcp, &host, second).ack, p.seq);
+    closes_first(&tcp, &host, second, &s, &p);
+    wants("no place", iface_stream_connect(&tcp, &host, second, &local, &at_peer, &other), IFACE_TABLE_FULL);
+    must("receive", iface_stream_receive(&tcp, &s, octets, sizeof octets, &n)), wants("all octets", n, 8);
+    lets_go(&tcp, &host, second, &s);
+    must("connect", iface_stream_connect(&tcp, &host, second, &local, &at_peer, &other));
+    must("free", iface_streams_free(&tcp, &host)), must("free", iface_free(&host));
+}
+
+/* A SYN between the ends of a connection in TIME-WAIT begins the next one, if its number is larger than all that came, and the own
+ * one larger than all that was sent (RFC 9293 3.6.1, RFC 6191 2). */
+static void reopens(void) {
+    iface host = IFACE_NONE;
+    iface_streams tcp = IFACE_STREAMS_NONE;
+    struct iface_stream s = {77, 77};
+    make(&host, 4), make_streams(&tcp, &host, 4);
+    size_t listener = listen_at(&tcp, 7, 4);
+    struct peer p = come_in(&tcp, &host, second, 4000, 7);
+    must("accept", iface_stream_accept(&tcp, listener, &s)), reads(&tcp, &host, second, &s, &p, "a question");
+    writes(&tcp, &host, second, &s, &p, "an answer"), closes_first(&tcp, &host, second, &s, &p);
+    /* while the program has it, and at the same instant, when the own number isn't beyond */
+    struct peer next = {4000, 7, p.seq, 0};
+    come(&host, 2 * second, &next, SYN, "");
+    struct segment answer = turn(&tcp, &host, 2 * second);
+    wants("an acknowledgement", answer.flags, ACK), wants("of the end", answer.ack, p.seq);
+    lets_go(&tcp, &host, 2 * second, &s);
+    /* the number of the end, which was used */
+    next.seq = p.seq - 1, come(&host, 2 * second, &next, SYN, "");
+    answer = turn(&tcp, &host, 2 * second), wants("an acknowledgement", answer.flags, ACK), wants("of the end", answer.ack, p.seq);
+    /* where nobody listens */
+    must("close", iface_stream_close_listener(&tcp, listener));
+    next.seq = p.seq, come(&host, 2 * second, &next, SYN, "");
+    answer = turn(&tcp, &host, 2 * second), wants("an acknowledgement", answer.flags, ACK), wants("of the end", answer.ack, p.seq);
+    /* a larger one, with a listener */
+    listener = listen_at(&tcp, 7, 4);
+    come(&host, 2 * second, &next, SYN, "");
+    answer = turn(&tcp, &host, 2 * second), wants("a SYN that acknowledges", answer.flags, SYN | ACK);
+    wants("its number", answer.ack, next.seq + 1), wants("beyond all that was sent", answer.seq - p.ack < 1u << 31, 1);
+    next.seq++, next.ack = answer.seq + 1, come(&host, 2 * second, &next, ACK, "");
+    wants_nothing("nothing more", &tcp, &host, 2 * second);
+    must("accept", iface_stream_accept(&tcp, listener, &s)), reads(&tcp, &host, 2 * second, &s, &next, "another");
+    /* the own number of this instant was used: it isn't beyond */
+    closes_first(&tcp, &host, 2 * second, &s, &next), lets_go(&tcp, &host, 2 * second, &s);
+    come(&host, 2 * second, &next, SYN, "");
+    answer = turn(&tcp, &host, 2 * second), wants("an acknowledgement", answer.flags, ACK), wants("of the end", answer.ack, next.seq);
+    must("free", iface_streams_free(&tcp, &host)), must("free", iface_free(&host));
+}
+
+/* A connection that was released ends within two minutes, though its peer keeps its window closed and answers each probe (RFC 6429 5):
+ * with a user time-out, or keep-alive, too. Its place is free then. */
+static void ends_after_release(uint64_t timeout, uint64_t keep_alive) {
+    iface host = IFACE_NONE;
+    iface_streams tcp = IFACE_STREAMS_NONE;
+    struct iface_stream s = {77, 77}, other = {77, 77};
+    struct iface_endpoint local = {IFACE_ANY, 40000};
+    int64_t now = second, end = now + 120 * second;
+    size_t n = 77;
+    make(&host, 4), make_streams(&tcp, &host, 1);
+    size_t listener = listen_at(&tcp, 7, 4);
+    struct peer p = come_in(&tcp, &host, second, 4000, 7);
+    must("accept", iface_stream_accept(&tcp, listener, &s));
+    must("timeout", iface_stream_set_timeout(&tcp, &s, timeout)), must("keep-alive", iface_stream_set_keep_alive(&tcp, &s, keep_alive));
+    come_with(&host, second, &p, ACK | FIN, 0, ""), p.seq++;
+    wants("the end is acknowledged", turn(&tcp, &host, second).ack, p.seq);
+    must("send", iface_stream_send(&tcp, &s, (const uint8_t *)"page", 4, &n)), wants("all octets", n, 4);
+    must("close", iface_stream_close(&tcp, &s)), wants_state(&tcp, &s, IFACE_LAST_ACK);
+    must("release", iface_stream_release(&tcp, &s)), wants_nothing("nothing is sent", &tcp, &host, now);
+    struct segment segment = {.length = (size_t)-1};
+    int probes = 0;
+    while (now < end) {
+        must("due", iface_streams_poll_at(&tcp, &now)), wants("no later than the end", now <= end, 1);
+        segment = turn(&tcp, &host, now);
+        if (segment.length == (size_t)-1 || segment.flags & RST) continue;
+        wants("a probe of an octet, or a question", segment.length <= 1, 1), probes++;
+        wants("no place", iface_stream_connect(&tcp, &host, now, &local, &at_peer, &other), IFACE_TABLE_FULL);
+        come_with(&host, now, &p, ACK, 0, "");
+    }
+    wants("some were answered", probes > 2, 1), wants("at the end", now == end, 1);
+    wants("a reset", segment.flags & RST, RST), wants("to this peer", segment.to, 4000);
+    wants_nothing("nothing more", &tcp, &host, now);
+    must("connect", iface_stream_connect(&tcp, &host, now, &local, &at_peer, &other));
+    must("free", iface_streams_free(&tcp, &host)), must("free", iface_free(&host));
+}
+
+/* So does one in TIME-WAIT, though its peer sends its end again and again. */
+static void ends_time_wait(void) {
+    iface host = IFACE_NONE;
+    iface_streams tcp = IFACE_STREAMS_NONE;
+    struct iface_stream s = {77, 77};
+    int64_t at = 77;
+    make(&host, 4), make_streams(&tcp, &host, 1);
+    struct peer p = go_out(&tcp, &host, second, 40000, &s);
+    closes_first(&tcp, &host, second, &s, &p), lets_go(&tcp, &host, second, &s);
+    p.seq--;
+    for (int64_t now = 31 * second; now < 121 * second; now += 30 * second) {
+        come(&host, now, &p, ACK | FIN, "");
+        wants("the end is acknowledged", turn(&tcp, &host, now).flags, ACK), wants_nothing("nothing more", &tcp, &host, now);
+    }
+    must("due", iface_streams_poll_at(&tcp, &at)), wants("two minutes after release", (uint64_t)at, (uint64_t)(121 * second));
+    wants("a reset", turn(&tcp, &host, at).flags & RST, RST), wants_nothing("nothing more", &tcp, &host, at);
+    must("due", iface_streams_poll_at(&tcp, &at)), wants("never", at == IFACE_NEVER, 1);
+    must("free", iface_streams_free(&tcp, &host)), must("free", iface_free(&host));
+}
+
 static void wants_no_stream(iface_streams *tcp, const struct iface_stream *s, uint32_t want) {
     struct iface_endpoint end = {IFACE_ANY, 77};
     uint32_t number = 77;
@@ -565,6 +733,14 @@ int main(void) {
     fills_a_room();
     passes_routers();
     closes_a_listener();
+    serves_beyond_time_wait();
+    keeps_time_wait();
+    reopens();
+    ends_after_release(0, 0);
+    ends_after_release(300000000, 0);
+    ends_after_release(0, 1000000);
+    ends_after_release(300000000, 7000000);
+    ends_time_wait();
     refuses();
     printf("streams: %d checks: %d wrong\n", checks, failures);
     return failures != 0;

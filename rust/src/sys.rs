@@ -2,7 +2,7 @@
 //!
 //! Calling any of it is `unsafe`: the header says what the caller keeps. [`Host`](crate::Host) keeps it.
 //!
-//! Sum of the header: 0x79403a4c79ee8a37
+//! Sum of the header: 0x387b7472652dec14
 #![allow(non_camel_case_types)]
 
 use core::ffi::{c_char, c_void};
@@ -459,8 +459,10 @@ pub struct iface_streams_config {
     pub ack_delay: u64,
     /// the shortest time after which something is sent again: 200,000
     pub shortest_timeout: u64,
-    /// how long TIME-WAIT lasts: 60,000,000. All of these are in microseconds
+    /// how long TIME-WAIT lasts: 60,000,000
     pub time_wait: u64,
+    /// how long a connection may go on that was released, before it ends in a reset, whatever its peer does: 120,000,000. All of these are in microseconds
+    pub release_timeout: u64,
     /// how many connections there are at most, from 1 to 2^30: 16
     pub places: u32,
     /// how many octets each may hold that aren't acknowledged, at most 2^30: 16,384
@@ -540,7 +542,7 @@ const _: () = assert!(size_of::<iface_lease>() == 112);
 const _: () = assert!(size_of::<iface_dhcp>() == 16);
 const _: () = assert!(size_of::<iface_dns_answer>() == 72);
 const _: () = assert!(size_of::<iface_dns>() == 16);
-const _: () = assert!(size_of::<iface_streams_config>() == 120);
+const _: () = assert!(size_of::<iface_streams_config>() == 128);
 const _: () = assert!(size_of::<iface_streams>() == 16);
 const _: () = assert!(size_of::<iface_stream>() == 16);
 const _: () = assert!(size_of::<iface_rooms>() == 16);
@@ -717,7 +719,7 @@ unsafe extern "C" {
     pub fn iface_stream_accept(tcp: *mut iface_streams, listener: usize, stream: *mut iface_stream) -> u32;
     /// Closes a listener: a SYN for it is answered by a reset from then on, unless another one listens there. Handshakes under way end in a reset once they are complete, and connections that wait can still be accepted. Its number is given to no other listener, and its memory is freed with the connections. NOT_THERE (no listener has this number).
     pub fn iface_stream_close_listener(tcp: *mut iface_streams, listener: usize) -> u32;
-    /// Opens a connection to a peer, from a port of one own address; or of the one that `iface_source_for` writes, if that of local is none. Writes its name. The next `iface_streams_poll` sends the SYN, and `iface_stream_state` tells what becomes of it. An address of local that the host doesn't have ends it then, as if aborted. BAD_ARGUMENT, NO_STREAMS, NO_HOST, BAD_MOMENT, BAD_PORT (also the peer's), NOT_THERE (no own address of this family), BAD_ADDRESS (one that isn't unicast, or they are of two families), IN_USE (choose another port), TABLE_FULL (each place has a connection).
+    /// Opens a connection to a peer, from a port of one own address; or of the one that `iface_source_for` writes, if that of local is none. Writes its name. The next `iface_streams_poll` sends the SYN, and `iface_stream_state` tells what becomes of it. An address of local that the host doesn't have ends it then, as if aborted. BAD_ARGUMENT, NO_STREAMS, NO_HOST, BAD_MOMENT, BAD_PORT (also the peer's), NOT_THERE (no own address of this family), BAD_ADDRESS (one that isn't unicast, or they are of two families), IN_USE (choose another port), TABLE_FULL (each place has a connection, and none that was released is in TIME-WAIT).
     pub fn iface_stream_connect(tcp: *mut iface_streams, host: *mut iface, now: i64, local: *const iface_endpoint, remote: *const iface_endpoint, stream: *mut iface_stream) -> u32;
     /// Queues the first octets, as many as there is room for, and writes how many: 0 once the program closed, or the connection is gone. Where it is 0, `iface_streams_poll_at` says what it said before.
     pub fn iface_stream_send(tcp: *mut iface_streams, stream: *const iface_stream, octets: *const u8, length: usize, count: *mut usize) -> u32;

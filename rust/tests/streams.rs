@@ -55,6 +55,7 @@ fn the_settings_are_those_of_the_header() {
     assert_eq!(settings.ack_delay, Duration::from_millis(10));
     assert_eq!(settings.shortest_timeout, Duration::from_millis(200));
     assert_eq!(settings.time_wait, Duration::from_secs(60));
+    assert_eq!(settings.release_timeout, Duration::from_secs(120));
     assert_eq!((settings.places, settings.send_room, settings.receive_room), (16, 16384, 16384));
     assert_eq!((settings.packets, settings.packet_octets, settings.far_octets), (32, 49152, 4096));
     assert!(settings.ipv4 && settings.ipv6 && settings.nagle && settings.congestion_control);

@@ -9,7 +9,7 @@ use Rattle.tcp_machine.specs.declared.state.State.TheVariants as state
 use Rattle.tcp_machine.specs.declared.timers.Ending.{Ending}
 use Rattle.tcp_machine.specs.declared.timers.Ending.TheVariants as ending
 use Rattle.tcp_host.specs.Handles.{accepting}
-use Rattle.tcp_host.specs.Host.{IsFreePlace}
+use Rattle.tcp_host.specs.Host.{IsNextPlace}
 use Rattle.tcp_host.specs.declared.calls.Handle.{Handle}
 use Rattle.iface_host.specs.declared.host.IfaceHost.{IfaceHost}
 use Rattle.iface_host.specs.declared.refusal.Refusal.{Refusal}
@@ -107,12 +107,14 @@ settings_in c = record {
   near = record { packets = c.packets; octets = c.packet_octets };
   far_octets = c.far_octets;
   connection = connection_in c;
+  release_timeout = c.release_timeout;
   number_key = c.number_key;
   table_key = record { k0 = slice_index c.table_key 0; k1 = slice_index c.table_key 1 };
 }
 
 -- what most programs want: sixteen connections with 16,384 octets each way, over both families; probes after two hours
--- (RFC 9293 3.8.4), acknowledgements within 10 ms, time-outs of a fifth of a second or more, and a minute of TIME-WAIT
+-- (RFC 9293 3.8.4), acknowledgements within 10 ms, time-outs of a fifth of a second or more, a minute of TIME-WAIT, and
+-- two minutes for a connection that was released
 abbrev pub usual : IfaceStreamsConfig
 usual = record {
   number_key = replicate 32 0;
@@ -122,6 +124,7 @@ usual = record {
   ack_delay = 10_000;
   shortest_timeout = 200_000;
   time_wait = 60_000_000;
+  release_timeout = 120_000_000;
   places = 16;
   send_room = 16_384;
   receive_room = 16_384;
@@ -215,7 +218,7 @@ IsConnectCode now (Some local) None s host code = code ≡ 3
 IsConnectCode now (Some local) (Some remote) None host code = code ≡ 21
 IsConnectCode now (Some local) (Some remote) (Some s) None code = code ≡ 1
 IsConnectCode now (Some local) (Some remote) (Some s) (Some host) code =
-    IsCodeBy (connect.connect_refusal now local remote host) (connect.IsInUse local remote host s) (IsFreePlace s.connections None) code
+    IsCodeBy (connect.connect_refusal now local remote host) (connect.IsInUse local remote host s) (IsNextPlace s.connections None) code
 
 -- octets were written that stay
 pub record Peeks (handle : Handle) (before after : List ℕ) (count : ℕ) (old new : Streams) : Type 0 where

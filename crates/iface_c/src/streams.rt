@@ -38,6 +38,8 @@ pub struct IfaceStreamsConfig {
     pub shortest_timeout: u64,
     /// How long TIME-WAIT lasts, in microseconds.
     pub time_wait: u64,
+    /// How long a connection may go on that was released, in microseconds.
+    pub release_timeout: u64,
     /// How many connections there are at most.
     pub places: u32,
     /// How many octets each may hold that aren't acknowledged.
@@ -134,6 +136,7 @@ impl IfaceStreamsConfig {
             },
             far_octets: self.far_octets as usize,
             connection: self.connection(),
+            release_timeout: self.release_timeout,
             number_key: self.number_key,
             table_key: SipKey { k0, k1 },
         }
@@ -153,6 +156,7 @@ pub extern "C" fn iface_streams_config_init(config: &mut IfaceStreamsConfig)
         ack_delay: 10_000,
         shortest_timeout: 200_000,
         time_wait: 60_000_000,
+        release_timeout: 120_000_000,
         places: 16,
         send_room: 16_384,
         receive_room: 16_384,

@@ -10,7 +10,7 @@ use Rattle.tcp_host.specs.declared.iss.Endpoints.{Endpoints}
 use Rattle.tcp_host.specs.Handles as handles
 use Rattle.tcp_host.specs.Handles.{accepting, is_listener, listener_closed, listening, opened_at}
 use Rattle.tcp_host.specs.Host as streams
-use Rattle.tcp_host.specs.Host.{IsFreePlace}
+use Rattle.tcp_host.specs.Host.{IsNextPlace}
 use Rattle.tcp_host.specs.declared.calls.Handle.{Handle}
 use Rattle.iface_host.specs.Calls.{source_for}
 use Rattle.iface_host.specs.Refusals.{moment_refusal}
@@ -98,7 +98,7 @@ pub record Connects (now : ℤ) (local : IpListenEndpoint) (remote : IpEndpoint)
   pub ends : Endpoints
   pub are_ends : AreEnds now local remote host micros ends
   pub nowhere : IsNowhere ends old.connections.ends
-  pub free : IsFreePlace old.connections (Some handle.place)
+  pub free : IsNextPlace old.connections (Some handle.place)
   pub opened : new ≡ with_connections old (opened_at handle.place micros ends old.connections)
   pub named : handles.is_named handle new.connections ≡ true
 

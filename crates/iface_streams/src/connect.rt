@@ -6,7 +6,7 @@ ghost use Rattle.iface_host.specs.declared.refusal.Refusal.TheVariants.{Empty, N
 ghost use Rattle.iface_streams.specs.Connect as spec;
 ghost use Rattle.iface_streams.specs.declared.connect.ConnectRefusal.TheVariants.{InUse, Refused};
 ghost use Rattle.tcp_host.specs.Table.{IsPlaceOf};
-ghost use Rattle.tcp_host.specs.Host.{IsFreePlace};
+ghost use Rattle.tcp_host.specs.Host.{IsNextPlace};
 
 use crate::streams::Streams;
 use iface_host::streams::micros_of;
@@ -82,7 +82,8 @@ impl Streams {
     /// Opens a connection at a moment, from a local port and from an own address of a host, or from the one that packets to the
     /// destination are sent from. The first that applies: `BadMoment` if the moment is out of range; `BadPort` if a port is 0;
     /// `NotThere` if the host has no own address for the destination; `BadAddress` if one of the two isn't unicast, or they are
-    /// of two families; `InUse` if a connection has these ends; `TableFull` if each place has a connection. Then nothing
+    /// of two families; `InUse` if a connection has these ends, also in TIME-WAIT; `TableFull` if each place has a connection,
+    /// but for those in TIME-WAIT that were released, of which the one whose time ends first gives its place. Then nothing
     /// changes.
     pub fn connect(
         &mut self,
@@ -95,7 +96,7 @@ impl Streams {
         ensures why { (e : Refusal) → spec.connect_refusal now local remote host.now ≡ Some e → result ≡ Err (Refused e) }
         ensures in_use { result ≡ Err InUse → spec.IsInUse local remote host.now self.old }
         ensures full { (e : Refusal) → result ≡ Err (Refused e) → spec.connect_refusal now local remote host.now ≡ None →
-            (e ≡ TableFull) × IsFreePlace self.old.connections None }
+            (e ≡ TableFull) × IsNextPlace self.old.connections None }
         ensures refused { IsErr result → self.new ≡ self.old }
     {
         let (micros, ends) = match ends_at(host, now, local, remote) {

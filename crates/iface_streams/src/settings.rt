@@ -29,6 +29,8 @@ pub struct StreamSettings {
     pub far_octets: usize,
     /// What each begins with. Its MSS and window scale are set by the link and by the room.
     pub connection: Settings,
+    /// How long a connection may go on that was released, in microseconds.
+    pub release_timeout: u64,
     /// The secret of initial numbers (RFC 6528 3).
     pub number_key: [u8; 32],
     /// The secret by which ends are hashed.
@@ -72,6 +74,7 @@ impl StreamSettings {
                 own_scale: scale_for(self.receive_room),
                 ..self.connection
             },
+            release_timeout: self.release_timeout,
             number_key: self.number_key,
             table_key: self.table_key,
         }

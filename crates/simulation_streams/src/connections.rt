@@ -10,7 +10,7 @@ use net_base::phy::Checksum;
 use simulation_script::script::{HostLine, Script};
 use socket_set::SocketSet;
 use std::alloc::Global;
-use tcp_host::config::Config;
+use tcp_host::config::{Config, RELEASE_TIMEOUT};
 use tcp_host::host::TcpHost;
 use tcp_host::sip_hash::SipKey;
 use tcp_machine::settings::Settings;
@@ -216,6 +216,7 @@ fn config_of(number: usize) -> Config
         mss_v4: 1460,
         mss_v6: 1440,
         settings: SETTINGS,
+        release_timeout: RELEASE_TIMEOUT,
         number_key: [(number % 256) as u8; 32],
         table_key: SipKey {
             k0: number as u64,

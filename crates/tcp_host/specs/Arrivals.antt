@@ -11,9 +11,10 @@ use Rattle.tcp_host.specs.Listener as listener
 use Rattle.tcp_host.specs.Backlog.{first_of, after_evicting, evicted}
 use Rattle.tcp_host.specs.declared.resets.Reset.{Reset}
 use Rattle.tcp_host.specs.declared.slot.Owner.TheVariants.{HalfOpen}
-use Rattle.tcp_host.specs.Host.{Host, connection_at, with_connection, with_alarm, vacated, occupied, default_mss, link_mss, settings_for}
-use Rattle.tcp_host.specs.Host.{IsFreePlace, listener_at, with_listener}
+use Rattle.tcp_host.specs.Host.{Host, slot_at, connection_at, is_let_go, with_connection, with_alarm, vacated, occupied, default_mss, link_mss, settings_for}
+use Rattle.tcp_host.specs.Host.{IsNextPlace, listener_at, with_listener}
 use Rattle.tcp_host.specs.Table.{IsPlaceOf, IsNowhere}
+use Rattle.tcp_host.specs.Renewal.{is_renewed_by}
 use Rattle.tcp_host.specs.Resets.{reset_for, begins}
 
 -- It goes to the connection at a place: that alone changes, as its machine says, and something is due there at once
@@ -65,14 +66,31 @@ if_within n (Some place) = if nat_lt place n then Some place else None
 abbrev pub oldest_in : ℕ → Host → Option ℕ
 oldest_in index h = if_within (length h.slots) (first_of (listener_at index h).half_open.places)
 
--- A SYN begins a connection (RFC 9293 3.10.7.2), if as few as may be wait for the program, and there is a place
+-- A SYN begins a connection (RFC 9293 3.10.7.2), if as few as may be wait for the program, and there is a place: a free one, that
+-- of a connection in TIME-WAIT, or that of the listener's oldest half-open connection
 pub data Begins (index now : ℕ) (e : Endpoints) (s : Segment) (old new : Host) : Type 0 where
   TooMany : listener.has_room (listener_at index old) ≡ false → new ≡ old → Begins index now e s old new
-  InFree : (place : ℕ) → listener.has_room (listener_at index old) ≡ true → IsFreePlace old (Some place) →
+  InFree : (place : ℕ) → listener.has_room (listener_at index old) ≡ true → IsNextPlace old (Some place) →
       new ≡ accepted_at place index now e s (counted place index old) → Begins index now e s old new
-  InOldest : listener.has_room (listener_at index old) ≡ true → IsFreePlace old None → (oldest_in index old ≡ None → new ≡ old) →
+  InOldest : listener.has_room (listener_at index old) ≡ true → IsNextPlace old None → (oldest_in index old ≡ None → new ≡ old) →
       ((place : ℕ) → oldest_in index old ≡ Some place →
       new ≡ accepted_at place index now e s (counted place index (vacated place (without_oldest index old)))) → Begins index now e s old new
+
+-- A SYN whose connection may follow the one at a place, of which the program let go (RFC 9293 3.6.1)
+abbrev pub is_renewed : (now : ℕ) → Endpoints → Segment → (place : ℕ) → Host → Bool
+is_renewed now e s place h =
+    begins s && is_let_go (slot_at place h).owner && is_renewed_by s.number (iss h.config.number_key e now) (connection_at place h)
+
+-- it reopens that one, if a listener takes it; otherwise it is for that connection, as any other segment
+pub record Reopens (now : ℕ) (e : Endpoints) (s : Segment) (place : ℕ) (h : Host) (index : ℕ) : Type 0 where
+  pub renewed : is_renewed now e s place h ≡ true
+  pub listens : IsListenerFor e h index
+  pub room : listener.has_room (listener_at index h) ≡ true
+
+pub data IsKept (now : ℕ) (e : Endpoints) (s : Segment) (place : ℕ) (h : Host) : Type 0 where
+  NotRenewed : is_renewed now e s place h ≡ false → IsKept now e s place h
+  NoListener : HasNoListener e h → IsKept now e s place h
+  NoRoom : (index : ℕ) → IsListenerFor e h index → listener.has_room (listener_at index h) ≡ false → IsKept now e s place h
 
 -- both ends are one host's: nothing else begins a connection, and nothing else is answered (RFC 9293 3.9.2.3, RFC 1122 4.2.3.10)
 abbrev pub is_proper : Endpoints → Bool
@@ -80,7 +98,10 @@ is_proper e = is_unicast e.local_addr && is_unicast e.remote_addr
 
 -- where a segment between these ends goes
 pub data Receives (now : ℕ) (e : Endpoints) (s : Segment) (octets : List ℕ) (old : Host) (answer : Option Reset) (new : Host) : Type 0 where
-  Known : (place : ℕ) → IsPlaceOf e old.ends place → answer ≡ None → Delivers place now e s octets old new → Receives now e s octets old answer new
+  Known : (place : ℕ) → IsPlaceOf e old.ends place → IsKept now e s place old → answer ≡ None → Delivers place now e s octets old new →
+      Receives now e s octets old answer new
+  Reopened : (place : ℕ) → IsPlaceOf e old.ends place → (index : ℕ) → Reopens now e s place old index → answer ≡ None →
+      new ≡ accepted_at place index now e s (counted place index (vacated place old)) → Receives now e s octets old answer new
   Improper : IsNowhere e old.ends → is_proper e ≡ false → answer ≡ None → new ≡ old → Receives now e s octets old answer new
   Begun : IsNowhere e old.ends → is_proper e ≡ true → (index : ℕ) → IsListenerFor e old index → begins s ≡ true → answer ≡ None →
       Begins index now e s old new → Receives now e s octets old answer new

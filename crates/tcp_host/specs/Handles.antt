@@ -35,7 +35,8 @@ changed place c h = with_alarm place 0 (with_connection place c h)
 abbrev pub changed_by : (count place : ℕ) → Connection → Host → Host
 changed_by count place c h = if count == 0 then h else changed place c h
 
--- the program lets go: a connection on which the peer may still send is aborted, another one ends by itself
+-- The program lets go: a connection on which the peer may still send is aborted, another one ends by itself. Its time begins with its
+-- next turn, at once
 abbrev pub ends_by_itself : State → Bool
 ends_by_itself Closed = true
 ends_by_itself Closing = true
@@ -46,7 +47,7 @@ ends_by_itself s = false
 abbrev pub released : ℕ → Host → Host
 released place h =
     with_alarm place 0
-    (with_owner place Itself (if ends_by_itself (connection_at place h).state then h else with_connection place (after_abort (connection_at place h)) h))
+    (with_owner place (Itself None) (if ends_by_itself (connection_at place h).state then h else with_connection place (after_abort (connection_at place h)) h))
 
 -- a connection that the program opens at a place
 abbrev pub opened_at : (place now : ℕ) → Endpoints → Host → Host

@@ -1,5 +1,5 @@
 -- A host of connections: its places, listeners and timers.
-use Rattle.std.specs.Prelude.{◌≡◌, ◌<◌, ◌≤◌, ℕ, ◌+◌, ◌-◌, ◌%◌, ◌^◌, true, List, [], length, get_or, slice_set, Option, Some, None}
+use Rattle.std.specs.Prelude.{◌≡◌, ◌<◌, ◌≤◌, ℕ, ◌+◌, ◌-◌, ◌%◌, ◌^◌, Bool, true, false, List, [], length, get_or, slice_set, Option, Some, None}
 use Rattle.ip_address.specs.declared.ip.IpAddress.{IpAddress}
 use Rattle.ip_address.specs.declared.ip.IpAddress.TheVariants.{Ipv4, Ipv6}
 use Rattle.net_base.specs.declared.bucket.Bucket.{Bucket}
@@ -10,12 +10,14 @@ use Rattle.tcp_host.specs.declared.iss.Endpoints.{Endpoints}
 use Rattle.tcp_host.specs.Listener.{Listener, first}
 use Rattle.tcp_host.specs.declared.slot.Slot.{Slot}
 use Rattle.tcp_host.specs.declared.slot.Owner.{Owner}
-use Rattle.tcp_host.specs.declared.slot.Owner.TheVariants.{Nobody}
+use Rattle.tcp_host.specs.declared.slot.Owner.TheVariants.{Nobody, Itself}
 use Rattle.tcp_host.specs.declared.config.Config.{Config}
 use Rattle.tcp_host.specs.Challenges.{all_challenges}
+use Rattle.tcp_host.specs.Alarms.{IsLeast}
 
 pub record Host : Type 0 where
-  -- at each place a connection, the ends of it, when something is due, and 0 if the place is free
+  -- at each place a connection, the ends of it, when something is due, and until when the place is taken: 0 if it is free; the end
+  -- of TIME-WAIT, if its program let go of the connection; and otherwise never
   pub slots : List Slot
   pub ends : List (Option Endpoints)
   pub alarms : List ℕ
@@ -73,6 +75,16 @@ with_owner place o h = with_slot place (record (slot_at place h) { owner = o }) 
 abbrev pub with_alarm : ℕ → ℕ → Host → Host
 with_alarm place instant h = record h { alarms = slice_set h.alarms place instant }
 
+-- its program let go of a connection, which ends by itself
+abbrev pub is_let_go : Owner → Bool
+is_let_go (Itself until) = true
+is_let_go o = false
+
+-- and when it has to have ended
+abbrev pub limit_of : Owner → Option ℕ
+limit_of (Itself until) = until
+limit_of o = None
+
 -- the place is free
 abbrev pub vacated : ℕ → Host → Host
 vacated place h = record h {
@@ -87,7 +99,7 @@ abbrev pub enrolled : ℕ → Endpoints → Host → Host
 enrolled place e h = record h {
   ends = slice_set (slice_set h.ends place None) place (Some e);
   alarms = slice_set h.alarms place 0;
-  taken = slice_set h.taken place 1;
+  taken = slice_set h.taken place never;
 }
 
 -- a connection with these ends begins at the place, of the next generation
@@ -114,10 +126,11 @@ link_mss c (Ipv6 a) = c.mss_v6
 abbrev pub settings_for : Config → IpAddress → Settings
 settings_for c address = record c.settings { own_mss = link_mss c address }
 
--- a free place, and none only if each is taken
-abbrev pub IsFreePlace : Host → Option ℕ → Type 0
-IsFreePlace h (Some place) = (place < length h.taken) × (get_or h.taken place 0 ≡ 0)
-IsFreePlace h None = (place : ℕ) → place < length h.taken → 1 ≤ get_or h.taken place 0
+-- The place that the next connection gets: a free one, or else the one whose TIME-WAIT ends first. None, only if each has a connection
+-- that gives way to no other one
+abbrev pub IsNextPlace : Host → Option ℕ → Type 0
+IsNextPlace h (Some place) = (place < length h.taken) × IsLeast h.taken (get_or h.taken place 0) × (get_or h.taken place 0 < never)
+IsNextPlace h None = (place : ℕ) → place < length h.taken → never ≤ get_or h.taken place 0
 
 -- listeners by their index
 unfoldable pub no_listener : Listener

@@ -7,7 +7,9 @@ pub mod Table
 pub mod Listener
 pub mod Host
 pub mod Resets
+pub mod Renewal
 pub mod Arrivals
 pub mod Turns
 pub mod Handles
+pub mod Examples
 pub mod Details

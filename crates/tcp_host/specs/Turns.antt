@@ -1,6 +1,7 @@
 -- What a host sends, and what happens by itself: a turn of the connection at which something is due first.
 use Rattle.std.specs.Prelude.{◌≡◌, ◌<◌, ℕ, ◌+◌, ◌-◌, min, max, nat_lt, nat_le, Bool, ◌&&◌, length, get_or, slice_set, Option, Some, None, if◌then◌else◌}
-use Rattle.tcp_machine.specs.Arrivals.{is_closed}
+use Rattle.tcp_machine.specs.Arrivals.{is_closed, is_time_wait}
+use Rattle.tcp_machine.specs.Instants.{later, has_passed}
 use Rattle.tcp_machine.specs.Connection.{Connection}
 use Rattle.tcp_connection.specs.Asked.{offered_scale}
 use Rattle.tcp_connection.specs.declared.outgoing.Header.{Header}
@@ -14,11 +15,12 @@ use Rattle.tcp_connection.specs.Actions.{action_of, after_sending}
 use Rattle.tcp_host.specs.Alarms.{IsLeast}
 use Rattle.tcp_host.specs.Listener as listener
 use Rattle.tcp_host.specs.declared.slot.Owner.{Owner}
+use Rattle.tcp_host.specs.declared.slot.Slot.{Slot}
 use Rattle.tcp_host.specs.declared.slot.Owner.TheVariants.{HalfOpen, Waiting, Program, Itself}
 use Rattle.tcp_host.specs.declared.turns.Turn.{Turn}
 use Rattle.tcp_host.specs.declared.turns.Turn.TheVariants.{Idle, Quiet, Sends}
 use Rattle.tcp_host.specs.Challenges.{is_challenge_left, slot_after_sending}
-use Rattle.tcp_host.specs.Host.{Host, never, slot_at, connection_at, with_slot, with_connection, with_owner, with_alarm, vacated, listener_at, with_listener, link_mss}
+use Rattle.tcp_host.specs.Host.{Host, never, is_let_go, limit_of, slot_at, connection_at, with_slot, with_connection, with_owner, with_alarm, vacated, listener_at, with_listener, link_mss}
 
 -- what timers do that have ended
 abbrev pub expired : (place now : ℕ) → Host → Host
@@ -29,7 +31,7 @@ abbrev pub completed_in : (place index : ℕ) → Host → Host
 completed_in place index h =
     let after = with_listener index (listener.after_handshake place (listener_at index h)) h in
     if listener.has_room (listener_at index h) then with_owner place (Waiting index) after
-    else with_connection place (after_abort (connection_at place h)) (with_owner place Itself after)
+    else with_connection place (after_abort (connection_at place h)) (with_owner place (Itself None) after)
 
 abbrev pub completed : (place index : ℕ) → Host → Host
 completed place index h = if nat_lt index (length h.listeners) then completed_in place index h else h
@@ -57,13 +59,53 @@ abbrev pub again_at : ℕ → Option ℕ → ℕ
 again_at now None = never
 again_at now (Some t) = max t (min never (now + 1))
 
+-- but no later than when its time ends, if the program let go of it
+abbrev pub not_after : Option ℕ → ℕ → ℕ
+not_after None t = t
+not_after (Some limit) t = min t limit
+
+abbrev pub due_after : ℕ → Slot → ℕ
+due_after now s = not_after (limit_of s.owner) (again_at now (due_at now s.connection))
+
+-- In TIME-WAIT a connection of which the program let go has its place until it ends, unless another one needs the place before
+abbrev pub gives_way : Slot → Bool
+gives_way s = is_let_go s.owner && is_time_wait s.connection.state
+
+abbrev pub taken_until : (place instant : ℕ) → Host → Host
+taken_until place instant h = record h { taken = slice_set h.taken place (max instant 1) }
+
+abbrev pub waiting_until : (place instant : ℕ) → Host → Host
+waiting_until place instant h =
+    if gives_way (slot_at place h) then taken_until place instant (with_alarm place instant h) else with_alarm place instant h
+
 abbrev pub rested : (place now : ℕ) → Host → Host
 rested place now h =
     if is_closed (connection_at place h).state then finished_by (slot_at place h).owner place h
-    else with_alarm place (again_at now (due_at now (connection_at place h))) h
+    else waiting_until place (due_after now (slot_at place h)) h
+
+-- A connection of which the program let go has so long to end, from its first turn after that on: then it is aborted (RFC 9293
+-- 3.10.5; RFC 6429 5)
+abbrev pub limited_by : Owner → (place now : ℕ) → Host → Host
+limited_by (Itself None) place now h = with_owner place (Itself (Some (later now h.config.release_timeout))) h
+limited_by (Itself (Some t)) place now h = if nat_le t now then with_connection place (after_abort (connection_at place h)) h else h
+limited_by owner place now h = h
+
+abbrev pub limited : (place now : ℕ) → Host → Host
+limited place now h = limited_by (slot_at place h).owner place now h
+
+-- its reset has a second to be sent, if there is no room for it at once; then its place is free
+abbrev pub time_for_a_reset : ℕ
+time_for_a_reset = 1000000
+
+abbrev pub over_at : Option ℕ → Option ℕ
+over_at None = None
+over_at (Some t) = Some (later t time_for_a_reset)
+
+abbrev pub is_over : ℕ → Slot → Bool
+is_over now s = has_passed (over_at (limit_of s.owner)) now
 
 abbrev pub before_sending : (place now : ℕ) → Host → Host
-before_sending place now h = advanced place (expired place now h)
+before_sending place now h = limited place now (advanced place (expired place now h))
 
 abbrev pub left_at : (place now : ℕ) → Host → Host
 left_at place now h = with_alarm place now (with_connection place (after_sending now (connection_at place h)) h)
@@ -78,10 +120,12 @@ turn_asked place now h =
     if is_challenge_left now (slot_at place h) then (Quiet, left_at place now h)
     else turn_by (outgoing.action now (connection_at place h)) place now h
 
+abbrev pub turn_due : (place now : ℕ) → Host → Turn × Host
+turn_due place now h =
+    if is_over now (slot_at place h) then (Quiet, vacated place h) else turn_asked place now (before_sending place now h)
+
 abbrev pub turn_at : (place now : ℕ) → Host → Turn × Host
-turn_at place now h =
-    if nat_lt now (get_or h.alarms place 0) then (Idle, h)
-    else turn_asked place now (before_sending place now h)
+turn_at place now h = if nat_lt now (get_or h.alarms place 0) then (Idle, h) else turn_due place now h
 
 -- what the connection at a place sent was sent
 abbrev pub sent_at : (place now : ℕ) → Host → Host

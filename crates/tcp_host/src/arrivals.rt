@@ -2,21 +2,28 @@
 ghost use Rattle.std.specs.Prelude.{◌≡◌, ◌≤◌, ◌<◌, ◌^◌, ℕ, length, Some, None, IfSome, IsNone, true};
 ghost use Rattle.tcp_host.specs.Arrivals as spec;
 ghost use Rattle.tcp_host.specs.Resets.{reset_for};
-ghost use Rattle.tcp_host.specs.Host.{vacated, listener_at};
+ghost use Rattle.tcp_host.specs.Host.{connection_at, is_let_go, listener_at, slot_at, vacated};
+ghost use Rattle.tcp_host.specs.Iss as numbers;
+ghost use Rattle.tcp_host.specs.Renewal.{is_renewed_by};
 ghost use Rattle.tcp_host.specs.Listener as listener;
-ghost use Rattle.tcp_host.specs.Table.{IsNowhere};
+ghost use Rattle.tcp_host.specs.Table.{AreDistinct, IsNowhere, IsPlaceOf};
 ghost use Rattle.tcp_host.specs.declared.iss.Endpoints.{Endpoints};
 
 use crate::host::{TcpHost, default_mss};
 use crate::iss::{Endpoints, iss};
+use crate::renewal::is_renewed_by;
 use crate::resets::{Reset, begins, reset_for};
-use crate::slot::Owner;
+use crate::slot::{Owner, is_let_go};
 use tcp_connection::segment::Segment;
 
 impl TcpHost {
     /// A segment between these ends arrives, the remote one being where it came from (RFC 9293 3.10.7). It goes to the
     /// connection with these ends. Without one, a SYN for a listener begins one. Otherwise a reset is owed, with the numbers
     /// that are returned, unless the segment is a reset, or too many resets were sent. All other connections stay.
+    ///
+    /// A connection in TIME-WAIT of which the program let go gives its place to one that a SYN between the same ends begins, if
+    /// the numbers of both sides are larger than all that were used (RFC 9293 3.6.1). Where no place is free, the one whose
+    /// TIME-WAIT ends first gives its place to any SYN that a listener takes.
     pub fn receive_segment(
         &mut self,
         now: u64,
@@ -29,12 +36,112 @@ impl TcpHost {
     {
         match self.table.find(endpoints) {
             Some(place) => {
-                self.deliver(place, now, endpoints, segment, octets);
+                self.receive_at(place, now, endpoints, segment, octets);
                 None
             }
             None if is_proper(endpoints) => self.receive_new(now, endpoints, segment, octets),
             None => None,
         }
+    }
+
+    // A segment arrives between the ends of the connection at a place.
+    fn receive_at(
+        &mut self,
+        place: usize,
+        now: u64,
+        endpoints: &Endpoints,
+        segment: &Segment,
+        octets: &[u8],
+    )
+        requires within { place < length self.old.slots }
+        requires few { length octets.now < 2 ^ 32 }
+        requires at { IsPlaceOf endpoints.now self.old.ends place }
+        requires distinct { AreDistinct self.old.ends }
+        ensures { spec.Receives now endpoints.now segment.now octets.now self.old None self.new }
+    {
+        match self.reopening(place, now, endpoints, segment) {
+            Some(index) => self.reopen(place, index, now, endpoints, segment),
+            None => self.deliver(place, now, endpoints, segment, octets),
+        }
+    }
+
+    // The index of the listener for which a segment reopens the connection at a place.
+    fn reopening(
+        &self,
+        place: usize,
+        now: u64,
+        endpoints: &Endpoints,
+        segment: &Segment,
+    ) -> Option<usize>
+        requires { place < length self.now.slots }
+        ensures some { IfSome result (spec.Reopens now endpoints.now segment.now place self.now) }
+        ensures none { IsNone result → spec.IsKept now endpoints.now segment.now place self.now }
+    {
+        if !self.is_renewed(place, now, endpoints, segment) {
+            return None;
+        }
+        match self.listener_for(endpoints) {
+            None => None,
+            Some(index) => {
+                if self.has_room(index) {
+                    Some(index)
+                } else {
+                    None
+                }
+            }
+        }
+    }
+
+    // Whether a segment is a SYN whose connection may follow the one at a place, of which the program let go.
+    fn is_renewed(&self, place: usize, now: u64, endpoints: &Endpoints, segment: &Segment) -> bool
+        requires { place < length self.now.slots }
+        ensures { result ≡ spec.is_renewed now endpoints.now segment.now place self.now }
+    {
+        begins(segment)
+            && self.is_let_go(place)
+            && self.is_renewed_by(place, segment.number, self.number_for(now, endpoints))
+    }
+
+    // Whether the program let go of the connection at a place.
+    fn is_let_go(&self, place: usize) -> bool
+        requires { place < length self.now.slots }
+        ensures { result ≡ is_let_go (slot_at place self.now).owner }
+    {
+        is_let_go(self.slots[place].owner)
+    }
+
+    // Whether a connection with these initial numbers may follow the one at a place.
+    fn is_renewed_by(&self, place: usize, peers: u32, own: u32) -> bool
+        requires { place < length self.now.slots }
+        ensures { result ≡ is_renewed_by peers own (connection_at place self.now) }
+    {
+        is_renewed_by(&self.slots[place].connection, peers, own)
+    }
+
+    // The own initial number of a connection that begins now.
+    fn number_for(&self, now: u64, endpoints: &Endpoints) -> u32
+        ensures { result ≡ numbers.iss self.now.config.number_key endpoints.now now }
+    {
+        iss(&self.config.number_key, now, endpoints)
+    }
+
+    // A SYN begins a connection of a listener in the place of one with the same ends.
+    fn reopen(
+        &mut self,
+        place: usize,
+        index: usize,
+        now: u64,
+        endpoints: &Endpoints,
+        segment: &Segment,
+    )
+        requires within { index < length self.old.listeners }
+        requires place { place < length self.old.slots }
+        requires at { IsPlaceOf endpoints.now self.old.ends place }
+        requires distinct { AreDistinct self.old.ends }
+        ensures { self.new ≡ spec.accepted_at place index now endpoints.now segment.now (spec.counted place index (vacated place self.old)) }
+    {
+        self.vacate(place);
+        self.begin_at(place, index, now, endpoints, segment);
     }
 
     // A segment arrives that belongs to no connection.
@@ -84,13 +191,13 @@ impl TcpHost {
         if !self.has_room(index) {
             return;
         }
-        match self.free_place() {
+        match self.next_place() {
             Some(place) => self.begin_at(place, index, now, endpoints, segment),
             None => self.begin_in_oldest(index, now, endpoints, segment),
         }
     }
 
-    // The same, where no place is free.
+    // The same, where each place has a connection that gives way to no other one.
     fn begin_in_oldest(&mut self, index: usize, now: u64, endpoints: &Endpoints, segment: &Segment)
         requires within { index < length self.old.listeners }
         requires new { IsNowhere endpoints.now self.old.ends }

@@ -6,7 +6,7 @@ ghost use Rattle.tcp_host.specs.Table.{IsNowhere, IsPlaceOf};
 ghost use Rattle.tcp_host.specs.Backlog.{first_of};
 ghost use Rattle.tcp_host.specs.Listener.{after_accepting};
 ghost use Rattle.tcp_host.specs.declared.calls.ConnectError.TheVariants.{Unaddressable, InUse, NoPlace};
-ghost use Rattle.tcp_host.specs.Host.{connection_at, slot_at, listener_at, with_listener, IsFreePlace};
+ghost use Rattle.tcp_host.specs.Host.{connection_at, slot_at, listener_at, with_listener, IsNextPlace};
 ghost use Rattle.tcp_host.specs.Handles as spec;
 
 use crate::arrivals::is_proper;
@@ -18,6 +18,7 @@ use ip_address::IpAddress;
 use std::alloc::{AllocError, Global};
 use tcp_machine::state::State;
 use tcp_machine::timers::Ending;
+use thiserror::Error;
 
 /// The name of a connection. Once the program has released it, it names nothing.
 #[derive(Clone, Copy, Debug, PartialEq, Eq)]
@@ -26,19 +27,23 @@ pub struct Handle {
     pub generation: u64,
 }
 
-/// Why a connection isn't opened.
-#[derive(Clone, Copy, Debug, PartialEq, Eq)]
+/// Why a connection isn't opened. It is displayed as its name.
+#[derive(Clone, Copy, Debug, PartialEq, Eq, Error)]
 pub enum ConnectError {
     /// An end isn't a host's, or a port is 0.
+    #[error("Unaddressable")]
     Unaddressable,
     /// A connection has these ends.
+    #[error("InUse")]
     InUse,
-    /// Each place has a connection.
+    /// Each place has a connection that gives way to no other one.
+    #[error("NoPlace")]
     NoPlace,
 }
 
 /// A handle names no connection.
-#[derive(Clone, Copy, Debug, PartialEq, Eq)]
+#[derive(Clone, Copy, Debug, PartialEq, Eq, Error)]
+#[error("WrongHandle")]
 pub struct WrongHandle;
 
 impl TcpHost {
@@ -277,20 +282,21 @@ impl TcpHost {
         if !ends_by_itself(self.slots[place].connection.state()) {
             self.slots[place].connection.abort();
         }
-        self.slots[place].owner = Owner::Itself;
+        self.slots[place].owner = Owner::Itself(None);
         self.alarms.set(place, 0);
     }
 
-    /// Opens a connection between two ends (RFC 9293 3.10.1, active). It fails, and nothing changes, if an end isn't a host's
-    /// or a port is 0, if a connection has these ends, or if no place is free.
+    /// Opens a connection between two ends (RFC 9293 3.10.1, active), at a free place; or at that of the connection whose
+    /// TIME-WAIT ends first, of those of which the program let go. It fails, and nothing changes, if an end isn't a host's or a
+    /// port is 0, if a connection has these ends, also in TIME-WAIT, or if there is no such place.
     pub fn connect(&mut self, now: u64, endpoints: &Endpoints) -> Result<Handle, ConnectError>
         ensures unchanged { IsErr result → self.new ≡ self.old }
         ensures unaddressable { result ≡ Err Unaddressable → spec.is_addressable endpoints.now ≡ false }
         ensures addressable { IfOk result (λ _. spec.is_addressable endpoints.now ≡ true) }
         ensures in_use { result ≡ Err InUse → (place : ℕ) × IsPlaceOf endpoints.now self.old.ends place }
-        ensures full { result ≡ Err NoPlace → IsFreePlace self.old None }
+        ensures full { result ≡ Err NoPlace → IsNextPlace self.old None }
         ensures opened { IfOk result (λ handle. self.new ≡ spec.opened_at handle.place now endpoints.now self.old) }
-        ensures free { IfOk result (λ handle. IsFreePlace self.old (Some handle.place)) }
+        ensures free { IfOk result (λ handle. IsNextPlace self.old (Some handle.place)) }
         ensures named { IfOk result (λ handle. spec.is_named handle self.new ≡ true) }
     {
         if !is_addressable(endpoints) {
@@ -299,7 +305,7 @@ impl TcpHost {
         if let Some(_place) = self.find(endpoints) {
             return Err(ConnectError::InUse);
         }
-        let Some(place) = self.free_place() else {
+        let Some(place) = self.next_place() else {
             return Err(ConnectError::NoPlace);
         };
         self.open_at(place, now, endpoints);
@@ -406,7 +412,7 @@ fn is_program(owner: Owner) -> bool
 {
     match owner {
         Owner::Program => true,
-        Owner::Nobody | Owner::HalfOpen(_) | Owner::Waiting(_) | Owner::Itself => false,
+        Owner::Nobody | Owner::HalfOpen(_) | Owner::Waiting(_) | Owner::Itself(_) => false,
     }
 }
 

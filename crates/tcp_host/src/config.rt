@@ -3,6 +3,10 @@
 use crate::sip_hash::SipKey;
 use tcp_machine::settings::Settings;
 
+/// How long a connection goes on of which its program let go, unless a host is made with another time, in microseconds: two
+/// minutes. For 100 s at least what it sent last is sent again (RFC 9293 3.8.3).
+pub const RELEASE_TIMEOUT: u64 = 120_000_000;
+
 /// What is chosen for a host of connections.
 #[derive(Clone, Copy, Debug)]
 pub struct Config {
@@ -16,6 +20,8 @@ pub struct Config {
     pub mss_v6: u16,
     /// What each connection begins with. The host sets `own_mss` by the family.
     pub settings: Settings,
+    /// How long a connection may go on of which its program let go, in microseconds: then it is aborted, whatever its peer does.
+    pub release_timeout: u64,
     /// The secret of initial numbers (RFC 6528 3).
     pub number_key: [u8; 32],
     /// The secret by which ends are hashed.

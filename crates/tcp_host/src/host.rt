@@ -128,13 +128,13 @@ impl TcpHost {
         }
     }
 
-    /// A free place, if there is one.
-    pub(crate) fn free_place(&self) -> Option<usize>
-        ensures value { spec.IsFreePlace self.now result }
+    /// The place that the next connection gets: a free one, or else the one whose TIME-WAIT ends first.
+    pub(crate) fn next_place(&self) -> Option<usize>
+        ensures value { spec.IsNextPlace self.now result }
         ensures within { IfSome result (λ place. place < length self.now.slots) }
     {
         let place = self.taken.first();
-        if self.taken.get(place) == 0 {
+        if self.taken.get(place) < NEVER {
             Some(place)
         } else {
             None
@@ -150,7 +150,7 @@ impl TcpHost {
         self.table.remove(place);
         let _is_new = self.table.insert(place, endpoints);
         self.alarms.set(place, 0);
-        self.taken.set(place, 1);
+        self.taken.set(place, NEVER);
     }
 
     /// A place is free again.

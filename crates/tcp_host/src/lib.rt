@@ -10,6 +10,7 @@ pub mod getters;
 pub mod host;
 pub mod iss;
 pub mod listener;
+pub mod renewal;
 pub mod resets;
 pub mod sip_hash;
 pub mod slot;

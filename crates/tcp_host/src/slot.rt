@@ -7,11 +7,15 @@ ghost use Rattle.tcp_connection.specs.Asked.{is_only_challenged};
 ghost use Rattle.tcp_host.specs.declared.slot.Owner.TheVariants.{Program};
 ghost use Rattle.tcp_host.specs.Challenges as spec;
 ghost use Rattle.tcp_host.specs.Challenges.{all_challenges};
-ghost use Rattle.tcp_host.specs.Host.{default_hop_limit};
+ghost use Rattle.tcp_host.specs.Host.{default_hop_limit, is_let_go, limit_of};
+ghost use Rattle.tcp_host.specs.Turns.{due_after, gives_way, is_over};
 
+use crate::alarms::NEVER;
 use net_base::bucket::{Bucket, few_are_taken};
 use tcp_connection::connection::Connection;
+use tcp_connection::instants::later;
 use tcp_connection::segment::Segment;
+use tcp_connection::states::is_time_wait;
 use tcp_machine::settings::Settings;
 
 /// How many challenges a connection may send at once, and the interval in which one more may be, in microseconds: at most ten
@@ -21,6 +25,9 @@ pub(crate) const CHALLENGES: Bucket = Bucket {
     depth: 5,
     full_at: 0,
 };
+
+/// How long the reset of a connection whose time is over may wait for room, in microseconds.
+const TIME_FOR_A_RESET: u64 = 1_000_000;
 
 /// How many routers a packet may pass, unless the program says (RFC 9293 3.9.2).
 pub(crate) const HOP_LIMIT: u8 = 64;
@@ -36,8 +43,29 @@ pub enum Owner {
     Waiting(usize),
     /// The program, which has a handle.
     Program,
-    /// Nobody any more: the program let go of it, and it ends by itself.
-    Itself,
+    /// Nobody any more: the program let go of it. It ends by itself, or is aborted at this instant, which is set in its first turn
+    /// after that.
+    Itself(Option<u64>),
+}
+
+/// Whether the program let go of a connection.
+pub(crate) fn is_let_go(owner: Owner) -> bool
+    ensures { result ≡ is_let_go owner }
+{
+    match owner {
+        Owner::Itself(_) => true,
+        Owner::Nobody | Owner::HalfOpen(_) | Owner::Waiting(_) | Owner::Program => false,
+    }
+}
+
+/// When a connection has to have ended of which the program let go.
+pub(crate) fn limit_of(owner: Owner) -> Option<u64>
+    ensures { result ≡ limit_of owner }
+{
+    match owner {
+        Owner::Itself(until) => until,
+        Owner::Nobody | Owner::HalfOpen(_) | Owner::Waiting(_) | Owner::Program => None,
+    }
 }
 
 /// A place for a connection.
@@ -100,6 +128,38 @@ impl Slot {
         self.generation = self.generation.wrapping_add(1);
         self.challenges = CHALLENGES;
         self.hop_limit = HOP_LIMIT;
+    }
+
+    /// Whether the place of a connection of which the program let go is free: its time is over, and that for its reset, too.
+    pub(crate) fn is_over(&self, now: u64) -> bool
+        ensures { result ≡ is_over now self.now }
+    {
+        match limit_of(self.owner) {
+            Some(limit) => later(limit, TIME_FOR_A_RESET) <= now,
+            None => false,
+        }
+    }
+
+    /// When something is due at a connection that sends nothing now: when its first timer ends, or its time since the program let
+    /// go of it, and not at this instant once more.
+    pub(crate) fn due_after(&self, now: u64) -> u64
+        ensures { result ≡ due_after now self.now }
+    {
+        let instant = match self.connection.due_at(now) {
+            None => NEVER,
+            Some(instant) => instant.max(now.saturating_add(1)),
+        };
+        match limit_of(self.owner) {
+            None => instant,
+            Some(limit) => instant.min(limit),
+        }
+    }
+
+    /// Whether the connection gives its place to another one: it is in TIME-WAIT, and the program let go of it.
+    pub(crate) fn gives_way(&self) -> bool
+        ensures { result ≡ gives_way self.now }
+    {
+        is_let_go(self.owner) && is_time_wait(self.connection.state())
     }
 
     /// Whether what the connection sends now is a challenge that it may not send.

@@ -5,6 +5,7 @@ ghost use Rattle.tcp_connection.specs.Actions.{IsHeader, AreBlocks, AreOctets};
 ghost use Rattle.tcp_host.specs.Alarms.{IsLeast};
 ghost use Rattle.tcp_host.specs.Table.{ends_at};
 ghost use Rattle.tcp_host.specs.Host.{slot_at, connection_at};
+ghost use Rattle.tcp_host.specs.declared.slot.Owner.TheVariants.{Itself};
 ghost use Rattle.tcp_host.specs.Turns as spec;
 
 use crate::alarms::NEVER;
@@ -12,6 +13,7 @@ use crate::host::TcpHost;
 use crate::iss::Endpoints;
 use crate::slot::Owner;
 use tcp_connection::connection::Connection;
+use tcp_connection::instants::later;
 use tcp_connection::outgoing::{Action, Header};
 use tcp_connection::states::{is_closed, is_synchronized};
 use tcp_machine::sack::SackBlock;
@@ -65,9 +67,60 @@ impl TcpHost {
         if self.alarms.get(place) > now {
             return Turn::Idle;
         }
+        self.turn_due(place, now)
+    }
+
+    // The connection at a place, where something is due, gets its turn; or its time is over.
+    fn turn_due(&mut self, place: usize, now: u64) -> Turn
+        requires { place < length self.old.slots }
+        ensures { (result, self.new) ≡ spec.turn_due place now self.old }
+    {
+        if self.is_over(place, now) {
+            self.vacate(place);
+            return Turn::Quiet;
+        }
         self.expire(place, now);
         self.advance(place);
+        self.limit(place, now);
         self.ask(place, now)
+    }
+
+    // Whether the place of a connection is free, whose time is over since the program let go of it.
+    fn is_over(&self, place: usize, now: u64) -> bool
+        requires { place < length self.now.slots }
+        ensures { result ≡ spec.is_over now (slot_at place self.now) }
+    {
+        self.slots[place].is_over(now)
+    }
+
+    // A connection of which the program let go has so long to end, from its first turn after that on.
+    fn limit(&mut self, place: usize, now: u64)
+        requires { place < length self.old.slots }
+        ensures { self.new ≡ spec.limited place now self.old }
+    {
+        let owner = self.slots[place].owner;
+        match owner {
+            Owner::Itself(until) => self.limit_to(place, until, now),
+            Owner::Nobody | Owner::HalfOpen(_) | Owner::Waiting(_) | Owner::Program => {}
+        }
+    }
+
+    // The same of one of which the program let go: its time ends at an instant, or begins now.
+    fn limit_to(&mut self, place: usize, until: Option<u64>, now: u64)
+        requires { place < length self.old.slots }
+        ensures { self.new ≡ spec.limited_by (Itself until) place now self.old }
+    {
+        match until {
+            None => {
+                let limit = later(now, self.config.release_timeout);
+                self.slots[place].owner = Owner::Itself(Some(limit));
+            }
+            Some(limit) => {
+                if limit <= now {
+                    self.slots[place].connection.abort();
+                }
+            }
+        }
     }
 
     // What timers of the connection at a place do that have ended.
@@ -137,7 +190,7 @@ impl TcpHost {
         if self.listeners[index].complete(place) {
             self.slots[place].owner = Owner::Waiting(index);
         } else {
-            self.slots[place].owner = Owner::Itself;
+            self.slots[place].owner = Owner::Itself(None);
             self.slots[place].connection.abort();
         }
     }
@@ -151,11 +204,20 @@ impl TcpHost {
             self.finish(place);
             return;
         }
-        let instant = match self.slots[place].connection.due_at(now) {
-            None => NEVER,
-            Some(instant) => instant.max(now.saturating_add(1)),
-        };
+        let instant = self.slots[place].due_after(now);
+        self.wait_until(place, instant);
+    }
+
+    // Something is due at the connection at a place at an instant. In TIME-WAIT it then ends, if it hasn't given its place to
+    // another one before.
+    fn wait_until(&mut self, place: usize, instant: u64)
+        requires { place < length self.old.slots }
+        ensures { self.new ≡ spec.waiting_until place instant self.old }
+    {
         self.alarms.set(place, instant);
+        if self.slots[place].gives_way() {
+            self.taken.set(place, instant.max(1));
+        }
     }
 
     // The connection at a place is no more.
@@ -173,7 +235,7 @@ impl TcpHost {
                 self.end_in(place, index);
                 self.vacate(place);
             }
-            Owner::Nobody | Owner::Itself => self.vacate(place),
+            Owner::Nobody | Owner::Itself(_) => self.vacate(place),
         }
     }
 

@@ -35,15 +35,15 @@ does place act ls old later t =
 -- the program lets go
 release_by : (b : Bool) (place : ℕ) (ls : List Life) (old : Host) → Tells ls old →
     Tells (after_events (if b then [] else Does place Aborts ∷ []) ls)
-    (with_alarm place 0 (with_owner place Itself (if b then old else with_connection place (after_abort (connection_at place old)) old)))
+    (with_alarm place 0 (with_owner place (Itself None) (if b then old else with_connection place (after_abort (connection_at place old)) old)))
 release_by true place ls old t =
-    let mid = with_owner place Itself old in
-    tells_rest ls mid (with_alarm place 0 mid) (tells_rest ls old mid t (owner_rests place Itself old)) (alarm_rests place 0 mid)
+    let mid = with_owner place (Itself None) old in
+    tells_rest ls mid (with_alarm place 0 mid) (tells_rest ls old mid t (owner_rests place (Itself None) old)) (alarm_rests place 0 mid)
 release_by false place ls old t =
     let c = after_abort (connection_at place old) in
     let one = with_connection place c old in
-    let two = with_owner place Itself one in
-    let kept = rests_then one two (with_alarm place 0 two) (owner_rests place Itself one) (alarm_rests place 0 two) in
+    let two = with_owner place (Itself None) one in
+    let kept = rests_then one two (with_alarm place 0 two) (owner_rests place (Itself None) one) (alarm_rests place 0 two) in
     tells_step place Aborts ls old (with_alarm place 0 two) (λ number d. refl) t
     (steps_rests place c old one (with_alarm place 0 two) (connection_steps place c old) kept)
 

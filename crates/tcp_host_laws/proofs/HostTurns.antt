@@ -1,13 +1,13 @@
 -- What a turn does to the connection whose turn it is.
 use Rattle.std.proofs.Common.{◌≡◌, ◌∙◌, ℕ, ◌<◌, Bool, true, false, List, [], ◌∷◌, ◌++◌, length, get_or, Option, Some, None}
 use Rattle.std.proofs.Common.{refl, sym, subst}
-use Rattle.std.specs.Prelude.{nat_lt, if◌then◌else◌}
+use Rattle.std.specs.Prelude.{nat_lt, nat_le, if◌then◌else◌}
 use Rattle.ip_address.specs.declared.cidr.IpCidr.{IpCidr}
 use Rattle.socket_set.specs.SocketSet.{Sockets}
 use Rattle.tcp_machine.specs.Arrivals.{is_closed}
 use Rattle.tcp_machine.specs.Calls.{after_abort}
 use Rattle.tcp_machine.specs.Connection.{Connection}
-use Rattle.tcp_machine.specs.Due.{due_at}
+use Rattle.tcp_machine.specs.Instants.{later}
 use Rattle.tcp_machine.specs.Outgoing as outgoing
 use Rattle.tcp_machine.specs.States.{is_synchronized}
 use Rattle.tcp_machine.specs.Timers.{after_timers}
@@ -19,7 +19,8 @@ use Rattle.tcp_host.specs.declared.turns.Turn.{Turn}
 use Rattle.tcp_host.specs.declared.turns.Turn.TheVariants.{Idle, Quiet, Sends}
 use Rattle.tcp_host.specs.Challenges.{is_challenge_left, slot_after_sending}
 use Rattle.tcp_host.specs.Host.{Host, slot_at, connection_at, with_slot, with_connection, with_owner, with_alarm, vacated, listener_at, with_listener}
-use Rattle.tcp_host.specs.Turns.{expired, completed_in, completed, advanced_by, ended_in, finished_by, again_at, rested, before_sending}
+use Rattle.tcp_host.specs.Turns.{expired, completed_in, completed, advanced_by, ended_in, finished_by, due_after, gives_way, taken_until, waiting_until}
+use Rattle.tcp_host.specs.Turns.{rested, limited_by, is_over, advanced, before_sending}
 use Rattle.tcp_host.specs.Turns.{left_at, turn_by, turn_asked, sent_at, sent_if, postponed, aborted_at, aborted_if, TakesTurn}
 use Rattle.tcp_laws.specs.Machines.{Act, Expires, Aborts}
 use Rattle.tcp_laws.specs.Machines as machines
@@ -56,14 +57,19 @@ finished_rests (HalfOpen index) place h =
 finished_rests (Waiting index) place h =
     rests_then h (ended_in place index h) (vacated place (ended_in place index h)) (ended_rests place index h) (vacated_rests place (ended_in place index h))
 finished_rests Nobody place h = vacated_rests place h
-finished_rests Itself place h = vacated_rests place h
+finished_rests (Itself until) place h = vacated_rests place h
+
+waiting_rests : (b : Bool) (place instant : ℕ) (h : Host) →
+    Rests h (if b then taken_until place instant (with_alarm place instant h) else with_alarm place instant h)
+waiting_rests true place instant h = record { slots = refl; connections = λ q. refl; ends = λ q e is. is }
+waiting_rests false place instant h = alarm_rests place instant h
 
 rested_rests : (place now : ℕ) (h : Host) → Rests h (rested place now h)
 rested_rests place now h = by (is_closed (connection_at place h).state) where
   by : (b : Bool) →
-      Rests h (if b then finished_by (slot_at place h).owner place h else with_alarm place (again_at now (due_at now (connection_at place h))) h)
+      Rests h (if b then finished_by (slot_at place h).owner place h else waiting_until place (due_after now (slot_at place h)) h)
   by true = finished_rests (slot_at place h).owner place h
-  by false = alarm_rests place (again_at now (due_at now (connection_at place h))) h
+  by false = waiting_rests (gives_way (slot_at place h)) place (due_after now (slot_at place h)) h
 
 -- it is due at another instant
 pub postpones : (place instant : ℕ) (h : Host) → Rests h (postponed place instant h)
@@ -145,7 +151,7 @@ module _ {L : Type 0} (checked : Bool) (own : List IpCidr) (sockets : Sockets L)
     by : (b : Bool) → Follows checked own sockets ls old
         (if b then with_owner place (Waiting index) (with_listener index (listener.after_handshake place (listener_at index old)) old)
         else with_connection place (after_abort (connection_at place old))
-        (with_owner place Itself (with_listener index (listener.after_handshake place (listener_at index old)) old)))
+        (with_owner place (Itself None) (with_listener index (listener.after_handshake place (listener_at index old)) old)))
     by true =
         let l = with_listener index (listener.after_handshake place (listener_at index old)) old in
         rests checked own sockets ls old t (with_owner place (Waiting index) l)
@@ -153,11 +159,11 @@ module _ {L : Type 0} (checked : Bool) (own : List IpCidr) (sockets : Sockets L)
         (owner_rests place (Waiting index) l))
     by false =
         let l = with_listener index (listener.after_handshake place (listener_at index old)) old in
-        let o = with_owner place Itself l in
+        let o = with_owner place (Itself None) l in
         let c = after_abort (connection_at place old) in
         stepped ls old (with_connection place c o) place Aborts t (λ number x. refl) (may_abort ls place)
         (rests_steps place c old o (with_connection place c o)
-        (rests_then old l o (listener_rests index (listener.after_handshake place (listener_at index old)) old) (owner_rests place Itself l))
+        (rests_then old l o (listener_rests index (listener.after_handshake place (listener_at index old)) old) (owner_rests place (Itself None) l))
         (connection_steps place c o))
 
   completes : (place index : ℕ) (ls : List Life) (old : Host) → Tells ls old → Follows checked own sockets ls old (completed place index old)
@@ -177,13 +183,35 @@ module _ {L : Type 0} (checked : Bool) (own : List IpCidr) (sockets : Sockets L)
   advances_by Nobody place ls old t = rests checked own sockets ls old t old (same old)
   advances_by (Waiting index) place ls old t = rests checked own sockets ls old t old (same old)
   advances_by Program place ls old t = rests checked own sockets ls old t old (same old)
-  advances_by Itself place ls old t = rests checked own sockets ls old t old (same old)
+  advances_by (Itself until) place ls old t = rests checked own sockets ls old t old (same old)
+
+  -- its time ends since its program let go of it
+  limits_if : (b : Bool) (place : ℕ) (ls : List Life) (old : Host) → Tells ls old →
+      Follows checked own sockets ls old (if b then with_connection place (after_abort (connection_at place old)) old else old)
+  limits_if true place ls old t =
+      let c = after_abort (connection_at place old) in
+      stepped ls old (with_connection place c old) place Aborts t (λ number x. refl) (may_abort ls place) (connection_steps place c old)
+  limits_if false place ls old t = rests checked own sockets ls old t old (same old)
+
+  limits_by : (owner : Owner) (place now : ℕ) (ls : List Life) (old : Host) → Tells ls old →
+      Follows checked own sockets ls old (limited_by owner place now old)
+  limits_by (Itself None) place now ls old t =
+      let o = Itself (Some (later now old.config.release_timeout)) in
+      rests checked own sockets ls old t (with_owner place o old) (owner_rests place o old)
+  limits_by (Itself (Some limit)) place now ls old t = limits_if (nat_le limit now) place ls old t
+  limits_by Nobody place now ls old t = rests checked own sockets ls old t old (same old)
+  limits_by (HalfOpen index) place now ls old t = rests checked own sockets ls old t old (same old)
+  limits_by (Waiting index) place now ls old t = rests checked own sockets ls old t old (same old)
+  limits_by Program place now ls old t = rests checked own sockets ls old t old (same old)
 
   before : (place now : ℕ) (ls : List Life) (old : Host) → Tells ls old → Follows checked own sockets ls old (before_sending place now old)
   before place now ls old t =
+      let one = expired place now old in
+      let two = advanced place one in
       let a = expires place now ls old t in
-      let mid = expired place now old in
-      follows_then ls old mid (before_sending place now old) a (advances_by (slot_at place mid).owner place (after_events a.events ls) mid a.tells)
+      let b = follows_then ls old one two a (advances_by (slot_at place one).owner place (after_events a.events ls) one a.tells) in
+      follows_then ls old two (before_sending place now old) b
+      (limits_by (slot_at place two).owner place now (after_events b.events ls) two b.tells)
 
   -- a turn
   asked_by : (o : Option outgoing.Action) (place now : ℕ) (ls : List Life) (old : Host) → Tells ls old →
@@ -199,17 +227,25 @@ module _ {L : Type 0} (checked : Bool) (own : List IpCidr) (sockets : Sockets L)
   asked_left true place now ls old t = leaves place now ls old t
   asked_left false place now ls old t = asked_by (outgoing.action now (connection_at place old)) place now ls old t
 
-  abbrev turn_early : Bool → (place now : ℕ) → Host → Turn × Host
-  turn_early b place now h = if b then (Idle, h) else turn_asked place now (before_sending place now h)
+  abbrev turn_over : Bool → (place now : ℕ) → Host → Turn × Host
+  turn_over b place now h = if b then (Quiet, vacated place h) else turn_asked place now (before_sending place now h)
 
-  early : (b : Bool) (place now : ℕ) (ls : List Life) (old : Host) → Tells ls old →
-      Follows checked own sockets ls old (turn_early b place now old).1
-  early true place now ls old t = rests checked own sockets ls old t old (same old)
-  early false place now ls old t =
+  over : (b : Bool) (place now : ℕ) (ls : List Life) (old : Host) → Tells ls old →
+      Follows checked own sockets ls old (turn_over b place now old).1
+  over true place now ls old t = rests checked own sockets ls old t (vacated place old) (vacated_rests place old)
+  over false place now ls old t =
       let a = before place now ls old t in
       let mid = before_sending place now old in
       follows_then ls old mid (turn_asked place now mid).1 a
       (asked_left (is_challenge_left now (slot_at place mid)) place now (after_events a.events ls) mid a.tells)
+
+  abbrev turn_early : Bool → (place now : ℕ) → Host → Turn × Host
+  turn_early b place now h = if b then (Idle, h) else turn_over (is_over now (slot_at place h)) place now h
+
+  early : (b : Bool) (place now : ℕ) (ls : List Life) (old : Host) → Tells ls old →
+      Follows checked own sockets ls old (turn_early b place now old).1
+  early true place now ls old t = rests checked own sockets ls old t old (same old)
+  early false place now ls old t = over (is_over now (slot_at place old)) place now ls old t
 
   pub takes : (now : ℕ) (ls : List Life) (old : Host) (turn : Turn) (new : Host) → Tells ls old → TakesTurn now old turn new →
       Follows checked own sockets ls old new
@@ -234,13 +270,20 @@ at_left : (b : Bool) (place now : ℕ) (h : Host) → IsAt place (left_turn b pl
 at_left true place now h = tt
 at_left false place now h = at_by (outgoing.action now (connection_at place h)) place now h
 
+abbrev over_turn : Bool → (place now : ℕ) → Host → Turn × Host
+over_turn b place now h = if b then (Quiet, vacated place h) else turn_asked place now (before_sending place now h)
+
+at_over : (b : Bool) (place now : ℕ) (h : Host) → IsAt place (over_turn b place now h).0
+at_over true place now h = tt
+at_over false place now h =
+    at_left (is_challenge_left now (slot_at place (before_sending place now h))) place now (before_sending place now h)
+
 abbrev early_turn : Bool → (place now : ℕ) → Host → Turn × Host
-early_turn b place now h = if b then (Idle, h) else turn_asked place now (before_sending place now h)
+early_turn b place now h = if b then (Idle, h) else over_turn (is_over now (slot_at place h)) place now h
 
 at_early : (b : Bool) (place now : ℕ) (h : Host) → IsAt place (early_turn b place now h).0
 at_early true place now h = tt
-at_early false place now h =
-    at_left (is_challenge_left now (slot_at place (before_sending place now h))) place now (before_sending place now h)
+at_early false place now h = at_over (is_over now (slot_at place h)) place now h
 
 pub turn_within : (now : ℕ) (old new : Host) (place : ℕ) (a : _) → TakesTurn now old (Sends place a) new → place < length old.slots
 turn_within now old new place a k =

@@ -27,9 +27,10 @@ use Rattle.tcp_host.specs.Backlog.{evicted}
 use Rattle.tcp_host.specs.Listener as listener
 use Rattle.tcp_host.specs.Iss.{iss}
 use Rattle.tcp_host.specs.declared.resets.Reset.{Reset}
+use Rattle.tcp_host.specs.Renewal.{is_renewed_by}
 use Rattle.tcp_host.specs.Resets.{reset_for, begins}
-use Rattle.tcp_host.specs.Host.{Host, connection_at, with_alarm, with_connection, vacated, default_mss, link_mss, settings_for, listener_at, with_listener}
-use Rattle.tcp_host.specs.Arrivals.{Delivers, Receives, Known, Improper, Begun, Unheeded, Answered, Nobody, Begins, TooMany, InFree, InOldest}
+use Rattle.tcp_host.specs.Host.{Host, slot_at, connection_at, is_let_go, with_alarm, with_connection, vacated, default_mss, link_mss, settings_for, listener_at, with_listener}
+use Rattle.tcp_host.specs.Arrivals.{Delivers, Receives, Known, Reopened, Improper, Begun, Unheeded, Answered, Nobody, Begins, TooMany, InFree, InOldest}
 use Rattle.tcp_host.specs.Arrivals.{refused, accepted_at, vacated_if, counted, without_oldest, oldest_in}
 use Rattle.tcp_sockets.specs.Arrivals.{HasSegment, is_for_host}
 use Rattle.tcp_laws.specs.Machines.{Sent, Accepts, Gets}
@@ -73,6 +74,10 @@ all_of false b c e = absurd cc
 no_ack : (o : Option ℕ) → is_none o ≡ true → o ≡ None
 no_ack None e = refl
 no_ack (Some n) e = absurd cc
+
+first_of : (a b c : Bool) → a && b && c ≡ true → a ≡ true
+first_of true b c e = refl
+first_of false b c e = absurd cc
 
 module _ {L : Type 0} (checked : Bool) (own : List IpCidr) (sockets : Sockets L) (ls : List Life) (old : Host) (t : Tells ls old) where
   pub rests : (new : Host) → Rests old new → Follows checked own sockets ls old new
@@ -179,7 +184,13 @@ module _ {L : Type 0} (checked : Bool) (own : List IpCidr) (sockets : Sockets L)
     refuse answer new is = rests new (subst (λ (x : Option Reset × Host). Rests old x.1) (sym is) (refused_rests (reset_for s (length octets))))
 
     pub receives : (answer : Option Reset) (new : Host) → Receives now e s octets old answer new → Follows checked own sockets ls old new
-    receives answer new (Known place at none d) = delivered place new (t.ends place e at.has) d
+    receives answer new (Known place at kept none d) = delivered place new (t.ends place e at.has) d
+    receives answer new (Reopened place at index reopens none is) =
+        let free = vacated place old in
+        accepts place index (counted place index free) new
+        (first_of (begins s) (is_let_go (slot_at place old).owner)
+        (is_renewed_by s.number (iss old.config.number_key e now) (connection_at place old)) reopens.renewed)
+        (rests_then old free (counted place index free) (vacated_rests place old) (counted_rests place index free)) is
     receives answer new (Improper nowhere never_so none is) = stays new is
     receives answer new (Begun nowhere proper index listens begin none b) = begin_follows index new begin b
     receives answer new (Unheeded nowhere proper index listens begin ack none is) = stays new is

@@ -8,7 +8,7 @@ use Rattle.tcp_host.specs.Iss.{iss}
 use Rattle.tcp_host.specs.declared.calls.Handle.{Handle}
 use Rattle.tcp_host.specs.Handles.{is_named, changed, ends_by_itself, released, opened_at, with_settings, accepting, listening}
 use Rattle.tcp_host.specs.Handles.{listener_closed, with_hop_limit}
-use Rattle.tcp_host.specs.Host.{Host, connection_at, IsFreePlace, link_mss, settings_for}
+use Rattle.tcp_host.specs.Host.{Host, connection_at, IsNextPlace, link_mss, settings_for}
 use Rattle.tcp_laws.specs.Machines.{Opens, Writes, Reads, Closes, Aborts, Chooses}
 use Rattle.tcp_host_laws.specs.Lives.{Event, Does, Begins}
 
@@ -26,7 +26,7 @@ opening place now e h =
 -- A program's call on a host, what its connections do, and what the host is then. What it wrote, or how much it read,
 -- is in the act. A call that fails, or writes or reads no octet, changes nothing, and isn't told here.
 pub data Calls (old : Host) : List Event → Host → Type 0 where
-  Connect : (place now : ℕ) (e : Endpoints) → place < length old.slots → IsFreePlace old (Some place) →
+  Connect : (place now : ℕ) (e : Endpoints) → place < length old.slots → IsNextPlace old (Some place) →
       Calls old (opening place now e old ∷ []) (opened_at place now e old)
   Send : (handle : Handle) (octets : List ℕ) → is_named handle old ≡ true →
       Calls old (Does handle.place (Writes octets) ∷ [])

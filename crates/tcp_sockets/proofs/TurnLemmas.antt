@@ -7,11 +7,11 @@ use Rattle.tcp_connection.specs.declared.outgoing.Action.{Action}
 use Rattle.tcp_connection.specs.Actions.{action_of, header_of, IsHeader, AreBlocks, AreOctets}
 use Rattle.tcp_connection.specs.Blocks.{places_of}
 use Rattle.tcp_connection.specs.declared.outgoing.Header.{Header}
-use Rattle.tcp_host.specs.Host.{Host, connection_at, slot_at}
+use Rattle.tcp_host.specs.Host.{Host, connection_at, slot_at, vacated}
 use Rattle.tcp_host.specs.declared.turns.Turn.{Turn}
 use Rattle.tcp_host.specs.declared.turns.Turn.TheVariants.{Idle, Quiet, Sends}
 use Rattle.tcp_host.specs.Challenges.{is_challenge_left}
-use Rattle.tcp_host.specs.Turns.{TakesTurn, turn_by, turn_asked, left_at, before_sending, mss_of, scale_of}
+use Rattle.tcp_host.specs.Turns.{TakesTurn, turn_by, turn_asked, left_at, is_over, before_sending, mss_of, scale_of}
 use Rattle.tcp_host.specs.declared.turns.Outgoing.{Outgoing}
 use Rattle.tcp_sockets.specs.Packets.{value_of}
 use Rattle.tcp_sockets.specs.Polls.{segment_at}
@@ -54,15 +54,23 @@ not_left : (left : Bool) (place at : ℕ) (a : Action) (now : ℕ) (old h : Host
 not_left true place at a now old h e = absurd (false≢true (ap (λ (x : Turn × Host). sends x.0) (sym e)))
 not_left false place at a now old h e = asked_is_due (machine.action now (connection_at at old)) at place now a old h refl e
 
--- nothing is due before its instant
+-- nothing is sent once the time of a connection is over, or before its instant
+abbrev unless_over : Bool → (at now : ℕ) → Host → Turn × Host
+unless_over late at now h = if late then (Quiet, vacated at h) else turn_asked at now (before_sending at now h)
+
+not_over : (late : Bool) (place at : ℕ) (a : Action) (now : ℕ) (old h : Host) →
+    (Sends place a, h) ≡ unless_over late at now old → IsDue place a now h
+not_over true place at a now old h e = absurd (false≢true (ap (λ (x : Turn × Host). sends x.0) (sym e)))
+not_over false place at a now old h e =
+    not_left (is_challenge_left now (slot_at at (before_sending at now old))) place at a now (before_sending at now old) h e
+
 abbrev after_instant : Bool → (at now : ℕ) → Host → Turn × Host
-after_instant early at now h = if early then (Idle, h) else turn_asked at now (before_sending at now h)
+after_instant early at now h = if early then (Idle, h) else unless_over (is_over now (slot_at at h)) at now h
 
 not_early : (early : Bool) (place at : ℕ) (a : Action) (now : ℕ) (old h : Host) →
     (Sends place a, h) ≡ after_instant early at now old → IsDue place a now h
 not_early true place at a now old h e = absurd (false≢true (ap (λ (x : Turn × Host). sends x.0) (sym e)))
-not_early false place at a now old h e =
-    not_left (is_challenge_left now (slot_at at (before_sending at now old))) place at a now (before_sending at now old) h e
+not_early false place at a now old h e = not_over (is_over now (slot_at at old)) place at a now old h e
 
 pub sends_is_due : (place : ℕ) (a : Action) (now : ℕ) (old h : Host) → TakesTurn now old (Sends place a) h → IsDue place a now h
 sends_is_due place a now old h t = not_early (nat_lt now (get_or old.alarms t.place 0)) place t.place a now old h t.is

@@ -58,6 +58,8 @@ pub struct StreamSettings {
     pub shortest_timeout: Duration,
     /// How long TIME-WAIT lasts.
     pub time_wait: Duration,
+    /// How long a connection may go on that was released, before it ends in a reset, whatever its peer does.
+    pub release_timeout: Duration,
     /// How many connections there are at most, from 1 to 2^30.
     pub places: u32,
     /// How many octets each may hold that aren't acknowledged, at most 2^30.
@@ -89,7 +91,7 @@ impl Default for StreamSettings {
 impl StreamSettings {
     /// What `iface_streams_config_init` writes: over both families, 16 connections of 16,384 octets each way, probes
     /// after two hours, twelve tries, acknowledgements that wait 10 milliseconds, 200 milliseconds before something is
-    /// sent again, and 60 seconds of TIME-WAIT.
+    /// sent again, 60 seconds of TIME-WAIT, and two minutes for a connection that was released.
     pub fn new() -> StreamSettings {
         let config = sys::iface_streams_config {
             number_key: [0; 32],
@@ -99,6 +101,7 @@ impl StreamSettings {
             ack_delay: 0,
             shortest_timeout: 0,
             time_wait: 0,
+            release_timeout: 0,
             places: 0,
             send_room: 0,
             receive_room: 0,
@@ -121,6 +124,7 @@ impl StreamSettings {
             ack_delay: Duration::from_micros(config.ack_delay),
             shortest_timeout: Duration::from_micros(config.shortest_timeout),
             time_wait: Duration::from_micros(config.time_wait),
+            release_timeout: Duration::from_micros(config.release_timeout),
             places: config.places,
             send_room: config.send_room,
             receive_room: config.receive_room,
@@ -143,6 +147,7 @@ impl StreamSettings {
             ack_delay: self.ack_delay.total_micros(),
             shortest_timeout: self.shortest_timeout.total_micros(),
             time_wait: self.time_wait.total_micros(),
+            release_timeout: self.release_timeout.total_micros(),
             places: self.places,
             send_room: self.send_room,
             receive_room: self.receive_room,
@@ -401,7 +406,7 @@ impl Streams {
     /// # Errors
     /// [`Error::BadPort`], of the peer too; [`Error::NotThere`] if there is no own address of this family;
     /// [`Error::BadAddress`] if one isn't unicast, or they are of two families; [`Error::InUse`] if a connection has these
-    /// ends; [`Error::TableFull`] if each place has a connection.
+    /// ends; [`Error::TableFull`] if each place has a connection, and none that was released is in TIME-WAIT.
     pub fn connect(
         &mut self,
         host: &mut Host,

@@ -6,4 +6,4 @@ use Rattle.tcp_host.proofs.host.TcpHost.turn_at.Goals as goal
 pub returns : goal.returns
 returns c =
     let is_due : nat_lt c.args.now (get_or c.args.self.now.alarms c.args.place 0) ≡ false = grind (arith, nat_tests, c.get.ensures, c.if-get-now.false, c.self.view_is) in
-    rw (is_due, c.ask.ensures, c.advance.ensures, c.expire.ensures) refl
+    rw (is_due, c.turn_due.ensures) refl
