@@ -32,23 +32,22 @@ in_or_past a b = by (nat_lt a b) refl where
   by true e = inl (tests_lt a b e)
   by false e = inr (tests_ge a b e)
 
-past_set : {A : Type 0} (xs : List A) (i : ℕ) (x d : A) → length xs ≤ i → get_or (slice_set xs i x) i d ≡ d
+pub past_set : {A : Type 0} (xs : List A) (i : ℕ) (x d : A) → length xs ≤ i → get_or (slice_set xs i x) i d ≡ d
 past_set xs i x d past = get_or_past (slice_set xs i x) i d (subst (λ (n : ℕ). n ≤ i) (sym (length-set xs i x)) past)
 
-module _ (xs : List Slot) (place : ℕ) (s : Slot) (same : s.connection ≡ (get_or xs place no_slot).connection) where
+-- what stays of a slot stays of each
+module _ {A : Type 0} (f : Slot → A) (xs : List Slot) (place : ℕ) (s : Slot) (same : f s ≡ f (get_or xs place no_slot)) where
   kept_there : ((place < length xs) ⊎ (length xs ≤ place)) →
-      (get_or (slice_set xs place s) place no_slot).connection ≡ (get_or xs place no_slot).connection
-  kept_there (inl lt) = ap (λ (x : Slot). x.connection) (get_or-set_same xs place s no_slot lt) ∙ same
-  kept_there (inr past) =
-      ap (λ (x : Slot). x.connection) (past_set xs place s no_slot past ∙ sym (get_or_past xs place no_slot past))
+      f (get_or (slice_set xs place s) place no_slot) ≡ f (get_or xs place no_slot)
+  kept_there (inl lt) = ap f (get_or-set_same xs place s no_slot lt) ∙ same
+  kept_there (inr past) = ap f (past_set xs place s no_slot past ∙ sym (get_or_past xs place no_slot past))
 
-  kept_by : (q : ℕ) → ((q ≡ place) ⊎ (q ≡ place → ⊥)) →
-      (get_or (slice_set xs place s) q no_slot).connection ≡ (get_or xs q no_slot).connection
-  kept_by q (inl e) = subst (λ (n : ℕ). (get_or (slice_set xs place s) n no_slot).connection ≡ (get_or xs n no_slot).connection) (sym e)
+  kept_by : (q : ℕ) → ((q ≡ place) ⊎ (q ≡ place → ⊥)) → f (get_or (slice_set xs place s) q no_slot) ≡ f (get_or xs q no_slot)
+  kept_by q (inl e) = subst (λ (n : ℕ). f (get_or (slice_set xs place s) n no_slot) ≡ f (get_or xs n no_slot)) (sym e)
       (kept_there (in_or_past place (length xs)))
-  kept_by q (inr ne) = ap (λ (x : Slot). x.connection) (get_or-set_other xs place q s no_slot ne)
+  kept_by q (inr ne) = ap f (get_or-set_other xs place q s no_slot ne)
 
-  pub kept : (q : ℕ) → (get_or (slice_set xs place s) q no_slot).connection ≡ (get_or xs q no_slot).connection
+  pub kept : (q : ℕ) → f (get_or (slice_set xs place s) q no_slot) ≡ f (get_or xs q no_slot)
   kept q = kept_by q (cases_eq q place)
 
 -- ends that go
@@ -83,7 +82,7 @@ same h = record { slots = refl; connections = λ q. refl; ends = λ q e is. is }
 pub slot_rests : (place : ℕ) (s : Slot) (h : Host) → s.connection ≡ connection_at place h → Rests h (with_slot place s h)
 slot_rests place s h is = record {
   slots = length-set h.slots place s;
-  connections = kept h.slots place s is;
+  connections = kept (λ (x : Slot). x.connection) h.slots place s is;
   ends = λ q e at. at;
 }
 
@@ -102,7 +101,7 @@ hops_rest place hop_limit h = slot_rests place (record (slot_at place h) { hop_l
 pub vacated_rests : (place : ℕ) (h : Host) → Rests h (vacated place h)
 vacated_rests place h = record {
   slots = length-set h.slots place (record (slot_at place h) { owner = Nobody });
-  connections = kept h.slots place (record (slot_at place h) { owner = Nobody }) refl;
+  connections = kept (λ (x : Slot). x.connection) h.slots place (record (slot_at place h) { owner = Nobody }) refl;
   ends = without h.ends place;
 }
 
@@ -136,7 +135,7 @@ slot_starts place e s h =
     }
 
 -- what a listener does
-abbrev accepting_if : Bool → ℕ → Host → Option Handle × Host
+abbrev pub accepting_if : Bool → ℕ → Host → Option Handle × Host
 accepting_if b place h =
     if b then (Some (record { place = place; generation = (slot_at place h).generation }), with_owner place Program h) else (None, h)
 
@@ -154,7 +153,7 @@ accepting_some index h =
     rests_then h (with_listener index l h) (accepting_from index h).1 (listener_rests index l h)
     (accepting_place (first_of (listener_at index h).ready) (with_listener index l h))
 
-abbrev accepting_in : Bool → ℕ → Host → Option Handle × Host
+abbrev pub accepting_in : Bool → ℕ → Host → Option Handle × Host
 accepting_in b index h = if b then accepting_from index h else (None, h)
 
 accepting_index : (b : Bool) (index : ℕ) (h : Host) → Rests h (accepting_in b index h).1

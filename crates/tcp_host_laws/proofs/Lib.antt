@@ -24,3 +24,5 @@ pub mod Exchange
 pub mod Peers
 pub mod MoveWalk
 pub mod Readings
+pub mod Held
+pub mod Releases

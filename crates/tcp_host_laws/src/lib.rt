@@ -6,6 +6,7 @@ pub mod tcp_networks;
 ghost use Rattle.tcp_host_laws.specs.Laws.{CallsLiveOn, PollsLiveOn};
 ghost use Rattle.tcp_host_laws.specs.Pairs.{LivesKeep};
 ghost use Rattle.tcp_host_laws.specs.Readings.{WhatWasSentIsRead};
+ghost use Rattle.tcp_host_laws.specs.Releases.{ReleasedPlacesEnd};
 
 /// Whatever a program calls: each connection does that, and no other one does anything.
 pub fn calls_live_on()
@@ -30,4 +31,11 @@ pub fn lives_keep()
 /// read as that segment, between the ends reversed, or as a reset; so they are once a raw socket has stored them.
 pub fn what_was_sent_is_read()
     ensures { WhatWasSentIsRead }
+{}
+
+/// A connection of which its program let go is aborted by the first turn that is the host's `release_timeout` after its next one, which
+/// is due at once. No turn that is a second later, or more, leaves it its place. So it is whatever arrives and whatever is called; and
+/// it is due by then, unless it is put off for want of room.
+pub fn released_places_end()
+    ensures { ReleasedPlacesEnd }
 {}
