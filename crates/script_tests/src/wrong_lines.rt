@@ -79,7 +79,7 @@ fn lines_of_connections(rt: HostRuntime) {
 }
 
 /// Lines of hosts, and of what they have.
-const PARTS: [(&str, &str); 27] = [
+const PARTS: [(&str, &str); 53] = [
     ("hosst c 02:00:00:00:00:03", "hosst is no word of scripts"),
     ("host", "a word is missing"),
     ("host c", "a word is missing"),
@@ -96,6 +96,15 @@ const PARTS: [(&str, &str); 27] = [
         "host c 02:00:00:00:00:100",
         "02:00:00:00:00:100 is no Ethernet address",
     ),
+    ("host c 02:00:00:00:00:02", "b has this Ethernet address"),
+    (
+        "host c 01:00:5e:00:00:01",
+        "the Ethernet address is a group's",
+    ),
+    (
+        "host c ff:ff:ff:ff:ff:ff",
+        "the Ethernet address is a group's",
+    ),
     ("host c 02:00:00:00:00:03 dhcp", "only slaac may follow"),
     ("host c 02:00:00:00:00:03 slaac slaac", "too many words"),
     ("addr a 10.0.0.2", "10.0.0.2 is no address with a prefix"),
@@ -107,9 +116,17 @@ const PARTS: [(&str, &str); 27] = [
         "addr a fd00::1/129",
         "fd00::1/129 is no address with a prefix",
     ),
+    ("addr a 224.0.0.1/24", "224.0.0.1 is no host's address"),
+    ("addr a ff02::1/64", "ff02::1 is no host's address"),
+    (
+        "addr a 255.255.255.255/0",
+        "255.255.255.255 is no host's address",
+    ),
     ("addr c 10.0.0.2/24", "c is no host"),
     ("gateway a 10.0.0.0/24", "10.0.0.0/24 is no address"),
     ("join a", "a word is missing"),
+    ("join a 10.0.0.2", "10.0.0.2 is no group"),
+    ("join a fd00::2", "fd00::2 is no group"),
     ("udp a 0", "0 is no port"),
     ("echo b 0", "0 is no port"),
     ("echo c 9", "c is no host"),
@@ -123,14 +140,53 @@ const PARTS: [(&str, &str); 27] = [
         "0 is no time between advertisements",
     ),
     (
+        "router a fd00::/64 1800 1000000",
+        "the host has no link-local address",
+    ),
+    (
         "hosts 1000001 10.1.0.1/16 7",
         "1000001 is no number up to 1000000",
     ),
     ("hosts 2 fd00::1/64 7", "only IPv4"),
     ("hosts 2 10.1.0.1/16 0", "0 is no port"),
+    (
+        "hosts 5 10.0.0.254/30 7",
+        "its network doesn't have 5 addresses from 10.0.0.254 on",
+    ),
+    (
+        "hosts 2 10.0.0.254/24 7",
+        "its network doesn't have 2 addresses from 10.0.0.254 on",
+    ),
+    (
+        "hosts 3 10.0.0.0/31 7",
+        "its network doesn't have 3 addresses from 10.0.0.0 on",
+    ),
+    (
+        "hosts 9 255.255.255.250/0 7",
+        "its network doesn't have 9 addresses from 255.255.255.250 on",
+    ),
+    (
+        "hosts 1 255.255.255.255/32 7",
+        "255.255.255.255 is no host's address",
+    ),
+    (
+        "hosts 2 223.255.255.255/0 7",
+        "224.0.0.0 is no host's address",
+    ),
+    ("hosts 2 0.0.0.1/8 7", "a has this Ethernet address"),
+    ("hosts 2 0.0.0.2/8 7", "b has this Ethernet address"),
+    ("neighbors", "a word is missing"),
+    ("neighbors 0", "0 is no room"),
+    ("neighbors 65537", "65537 is no number up to 65536"),
+    ("neighbors 9 c", "c is no host"),
+    ("fragmented 0 a", "0 is no room"),
+    ("fragmented 1025", "1025 is no number up to 1024"),
+    ("fragmented 2 a b", "too many words"),
+    ("leave a 0 10.0.0.2", "10.0.0.2 is no group"),
     ("leave a 0", "a word is missing"),
     ("leave a 0 all", "all is no address"),
     ("down c 0 1", "c is no host"),
+    ("down a 5 3", "3 is less than 5"),
 ];
 
 #[test]
@@ -140,7 +196,7 @@ fn lines_of_hosts(rt: HostRuntime) {
 }
 
 /// Lines of the link, of datagrams, pings, packets and frames.
-const TRAFFIC: [(&str, &str); 29] = [
+const TRAFFIC: [(&str, &str); 33] = [
     ("seed", "a word is missing"),
     (
         "seed 18446744073709551616",
@@ -155,6 +211,7 @@ const TRAFFIC: [(&str, &str); 29] = [
     ("loss 10 c", "c is no host"),
     ("loss 10 a b", "too many words"),
     ("delay 10", "a word is missing"),
+    ("delay 900 100", "100 is less than 900"),
     ("reorder 10", "a word is missing"),
     ("change 2000", "2000 is no number up to 1000"),
     ("rate 0 10", "0 is no rate"),
@@ -164,6 +221,7 @@ const TRAFFIC: [(&str, &str); 29] = [
     ),
     ("rate 10", "a word is missing"),
     ("chart 0 1 a c", "c is no host"),
+    ("chart 5 3", "3 is less than 5"),
     ("send a 8 10.0.0.2 9 8 1 0 0", "the host has no socket at 8"),
     ("send b 7 10.0.0.2 9 8 1 0 0", "the host has no socket at 7"),
     ("send a 7 10.0.0.2 0 8 1 0 0", "0 is no port"),
@@ -185,6 +243,14 @@ const TRAFFIC: [(&str, &str); 29] = [
         "65537 is no number up to 65536",
     ),
     ("ping a 10.0.0.2 1 0 0 random random", "too many words"),
+    (
+        "ping a fd00::2 1 0 0",
+        "the host has no address from which fd00::2 is reached",
+    ),
+    (
+        "ping b 10.0.0.1 1 0 0",
+        "the host has no address from which 10.0.0.1 is reached",
+    ),
     (
         "raw a 0 4500zz",
         "no octets in hex: Invalid character 'z' at position 4",

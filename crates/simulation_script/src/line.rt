@@ -2,7 +2,7 @@
 
 use crate::script::{
     Flow, HostLine, Leave, Listener, MAX_COLUMNS, MAX_STREAMS, Outage, OutsideFrame, Pace, Ping,
-    Rate, RawPacket, Router, Script, Section, Stream, Treatment,
+    Rate, RawPacket, Rooms, Router, Script, Section, Stream, Treatment,
 };
 use crate::words::Words;
 use anyhow::{Context, Result, bail};
@@ -34,6 +34,12 @@ const MAX_LIFETIME: u64 = 9_000;
 
 /// The most frames that may wait to leave a host.
 const MAX_WAITING: u64 = 1_000_000;
+
+/// For how many neighbours a host has room at most.
+const MAX_NEIGHBORS: u64 = 65_536;
+
+/// How many datagrams a host reassembles at once at most.
+const MAX_FRAGMENTED: u64 = 1_024;
 
 /// Reads a script. An error names the line, counted from 1.
 pub fn script_in(alloc: Global, text: &str) -> Result<Script> {
@@ -71,6 +77,7 @@ fn read_statement(
         "seed" | "until" | "patience" => read_setting(script, word, words),
         "loss" | "repeat" | "reorder" | "delay" | "change" => read_treatment(script, word, words),
         "rate" => read_rate(script, words),
+        "neighbors" | "fragmented" => read_room(script, word, words),
         "down" => read_outage(script, words),
         "chart" => read_section(script, words),
         "router" => read_router(script, words),
@@ -125,10 +132,20 @@ fn read_treatment(script: &mut Script, word: &str, words: &mut Words<'_>) -> Res
 /// The two numbers of a part of a treatment, of which the second is 0 where the part has one.
 fn treatment_numbers_in(word: &str, words: &mut Words<'_>) -> Result<(u64, u64)> {
     match word {
-        "delay" => Ok((words.number(LATEST)?, words.number(LATEST)?)),
+        "delay" => ordered_in(words),
         "reorder" => Ok((words.number(1000)?, words.number(LATEST)?)),
         _ => Ok((words.number(1000)?, 0)),
     }
+}
+
+/// Two times, of which the second isn't less than the first.
+fn ordered_in(words: &mut Words<'_>) -> Result<(u64, u64)> {
+    let first = words.number(LATEST)?;
+    let second = words.number(LATEST)?;
+    if second < first {
+        bail!("{second} is less than {first}");
+    }
+    Ok((first, second))
 }
 
 /// Changes one part of a treatment.
@@ -166,6 +183,43 @@ fn rate_in(words: &mut Words<'_>) -> Result<Rate> {
     Ok(Rate { kilobits, frames })
 }
 
+/// Reads for how many neighbours, or for how many datagrams in fragments, all hosts have room, or the host that is named.
+fn read_room(script: &mut Script, word: &str, words: &mut Words<'_>) -> Result<()> {
+    let count = room_in(word, words)?;
+    let host = last_host_in(script, words)?;
+    let rooms = with_room(script.rooms_of(host), word, count);
+    script.set_rooms(host, rooms);
+    Ok(())
+}
+
+/// A room for one at least.
+fn room_in(word: &str, words: &mut Words<'_>) -> Result<usize> {
+    let most = if word == "neighbors" {
+        MAX_NEIGHBORS
+    } else {
+        MAX_FRAGMENTED
+    };
+    match words.number(most)? {
+        0 => bail!("0 is no room"),
+        count => Ok(count as usize),
+    }
+}
+
+/// Rooms of which one is for so many.
+fn with_room(rooms: Rooms, word: &str, count: usize) -> Rooms {
+    if word == "neighbors" {
+        Rooms {
+            neighbors: count,
+            ..rooms
+        }
+    } else {
+        Rooms {
+            fragmented: count,
+            ..rooms
+        }
+    }
+}
+
 /// Reads when a host is cut off.
 fn read_outage(script: &mut Script, words: &mut Words<'_>) -> Result<()> {
     let host = host_in(script, words)?;
@@ -175,10 +229,8 @@ fn read_outage(script: &mut Script, words: &mut Words<'_>) -> Result<()> {
 
 /// When an outage begins, and when it has ended.
 fn outage_in(words: &mut Words<'_>) -> Result<Outage> {
-    Ok(Outage {
-        from: words.number(LATEST)?,
-        until: words.number(LATEST)?,
-    })
+    let (from, until) = ordered_in(words)?;
+    Ok(Outage { from, until })
 }
 
 /// Fails unless a host had room for one more of something.
@@ -192,17 +244,15 @@ fn expect_room(has_room: bool) -> Result<()> {
 /// Reads what a chart shows.
 fn read_section(script: &mut Script, words: &mut Words<'_>) -> Result<()> {
     let section = section_in(script, words)?;
-    script.section = Some(section);
+    script.section = section;
     Ok(())
 }
 
 /// From when on, until when, and which hosts a chart shows.
 fn section_in(script: &Script, words: &mut Words<'_>) -> Result<Section> {
-    Ok(Section {
-        from: words.number(LATEST)?,
-        until: words.number(LATEST)?,
-        hosts: columns_in(script, words)?,
-    })
+    let (from, until) = ordered_in(words)?;
+    let hosts = columns_in(script, words)?;
+    Ok(Section { from, until, hosts })
 }
 
 /// The numbers of the hosts that the words left name.
@@ -232,20 +282,39 @@ fn host_line(name: String, hardware_addr: EthernetAddress, slaac: bool) -> HostL
         echoes: ArrayVec::new(),
         treatment: None,
         rate: None,
+        rooms: None,
         outages: ArrayVec::new(),
     }
 }
 
 /// Reads a host.
 fn read_host(alloc: Global, script: &mut Script, words: &mut Words<'_>) -> Result<()> {
+    let (name, hardware_addr) = new_host_in(script, words)?;
+    let slaac = may_follow(words, "slaac")?;
+    let name = String::from_str(alloc, name)?;
+    script.add_host(host_line(name, hardware_addr, slaac))
+}
+
+/// A name and an Ethernet address that no host has yet.
+fn new_host_in<'a>(script: &Script, words: &mut Words<'a>) -> Result<(&'a str, EthernetAddress)> {
     let name = words.word()?;
     let hardware_addr = words.ethernet()?;
     if script.host_named(name).is_some() {
         bail!("{name} is a host already");
     }
-    let slaac = may_follow(words, "slaac")?;
-    let name = String::from_str(alloc, name)?;
-    script.add_host(host_line(name, hardware_addr, slaac))
+    if hardware_addr.is_multicast() {
+        bail!("the Ethernet address is a group's");
+    }
+    expect_free(script.host_at(&hardware_addr), script)?;
+    Ok((name, hardware_addr))
+}
+
+/// Fails if a host has an Ethernet address already.
+fn expect_free(owner: Option<usize>, script: &Script) -> Result<()> {
+    match owner {
+        Some(host) => bail!("{} has this Ethernet address", script.name_of(host)),
+        None => Ok(()),
+    }
 }
 
 /// Whether a word follows. Fails if there is another one.
@@ -262,11 +331,65 @@ fn may_follow(words: &mut Words<'_>, last: &str) -> Result<bool> {
 /// Reads many hosts: their number, the address of the first with its prefix, and the port of their sockets. Addresses
 /// count up, and names and Ethernet addresses follow from them.
 fn read_hosts(alloc: Global, script: &mut Script, words: &mut Words<'_>) -> Result<()> {
-    let count = words.number(MAX_HOSTS)?;
+    let (first, count) = addresses_in(words)?;
+    let port = port_in(words)?;
+    expect_free(owner_among(script, first.address, count), script)?;
+    add_hosts(alloc, script, first, count, port)
+}
+
+/// An address with its network, from which so many addresses of hosts count up.
+fn addresses_in(words: &mut Words<'_>) -> Result<(Ipv4Cidr, u32)> {
+    let count = u32::try_from(words.number(MAX_HOSTS)?)?;
     let IpCidr::Ipv4(first) = words.network()? else {
         bail!("only IPv4");
     };
-    let port = port_in(words)?;
+    let last = last_of(first.address, count);
+    if !is_in_network(&first, last) {
+        let from = first.address;
+        bail!("its network doesn't have {count} addresses from {from} on");
+    }
+    expect_host_address(IpAddress::Ipv4(first.address))?;
+    expect_host_address(IpAddress::Ipv4(last))?;
+    Ok((first, count))
+}
+
+/// The last of so many addresses that count up from one, and go round after the highest one; the first for none.
+fn last_of(first: Ipv4Address, count: u32) -> Ipv4Address {
+    Ipv4Address {
+        bits: first.bits.wrapping_add(count.saturating_sub(1)),
+    }
+}
+
+/// Whether all addresses from one up to another are of hosts in its network: the broadcast address isn't (RFC 1122 3.2.1.3).
+fn is_in_network(first: &Ipv4Cidr, last: Ipv4Address) -> bool {
+    first.address.bits <= last.bits && first.contains_addr(&last) && first.broadcast() != Some(last)
+}
+
+/// Fails if an address can't be a host's: that of a group, or the broadcast address.
+fn expect_host_address(address: IpAddress) -> Result<()> {
+    if address.is_multicast() || address.is_broadcast() {
+        bail!("{address} is no host's address");
+    }
+    Ok(())
+}
+
+/// A host whose Ethernet address is one of those that follow from so many addresses.
+fn owner_among(script: &Script, first: Ipv4Address, count: u32) -> Option<usize> {
+    script.hosts.iter().position(|host| {
+        let [zero, one, a, b, c, d] = host.hardware_addr.0;
+        let bits = u32::from_be_bytes([a, b, c, d]);
+        zero == 2 && one == 0 && bits.wrapping_sub(first.bits) < count
+    })
+}
+
+/// Adds so many hosts, each with a socket at a port.
+fn add_hosts(
+    alloc: Global,
+    script: &mut Script,
+    first: Ipv4Cidr,
+    count: u32,
+    port: u16,
+) -> Result<()> {
     let mut bits = first.address.bits;
     for i in 0..count {
         let name = format!(in alloc; "h{}", i.saturating_add(1))?;
@@ -326,6 +449,7 @@ fn read_part_of(host: &mut HostLine, word: &str, words: &mut Words<'_>) -> Resul
 /// Reads an address of a host, with its network.
 fn read_address(host: &mut HostLine, words: &mut Words<'_>) -> Result<()> {
     let address = words.network()?;
+    expect_host_address(address.address())?;
     expect_room(host.addresses.try_push(address).is_ok())
 }
 
@@ -337,8 +461,17 @@ fn read_gateway(host: &mut HostLine, words: &mut Words<'_>) -> Result<()> {
 
 /// Reads a group that a host joins.
 fn read_group(host: &mut HostLine, words: &mut Words<'_>) -> Result<()> {
-    let group = words.address()?;
+    let group = group_in(words)?;
     expect_room(host.groups.try_push(group).is_ok())
+}
+
+/// The address of a group.
+fn group_in(words: &mut Words<'_>) -> Result<IpAddress> {
+    let group = words.address()?;
+    if !group.is_multicast() {
+        bail!("{group} is no group");
+    }
+    Ok(group)
 }
 
 /// Reads the port of a socket.
@@ -363,12 +496,22 @@ fn read_router(script: &mut Script, words: &mut Words<'_>) -> Result<()> {
 
 /// The host of a router, its prefix, its lifetime, and how often it advertises.
 fn router_in(script: &Script, words: &mut Words<'_>) -> Result<Router> {
-    Ok(Router {
+    let router = Router {
         host: host_in(script, words)?,
         prefix: prefix_in(words)?,
         lifetime: u16::try_from(words.number(MAX_LIFETIME)?)?,
         every: interval_in(words)?,
-    })
+    };
+    expect_link_local(script, router.host)?;
+    Ok(router)
+}
+
+/// Fails unless a host has a link-local address, from which a router advertises (RFC 4861 4.2).
+fn expect_link_local(script: &Script, host: usize) -> Result<()> {
+    match script.hosts.get(host) {
+        Some(line) if line.has_link_local() => Ok(()),
+        _ => bail!("the host has no link-local address"),
+    }
 }
 
 /// A prefix of IPv6.
@@ -459,11 +602,21 @@ fn read_ping(script: &mut Script, words: &mut Words<'_>) -> Result<()> {
 
 /// From which host echo requests go where, how many, and when.
 fn ping_in(script: &Script, words: &mut Words<'_>) -> Result<Ping> {
+    let host = host_in(script, words)?;
     Ok(Ping {
-        host: host_in(script, words)?,
-        remote: words.address()?,
+        host,
+        remote: remote_in(script, host, words)?,
         pace: pace_in(words, MAX_PINGS)?,
     })
+}
+
+/// An address to which a host can send, as it has one of its family, or takes some from routers.
+fn remote_in(script: &Script, host: usize, words: &mut Words<'_>) -> Result<IpAddress> {
+    let remote = words.address()?;
+    match script.hosts.get(host) {
+        Some(line) if line.has_family_of(&remote) => Ok(remote),
+        _ => bail!("the host has no address from which {remote} is reached"),
+    }
 }
 
 /// Reads a port at which a host accepts connections.
@@ -568,6 +721,6 @@ fn leave_in(script: &Script, words: &mut Words<'_>) -> Result<Leave> {
     Ok(Leave {
         host: host_in(script, words)?,
         at: words.number(LATEST)?,
-        group: words.address()?,
+        group: group_in(words)?,
     })
 }

@@ -9,6 +9,9 @@ use std::alloc::Global;
 /// The maximum number of UDP sockets of a host.
 pub const MAX_PORTS: usize = 8;
 
+/// The maximum number of addresses of a host.
+pub const MAX_ADDRESSES: usize = 4;
+
 /// The maximum number of groups that a host joins.
 pub const MAX_GROUPS: usize = 8;
 
@@ -62,6 +65,23 @@ pub struct Rate {
     pub frames: u64,
 }
 
+/// For how many of something a host has room.
+#[derive(Clone, Copy, Debug, PartialEq, Eq)]
+pub struct Rooms {
+    /// How many neighbours it knows at once, of both families together.
+    pub neighbors: usize,
+    /// How many datagrams it reassembles at once.
+    pub fragmented: usize,
+}
+
+impl Rooms {
+    /// What most hosts have, as those of the libraries for C and cargo.
+    pub const USUAL: Rooms = Rooms {
+        neighbors: 128,
+        fragmented: 8,
+    };
+}
+
 /// A time for which a host is cut off from the link: frames that are sent then neither leave it nor come to it.
 #[derive(Clone, Copy, Default)]
 pub struct Outage {
@@ -81,7 +101,7 @@ pub struct HostLine {
     /// Whether it takes addresses from routers.
     pub slaac: bool,
     /// Its addresses.
-    pub addresses: ArrayVec<IpCidr, 4>,
+    pub addresses: ArrayVec<IpCidr, MAX_ADDRESSES>,
     /// The routers of its default routes.
     pub gateways: ArrayVec<IpAddress, 2>,
     /// The groups that it joins.
@@ -94,6 +114,8 @@ pub struct HostLine {
     pub treatment: Option<Treatment>,
     /// How fast frames leave it, if not as others.
     pub rate: Option<Rate>,
+    /// What it has room for, if not as others.
+    pub rooms: Option<Rooms>,
     /// When it is cut off.
     pub outages: ArrayVec<Outage, MAX_OUTAGES>,
 }
@@ -112,6 +134,34 @@ impl HostLine {
             }
         }
         found
+    }
+
+    /// Whether it has an address, or takes some from routers, of the family of another one.
+    pub fn has_family_of(&self, remote: &IpAddress) -> bool {
+        let is_ipv6 = matches!(remote, IpAddress::Ipv6(_));
+        self.slaac && is_ipv6 || self.address_for(remote).is_some()
+    }
+
+    /// Whether it has this address.
+    pub fn has_address(&self, address: &IpAddress) -> bool {
+        for own in self.addresses.as_slice() {
+            if own.address() == *address {
+                return true;
+            }
+        }
+        false
+    }
+
+    /// Whether it has a link-local address of IPv6 (RFC 4291 2.5.6).
+    pub fn has_link_local(&self) -> bool {
+        for own in self.addresses.as_slice() {
+            if let IpCidr::Ipv6(own) = own
+                && own.address.is_link_local()
+            {
+                return true;
+            }
+        }
+        false
     }
 }
 
@@ -206,8 +256,25 @@ pub struct Section {
     pub from: u64,
     /// Until when.
     pub until: u64,
-    /// The numbers of the hosts with columns, in their order. A copy between others isn't shown.
+    /// The numbers of the hosts with columns, in their order. A copy between others isn't shown. None: the first hosts
+    /// have columns, and all copies are shown.
     pub hosts: ArrayVec<usize, MAX_COLUMNS>,
+}
+
+impl Section {
+    /// All copies, with columns for the first hosts.
+    fn whole() -> Section {
+        Section {
+            from: 0,
+            until: u64::MAX,
+            hosts: ArrayVec::new(),
+        }
+    }
+
+    /// Whether it shows copies to or from a host.
+    pub fn shows(&self, host: usize) -> bool {
+        self.hosts.is_empty() || self.hosts.as_slice().contains(&host)
+    }
 }
 
 /// An IP packet that a raw socket sends.
@@ -252,12 +319,14 @@ pub struct Script {
     pub treatment: Treatment,
     /// How fast frames leave hosts; `None`: at once.
     pub rate: Option<Rate>,
+    /// What hosts have room for.
+    pub rooms: Rooms,
     /// How long a packet waits for its neighbour before its host gives it up, in microseconds; `None`: for ever.
     pub patience: Option<u64>,
     /// When it ends, in microseconds.
     pub until: u64,
-    /// What its chart shows; `None`: all copies, with columns for the first hosts.
-    pub section: Option<Section>,
+    /// What its chart shows.
+    pub section: Section,
     /// The hosts, numbered from 0.
     pub hosts: Vec<HostLine>,
     /// The traffic.
@@ -285,9 +354,10 @@ impl Script {
             seed: 0,
             treatment: Treatment::NONE,
             rate: None,
+            rooms: Rooms::USUAL,
             patience: None,
             until: 10_000_000,
-            section: None,
+            section: Section::whole(),
             hosts: Vec::new(alloc),
             flows: Vec::new(alloc),
             pings: Vec::new(alloc),
@@ -331,6 +401,21 @@ impl Script {
         }
     }
 
+    /// What a host has room for; without a host, those of which nothing else is said.
+    pub fn rooms_of(&self, host: Option<usize>) -> Rooms {
+        match self.line(host) {
+            Some(line) => line.rooms.unwrap_or(self.rooms),
+            None => self.rooms,
+        }
+    }
+
+    /// The number of the host with this Ethernet address.
+    pub fn host_at(&self, hardware_addr: &EthernetAddress) -> Option<usize> {
+        self.hosts
+            .iter()
+            .position(|host| host.hardware_addr == *hardware_addr)
+    }
+
     /// The address from which a host connects to another one, if it has one of its family.
     pub fn address_for(&self, host: usize, remote: &IpAddress) -> Option<IpAddress> {
         self.hosts.get(host)?.address_for(remote)
@@ -352,6 +437,27 @@ impl Script {
             }
         }
         false
+    }
+
+    /// Whether a stream goes to an address of a host, and to a port at which it accepts connections.
+    fn comes_to(&self, host: usize, stream: &Stream) -> bool {
+        match self.hosts.get(host) {
+            Some(line) => {
+                line.has_address(&stream.remote.addr) && self.listens(host, stream.remote.port)
+            }
+            None => false,
+        }
+    }
+
+    /// How many streams a host sends, or may accept.
+    pub fn count_streams(&self, host: usize) -> usize {
+        let mut count = 0_usize;
+        for stream in self.streams.as_slice() {
+            if stream.host == host || self.comes_to(host, stream) {
+                count = count.saturating_add(1);
+            }
+        }
+        count
     }
 
     /// Whether a host listens at a port at least, or sends a stream.
@@ -417,6 +523,18 @@ impl Script {
             Some(number) => {
                 if let Some(line) = self.hosts.get_mut(number) {
                     line.rate = Some(rate);
+                }
+            }
+        }
+    }
+
+    /// Sets what a host, or all others, have room for.
+    pub(crate) fn set_rooms(&mut self, host: Option<usize>, rooms: Rooms) {
+        match host {
+            None => self.rooms = rooms,
+            Some(number) => {
+                if let Some(line) = self.hosts.get_mut(number) {
+                    line.rooms = Some(rooms);
                 }
             }
         }

@@ -189,18 +189,12 @@ fn senders_of(alloc: Global, script: &Script, number: usize) -> Result<Vec<Sende
     Ok(senders)
 }
 
-/// How many connections a host may have at once: one for each stream that it sends or that comes to a port of its, and one
-/// more.
+/// How many connections a host may have at once: one for each stream that it sends or may accept, and one more.
 fn places_for(script: &Script, number: usize) -> usize
     ensures some { 1 ≤ result }
     ensures few { result ≤ 65536 }
 {
-    let mut places = 1_usize;
-    for stream in script.streams.iter() {
-        if stream.host == number || script.listens(number, stream.remote.port) {
-            places = places.saturating_add(1);
-        }
-    }
+    let places = script.count_streams(number).saturating_add(1);
     places.max(1).min(MOST_PLACES)
 }
 

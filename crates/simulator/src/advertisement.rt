@@ -24,10 +24,20 @@ pub fn frame_of(alloc: Global, script: &Script, router: &Router) -> Result<Vec<u
     let Some(line) = script.hosts.get(router.host) else {
         bail!("no host");
     };
-    let Some(source) = link_local_in(line.addresses.as_slice()) else {
-        bail!("{}: a router has a link-local address", line.name);
-    };
-    let message = Icmpv6Repr::Router(message_of(router, line.hardware_addr));
+    match link_local_in(line.addresses.as_slice()) {
+        Some(source) => octets_of(alloc, router, line.hardware_addr, source),
+        None => bail!("{}: a router has a link-local address", line.name),
+    }
+}
+
+/// The octets of the frame, which comes from these addresses.
+fn octets_of(
+    alloc: Global,
+    router: &Router,
+    hardware_addr: EthernetAddress,
+    source: Ipv6Address,
+) -> Result<Vec<u8>> {
+    let message = Icmpv6Repr::Router(message_of(router, hardware_addr));
     let mut packet = FrameBuffer::new();
     let destination = IpAddress::Ipv6(Ipv6Address::LINK_LOCAL_ALL_NODES);
     message.emit(
@@ -39,7 +49,7 @@ pub fn frame_of(alloc: Global, script: &Script, router: &Router) -> Result<Vec<u
     );
     let mut frame = FrameBuffer::new();
     let link = EthernetRepr {
-        src_addr: line.hardware_addr,
+        src_addr: hardware_addr,
         dst_addr: ALL_NODES_ETHERNET,
         ethertype: EthernetProtocol::Ipv6,
     };

@@ -111,6 +111,13 @@ impl Tally {
     }
 }
 
+impl Display for Tally {
+    fn fmt<W: fmt::Write>(&self, f: &mut Formatter<W>) -> fmt::Result {
+        let (tried, refused) = (self.tried, self.refused);
+        write!(f, "{tried} tried, {refused} refused")
+    }
+}
+
 /// What a datagram is that came to a socket.
 #[derive(Clone, Copy, PartialEq, Eq)]
 pub enum Origin {
@@ -145,8 +152,6 @@ pub struct Counts {
     pub changed: u64,
     /// The frames that were dropped, as too many waited to leave their host.
     pub dropped: u64,
-    /// What happened.
-    pub events: u64,
 }
 
 impl Counts {
@@ -164,15 +169,21 @@ impl Counts {
             repeated: 0,
             changed: 0,
             dropped: 0,
-            events: 0,
         })
     }
 
-    /// A host sent a frame.
-    pub fn count_sent(&mut self, host: usize, kind: Kind) {
-        if let Some(count) = self.sent.get_mut(host) {
+    /// A frame was sent, by a host or from outside, which isn't counted.
+    pub fn count_sent(&mut self, from: Option<usize>, kind: Kind) {
+        if let Some(host) = from
+            && let Some(count) = self.sent.get_mut(host)
+        {
             count.add(kind);
         }
+    }
+
+    /// A frame was dropped, as too many waited to leave its host.
+    pub fn count_dropped(&mut self) {
+        self.dropped = self.dropped.saturating_add(1);
     }
 
     /// A host received a copy of a frame.

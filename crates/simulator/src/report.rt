@@ -1,12 +1,12 @@
 //! How what was counted is printed.
 
-use crate::counts::{Counts, Origin, Tally};
+use crate::counts::{ByKind, Counts, Origin, Tally};
 use crate::kind::Kind;
-use crate::station::{Received, Station};
+use crate::station::{Received, Station, may_be_udp};
 use anyhow::Result;
 use host::link::Host;
-use simulation_script::script::Script;
-use std::alloc::Global;
+use ip_wire::IpCidr;
+use simulation_script::script::{Flow, Ping, Script};
 use std::fmt::{self, Display, Formatter};
 use std::io::Write;
 
@@ -22,6 +22,16 @@ impl Display for Time {
     }
 }
 
+impl Display for Origin {
+    fn fmt<W: fmt::Write>(&self, f: &mut Formatter<W>) -> fmt::Result {
+        match self {
+            Origin::Flow(flow, number) => write!(f, "flow {flow}, number {number}"),
+            Origin::Answer(flow, number) => write!(f, "back from flow {flow}, number {number}"),
+            Origin::Strange => write!(f, "no socket of the script sent it"),
+        }
+    }
+}
+
 /// Prints a datagram that came to a socket.
 pub fn print_datagram<W: Write>(
     output: &mut W,
@@ -32,168 +42,247 @@ pub fn print_datagram<W: Write>(
 ) -> Result<()> {
     let (time, port, size) = (Time(time), datagram.port, datagram.size);
     let (addr, from) = (datagram.remote.addr, datagram.remote.port);
-    write!(
+    writeln!(
         output,
-        "{time}  {name}:{port} gets {size} octets of {addr} port {from}: "
+        "{time}  {name}:{port} gets {size} octets of {addr} port {from}: {origin}"
     )?;
-    match origin {
-        Origin::Flow(flow, number) => writeln!(output, "flow {flow}, number {number}")?,
-        Origin::Answer(flow, number) => {
-            writeln!(output, "back from flow {flow}, number {number}")?;
-        }
-        Origin::Strange => writeln!(output, "no socket of the script sent it")?,
-    }
     Ok(())
 }
 
-/// Prints the hosts as they are in the end.
-pub fn print_hosts<W: Write>(
+/// Prints the hosts as they are in the end, the flows, and the echo requests.
+pub fn print_traffic<W: Write>(
+    output: &mut W,
+    script: &Script,
+    hosts: &[Host<'static, Station>],
+    counts: &Counts,
+) -> Result<()> {
+    print_hosts(output, script, hosts)?;
+    print_flows(output, script, counts)?;
+    print_pings(output, script, counts)
+}
+
+/// Prints the hosts with their addresses.
+fn print_hosts<W: Write>(
     output: &mut W,
     script: &Script,
     hosts: &[Host<'static, Station>],
 ) -> Result<()> {
     writeln!(output, "hosts")?;
     for (line, host) in script.hosts.iter().zip(hosts.iter()) {
-        write!(output, "  {}", line.name)?;
-        for address in host.interface.ip_addrs() {
-            write!(output, " {address}")?;
-        }
-        writeln!(output)?;
+        print_host(output, &line.name, host.interface.ip_addrs())?;
     }
     Ok(())
 }
 
 /// Prints the flows.
-pub fn print_flows<W: Write>(output: &mut W, script: &Script, counts: &Counts) -> Result<()> {
+fn print_flows<W: Write>(output: &mut W, script: &Script, counts: &Counts) -> Result<()> {
     writeln!(output, "flows")?;
-    for i in 0..script.flows.len() {
-        let flow = script.flows[i];
-        let name = script.name_of(flow.host);
-        let (port, addr, to) = (flow.port, flow.remote.addr, flow.remote.port);
-        write!(output, "  {i}: {name}:{port} to {addr} port {to}: ")?;
+    for (i, flow) in script.flows.iter().enumerate() {
         if let Some(tally) = counts.flows.get(i) {
-            let received = tally.received.count;
-            print_tally(output, tally)?;
-            writeln!(output, "{received} received")?;
-            if received != 0 {
-                let times = tally.received;
-                writeln!(output, "     took {times}")?;
-            }
-            print_answers(output, tally)?;
+            print_flow(output, script.name_of(flow.host), i, flow, tally)?;
         }
     }
     Ok(())
 }
 
+/// Prints a host with its addresses.
+fn print_host<W: Write>(output: &mut W, name: &str, addresses: &[IpCidr]) -> Result<()> {
+    write!(output, "  {name}")?;
+    for address in addresses {
+        write!(output, " {address}")?;
+    }
+    writeln!(output)?;
+    Ok(())
+}
+
+/// Prints a flow.
+fn print_flow<W: Write>(
+    output: &mut W,
+    name: &str,
+    number: usize,
+    flow: &Flow,
+    tally: &Tally,
+) -> Result<()> {
+    let (port, addr, to) = (flow.port, flow.remote.addr, flow.remote.port);
+    let received = tally.received.count;
+    writeln!(
+        output,
+        "  {number}: {name}:{port} to {addr} port {to}: {tally}, {received} received"
+    )?;
+    print_delays(output, tally)?;
+    print_answers(output, tally)
+}
+
 /// Prints the echo requests, if there are some.
-pub fn print_pings<W: Write>(output: &mut W, script: &Script, counts: &Counts) -> Result<()> {
+fn print_pings<W: Write>(output: &mut W, script: &Script, counts: &Counts) -> Result<()> {
     if script.pings.is_empty() {
         return Ok(());
     }
     writeln!(output, "pings")?;
-    for i in 0..script.pings.len() {
-        let ping = script.pings[i];
-        let (name, addr) = (script.name_of(ping.host), ping.remote);
-        write!(output, "  {i}: {name} to {addr}: ")?;
+    for (i, ping) in script.pings.iter().enumerate() {
         if let Some(tally) = counts.pings.get(i) {
-            let answered = tally.answered.count;
-            print_tally(output, tally)?;
-            writeln!(output, "{answered} answered")?;
-            print_answers(output, tally)?;
+            print_ping(output, script.name_of(ping.host), i, ping, tally)?;
         }
     }
     Ok(())
 }
 
-/// Prints how many were tried and refused.
-fn print_tally<W: Write>(output: &mut W, tally: &Tally) -> Result<()> {
-    let (tried, refused) = (tally.tried, tally.refused);
-    write!(output, "{tried} tried, {refused} refused, ")?;
+/// Prints the echo requests of a line.
+fn print_ping<W: Write>(
+    output: &mut W,
+    name: &str,
+    number: usize,
+    ping: &Ping,
+    tally: &Tally,
+) -> Result<()> {
+    let (addr, answered) = (ping.remote, tally.answered.count);
+    writeln!(
+        output,
+        "  {number}: {name} to {addr}: {tally}, {answered} answered"
+    )?;
+    print_answers(output, tally)
+}
+
+/// Prints how long those took that came, if some did.
+fn print_delays<W: Write>(output: &mut W, tally: &Tally) -> Result<()> {
+    let times = tally.received;
+    if times.count != 0 {
+        writeln!(output, "     took {times}")?;
+    }
     Ok(())
 }
 
 /// Prints how many answers came, if some did, and after what time.
 fn print_answers<W: Write>(output: &mut W, tally: &Tally) -> Result<()> {
-    let answered = tally.answered.count;
-    if answered != 0 {
-        let times = tally.answered;
+    let times = tally.answered;
+    if times.count != 0 {
+        let answered = times.count;
         writeln!(output, "     {answered} came back after {times}")?;
     }
     Ok(())
 }
 
-/// Prints how many packets each host gave up, if it gave up some.
-pub fn print_given_up<W: Write>(
-    output: &mut W,
-    script: &Script,
-    hosts: &[Host<'static, Station>],
-) -> Result<()> {
-    for (line, host) in script.hosts.iter().zip(hosts.iter()) {
-        let (name, given_up) = (line.name.as_str(), host.owner.given_up());
-        if given_up != 0 {
-            writeln!(output, "given up by {name}: {given_up}")?;
-        }
-    }
-    Ok(())
-}
-
-/// Prints the frames by host and kind.
-pub fn print_frames<W: Write>(output: &mut W, script: &Script, counts: &Counts) -> Result<()> {
-    writeln!(
-        output,
-        "frames                                sent  received"
-    )?;
-    for (i, line) in script.hosts.iter().enumerate() {
-        for kind in Kind::ALL {
-            let sent = counts.sent.get(i).map_or(0, |count| count.of(kind));
-            let received = counts.received.get(i).map_or(0, |count| count.of(kind));
-            if sent != 0 || received != 0 {
-                let (host, name) = (line.name.as_str(), kind.name());
-                writeln!(output, "  {host:<8} {name:<24} {sent:>7}  {received:>8}")?;
-            }
-        }
-    }
-    Ok(())
-}
-
-/// Prints what the link did, and whether the law holds: each datagram that a socket gets was sent by a socket.
-pub fn print_link<W: Write>(
+/// Prints how many packets hosts gave up, the frames by host and kind, what the link did, and whether the law holds.
+pub fn print_frames<W: Write>(
     output: &mut W,
     script: &Script,
     hosts: &[Host<'static, Station>],
     counts: &Counts,
 ) -> Result<()> {
+    print_all_given_up(output, script, hosts)?;
+    print_all_kinds(output, script, counts)?;
+    print_link(output, counts)?;
+    print_premises(output, script, counts)
+}
+
+/// Prints how many packets each host gave up.
+fn print_all_given_up<W: Write>(
+    output: &mut W,
+    script: &Script,
+    hosts: &[Host<'static, Station>],
+) -> Result<()> {
+    for (line, host) in script.hosts.iter().zip(hosts.iter()) {
+        print_given_up(output, &line.name, host.owner.given_up())?;
+    }
+    Ok(())
+}
+
+/// Prints the frames by host and kind.
+fn print_all_kinds<W: Write>(output: &mut W, script: &Script, counts: &Counts) -> Result<()> {
+    writeln!(
+        output,
+        "frames                                sent  received"
+    )?;
+    for (i, line) in script.hosts.iter().enumerate() {
+        if let (Some(sent), Some(received)) = (counts.sent.get(i), counts.received.get(i)) {
+            print_frames_of(output, &line.name, sent, received)?;
+        }
+    }
+    Ok(())
+}
+
+/// Prints how many packets a host gave up, if it gave up some.
+fn print_given_up<W: Write>(output: &mut W, name: &str, given_up: u64) -> Result<()> {
+    if given_up != 0 {
+        writeln!(output, "given up by {name}: {given_up}")?;
+    }
+    Ok(())
+}
+
+/// Prints the frames of a host by their kinds.
+fn print_frames_of<W: Write>(
+    output: &mut W,
+    host: &str,
+    sent: &ByKind,
+    received: &ByKind,
+) -> Result<()> {
+    for kind in Kind::ALL {
+        print_kind(output, host, kind.name(), sent.of(kind), received.of(kind))?;
+    }
+    Ok(())
+}
+
+/// Prints how many frames of a kind a host sent and received, if there were some.
+fn print_kind<W: Write>(
+    output: &mut W,
+    host: &str,
+    kind: &str,
+    sent: u64,
+    received: u64,
+) -> Result<()> {
+    if sent != 0 || received != 0 {
+        writeln!(output, "  {host:<8} {kind:<24} {sent:>7}  {received:>8}")?;
+    }
+    Ok(())
+}
+
+/// Prints what the link did.
+fn print_link<W: Write>(output: &mut W, counts: &Counts) -> Result<()> {
     let (copies, lost, repeated) = (counts.copies, counts.lost, counts.repeated);
-    let (changed, dropped) = (counts.changed, counts.dropped);
+    let (changed, dropped, strange) = (counts.changed, counts.dropped, counts.strange);
     writeln!(
         output,
         "link: {copies} copies, {lost} lost, {repeated} repeated, {changed} changed; {dropped} frames dropped"
     )?;
-    if counts.strange != 0 {
+    if strange != 0 {
         writeln!(
             output,
-            "datagrams that no socket of the script sent: {}",
-            counts.strange
+            "datagrams that no socket of the script sent: {strange}"
         )?;
     }
-    let raw = script
-        .hosts
-        .iter()
-        .zip(hosts.iter())
-        .find(|pair| pair.1.owner.writes_udp);
-    match raw {
-        Some((line, _)) => writeln!(
-            output,
-            "premises: not met, {} has a raw socket for UDP",
-            line.name
-        )?,
-        None if !script.frames.is_empty() => {
-            writeln!(output, "premises: not met, frames come from outside")?;
+    Ok(())
+}
+
+/// Prints whether the premises of the law are met: each datagram that a socket gets was sent by a socket.
+fn print_premises<W: Write>(output: &mut W, script: &Script, counts: &Counts) -> Result<()> {
+    match writer_of_udp(script) {
+        Some(host) => {
+            let name = script.name_of(host);
+            writeln!(output, "premises: not met, {name} has a raw socket for UDP")?;
         }
-        None if counts.changed != 0 => {
-            writeln!(output, "premises: not met, frames are changed on the way")?;
-        }
-        None => writeln!(output, "premises: met")?,
+        None => writeln!(output, "premises: {}", premises(script, counts))?,
     }
     Ok(())
+}
+
+/// The first host with a raw socket for UDP.
+fn writer_of_udp(script: &Script) -> Option<usize> {
+    let mut first = None;
+    for packet in script.packets.iter() {
+        if may_be_udp(&packet.octets) {
+            first = Some(packet.host.min(first.unwrap_or(usize::MAX)));
+        }
+    }
+    first
+}
+
+/// Whether the premises are met otherwise.
+fn premises(script: &Script, counts: &Counts) -> &'static str {
+    if !script.frames.is_empty() {
+        "not met, frames come from outside"
+    } else if counts.changed != 0 {
+        "not met, frames are changed on the way"
+    } else {
+        "met"
+    }
 }

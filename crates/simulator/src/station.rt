@@ -1,16 +1,17 @@
 //! A host with its sockets, and the user of these.
 use crate::simulation::instant;
 use anyhow::{Result, bail};
-use arrayvec::ArrayVec;
 use egress_schedule::Schedule;
 use host::drive::Owner;
 use host::link::Host;
-use interface::{Config, Interface};
+use interface::{Capacities, Config, Interface};
 use ip_wire::{HardwareAddress, IpAddress, IpProtocol, IpVersion};
 use net_base::MemoryDevice;
 use net_base::phy::{ChecksumCapabilities, DeviceCapabilities, Medium};
 use net_base::time::{Duration, Instant};
-use simulation_script::script::{HostLine, Script};
+use simulation_script::script::{
+    Flow, HostLine, MAX_ADDRESSES, MAX_GROUPS, Ping, RawPacket, Rooms, Script,
+};
 use simulation_streams::connections::Connections;
 use socket_set::{SocketHandle, SocketSet};
 use sockets::{IpEndpoint, IpListenEndpoint, Queue, icmp, raw, udp};
@@ -102,33 +103,63 @@ pub struct Attempt {
     pub is_queued: bool,
 }
 
+/// The datagrams of a flow that are queued one by one.
+#[derive(Clone, Copy)]
+pub struct Datagrams {
+    // The number of the flow.
+    flow: u32,
+    socket: SocketHandle,
+    remote: IpEndpoint,
+    // The length of a payload.
+    size: usize,
+    // How many it has tried to queue.
+    tried: u32,
+}
+
+impl Datagrams {
+    /// Queues the next one, if its socket has room.
+    fn queue_next(&mut self, alloc: Global, sockets: &mut SocketSet<'_>) -> Result<Attempt> {
+        let number = next_number(&mut self.tried);
+        let payload = payload_of(alloc, self.flow, number, self.size)?;
+        Ok(Attempt {
+            traffic: Traffic::Flow(self.flow),
+            number,
+            is_queued: queue_datagram(sockets, self.socket, self.remote, &payload),
+        })
+    }
+}
+
+/// The echo requests of a line that are queued one by one.
+#[derive(Clone, Copy)]
+pub struct Requests {
+    // The number of the line.
+    ping: u32,
+    socket: SocketHandle,
+    remote: IpAddress,
+    // How many it has tried to queue.
+    tried: u32,
+}
+
+impl Requests {
+    /// Queues the next one, if its socket has room.
+    fn queue_next(&mut self, alloc: Global, sockets: &mut SocketSet<'_>) -> Result<Attempt> {
+        let number = next_number(&mut self.tried);
+        let message = request_of(alloc, &self.remote, self.ping, number)?;
+        Ok(Attempt {
+            traffic: Traffic::Ping(self.ping),
+            number,
+            is_queued: queue_message(sockets, self.socket, self.remote, &message),
+        })
+    }
+}
+
 /// What the owner of sockets may have to do.
 #[derive(Drop)]
 pub enum Task {
     /// It queues the next datagram of a flow.
-    Datagram {
-        /// The number of the flow.
-        flow: u32,
-        /// Its socket.
-        socket: SocketHandle,
-        /// Where it goes.
-        remote: IpEndpoint,
-        /// The length of its payload.
-        size: usize,
-        /// How many it has tried to queue.
-        tried: u32,
-    },
+    Flow(Datagrams),
     /// It queues the next echo request of a line.
-    Ping {
-        /// The number of the line.
-        ping: u32,
-        /// Its socket.
-        socket: SocketHandle,
-        /// Where it goes.
-        remote: IpAddress,
-        /// How many it has tried to queue.
-        tried: u32,
-    },
+    Ping(Requests),
     /// It queues a packet in a raw socket.
     Packet {
         /// The socket.
@@ -166,6 +197,18 @@ pub struct Received {
     pub named: Option<(u32, u32)>,
 }
 
+impl Received {
+    /// A datagram that came to a port.
+    fn of(port: u16, remote: IpEndpoint, payload: &[u8]) -> Received {
+        Received {
+            port,
+            remote,
+            size: payload.len(),
+            named: name_in(payload),
+        }
+    }
+}
+
 /// The user of a host's sockets.
 #[derive(Drop)]
 pub struct Station {
@@ -186,8 +229,6 @@ pub struct Station {
     pub replies: Vec<(u32, u32)>,
     /// What it tried to queue in the last turn, if it did.
     pub attempt: Option<Attempt>,
-    /// Whether it has a raw socket that may send UDP.
-    pub writes_udp: bool,
     /// Whether memory was refused.
     pub lacks_memory: bool,
 }
@@ -209,6 +250,22 @@ impl Owner for Station {
 }
 
 impl Station {
+    /// An owner without sockets.
+    fn new(alloc: Global) -> Station {
+        Station {
+            alloc,
+            sockets: Vec::new(alloc),
+            pings: Vec::new(alloc),
+            schedule: None,
+            connections: None,
+            tasks: Vec::new(alloc),
+            received: Vec::new(alloc),
+            replies: Vec::new(alloc),
+            attempt: None,
+            lacks_memory: false,
+        }
+    }
+
     /// How many sockets it has at most.
     fn count_sockets(&self) -> usize {
         let of_connections = if self.connections.is_some() { 4 } else { 0 };
@@ -219,6 +276,11 @@ impl Station {
     /// Whether rounds of polls are between two turns of it.
     pub fn has_schedule(&self) -> bool {
         self.schedule.is_some()
+    }
+
+    /// Whether it listens or sends streams.
+    pub fn has_connections(&self) -> bool {
+        self.connections.is_some()
     }
 
     /// How many packets its schedule gave up.
@@ -271,11 +333,8 @@ impl Station {
 
     /// Takes the datagrams that UDP sockets received, and sends some back.
     fn collect_datagrams(&mut self, sockets: &mut SocketSet<'_>) -> Result<()> {
-        for i in 0..self.sockets.len() {
-            let PortSocket { handle, is_echo } = self.sockets[i];
-            if let Some(socket) = sockets.get_mut::<udp::Socket<'_>>(handle) {
-                take_received(self.alloc, socket, is_echo, &mut self.received)?;
-            }
+        for socket in self.sockets.iter() {
+            take_datagrams(self.alloc, socket, sockets, &mut self.received)?;
         }
         self.expect_long_packets();
         Ok(())
@@ -283,11 +342,8 @@ impl Station {
 
     /// Takes the echo replies that sockets received.
     fn collect_replies(&mut self, sockets: &mut SocketSet<'_>) -> Result<()> {
-        for i in 0..self.pings.len() {
-            let PingSocket { handle, ping } = self.pings[i];
-            if let Some(socket) = sockets.get_mut::<icmp::Socket<'_>>(handle) {
-                take_replies(socket, ping, &mut self.replies)?;
-            }
+        for socket in self.pings.iter() {
+            take_replies(socket, sockets, &mut self.replies)?;
         }
         Ok(())
     }
@@ -301,23 +357,56 @@ impl Station {
 
     /// Does a task.
     fn do_task(&mut self, number: usize, sockets: &mut SocketSet<'_>) {
-        self.attempt = None;
         self.expect_long_packets();
-        let Some(task) = self.tasks.get_mut(number) else {
-            return;
-        };
-        match do_task(self.alloc, task, sockets) {
+        match self.try_task(number, sockets) {
             Ok(attempt) => self.attempt = attempt,
             Err(_) => self.lacks_memory = true,
         }
     }
+
+    /// Does a task, and returns what it tried to queue.
+    fn try_task(&mut self, number: usize, sockets: &mut SocketSet<'_>) -> Result<Option<Attempt>> {
+        match self.tasks.get_mut(number) {
+            Some(task) => do_task(self.alloc, task, sockets),
+            None => Ok(None),
+        }
+    }
 }
 
-/// Takes the datagrams of one socket, and sends each back from it if it `is_echo`.
-fn take_received(
+/// Takes the datagrams of one socket, and sends some back.
+fn take_datagrams(
+    alloc: Global,
+    place: &PortSocket,
+    sockets: &mut SocketSet<'_>,
+    received: &mut Vec<Received>,
+) -> Result<()> {
+    let Some(socket) = sockets.get_mut::<udp::Socket<'_>>(place.handle) else {
+        return Ok(());
+    };
+    if place.is_echo {
+        send_back(alloc, socket, received)
+    } else {
+        take_received(socket, received)
+    }
+}
+
+/// Takes the datagrams of one socket.
+fn take_received(socket: &mut udp::Socket<'_>, received: &mut Vec<Received>) -> Result<()> {
+    let port = socket.endpoint().port;
+    for _ in 0..MOST_COLLECTED {
+        let Some((remote, payload)) = socket.recv() else {
+            break;
+        };
+        received.push(Received::of(port, *remote, payload))?;
+        socket.done();
+    }
+    Ok(())
+}
+
+/// Takes the datagrams of one socket, and sends each back from it.
+fn send_back(
     alloc: Global,
     socket: &mut udp::Socket<'_>,
-    is_echo: bool,
     received: &mut Vec<Received>,
 ) -> Result<()> {
     let port = socket.endpoint().port;
@@ -326,26 +415,28 @@ fn take_received(
             break;
         };
         let remote = *remote;
-        received.push(Received {
-            port,
-            remote,
-            size: payload.len(),
-            named: name_in(payload),
-        })?;
-        let mut octets = Vec::new(alloc);
-        if is_echo {
-            octets.extend_from_slice(payload)?;
-        }
+        received.push(Received::of(port, remote, payload))?;
+        let octets = Vec::from_slice(alloc, payload)?;
         socket.done();
-        if is_echo {
-            let _ = socket.try_send(remote, &octets);
-        }
+        let _ = socket.try_send(remote, &octets);
     }
     Ok(())
 }
 
-/// Takes the messages of one socket, and notes the number of each echo reply (RFC 792, RFC 4443 4.2).
+/// Takes the messages of one socket, and notes the number of each echo reply.
 fn take_replies(
+    place: &PingSocket,
+    sockets: &mut SocketSet<'_>,
+    replies: &mut Vec<(u32, u32)>,
+) -> Result<()> {
+    match sockets.get_mut::<icmp::Socket<'_>>(place.handle) {
+        Some(socket) => note_replies(socket, place.ping, replies),
+        None => Ok(()),
+    }
+}
+
+/// Takes the messages of one socket, and notes the number of each echo reply.
+fn note_replies(
     socket: &mut icmp::Socket<'_>,
     ping: u32,
     replies: &mut Vec<(u32, u32)>,
@@ -354,54 +445,47 @@ fn take_replies(
         let Some((_, message)) = socket.recv() else {
             break;
         };
-        if let [0 | 129, _, _, _, _, _, high, low, ..] = message {
-            replies.push((ping, u32::from(u16::from_be_bytes([*high, *low]))))?;
+        if let Some(number) = reply_in(message) {
+            replies.push((ping, number))?;
         }
         socket.done();
     }
     Ok(())
 }
 
+/// The number of an echo reply, if a message is one (RFC 792, RFC 4443 4.2).
+fn reply_in(message: &[u8]) -> Option<u32> {
+    match message {
+        [0 | 129, _, _, _, _, _, high, low, ..] => {
+            Some(u32::from(u16::from_be_bytes([*high, *low])))
+        }
+        _ => None,
+    }
+}
+
 /// Does a task, and returns what it tried to queue, if it is something of a flow or of a line of echo requests.
 fn do_task(alloc: Global, task: &mut Task, sockets: &mut SocketSet<'_>) -> Result<Option<Attempt>> {
     match task {
-        Task::Datagram {
-            flow,
-            socket,
-            remote,
-            size,
-            tried,
-        } => {
-            let number = *tried;
-            let payload = payload_of(alloc, *flow, number, *size)?;
-            *tried = number.saturating_add(1);
-            Ok(Some(Attempt {
-                traffic: Traffic::Flow(*flow),
-                number,
-                is_queued: queue_datagram(sockets, *socket, *remote, &payload),
-            }))
-        }
-        Task::Ping {
-            ping,
-            socket,
-            remote,
-            tried,
-        } => {
-            let number = *tried;
-            let message = request_of(alloc, remote, *ping, number)?;
-            *tried = number.saturating_add(1);
-            Ok(Some(Attempt {
-                traffic: Traffic::Ping(*ping),
-                number,
-                is_queued: queue_message(sockets, *socket, *remote, &message),
-            }))
-        }
+        Task::Flow(datagrams) => Ok(Some(datagrams.queue_next(alloc, sockets)?)),
+        Task::Ping(requests) => Ok(Some(requests.queue_next(alloc, sockets)?)),
         Task::Packet { socket, octets } => {
-            if let Some(socket) = sockets.get_mut::<raw::Socket<'_>>(*socket) {
-                let _ = socket.send((), octets);
-            }
+            queue_packet(sockets, *socket, octets);
             Ok(None)
         }
+    }
+}
+
+/// A number, which is one more afterwards.
+fn next_number(tried: &mut u32) -> u32 {
+    let number = *tried;
+    *tried = number.saturating_add(1);
+    number
+}
+
+/// Queues an IP packet, if its socket has room.
+fn queue_packet(sockets: &mut SocketSet<'_>, handle: SocketHandle, octets: &[u8]) {
+    if let Some(socket) = sockets.get_mut::<raw::Socket<'_>>(handle) {
+        let _ = socket.send((), octets);
     }
 }
 
@@ -471,18 +555,11 @@ fn octet_of(flow: u32, number: u32, place: usize) -> u8 {
 
 /// The flow and the number that a payload names, if it is as flows make it.
 fn name_in(payload: &[u8]) -> Option<(u32, u32)> {
-    let flow = u32::from_be_bytes([
-        *payload.get(0)?,
-        *payload.get(1)?,
-        *payload.get(2)?,
-        *payload.get(3)?,
-    ]);
-    let number = u32::from_be_bytes([
-        *payload.get(4)?,
-        *payload.get(5)?,
-        *payload.get(6)?,
-        *payload.get(7)?,
-    ]);
+    let [a, b, c, d, e, f, g, h, ..] = payload else {
+        return None;
+    };
+    let flow = u32::from_be_bytes([*a, *b, *c, *d]);
+    let number = u32::from_be_bytes([*e, *f, *g, *h]);
     for i in 8..payload.len() {
         if payload[i] != octet_of(flow, number, i) {
             return None;
@@ -491,93 +568,172 @@ fn name_in(payload: &[u8]) -> Option<(u32, u32)> {
     Some((flow, number))
 }
 
-/// Makes the host of a line, with its number.
-pub fn new_host(alloc: Global, script: &Script, number: usize) -> Result<Host<'static, Station>> {
-    let Some(line) = script.hosts.get(number) else {
-        bail!("no host");
-    };
-    let mut device = MemoryDevice::new(alloc, CAPABILITIES);
-    let mut config = Config::new(HardwareAddress::Ethernet(line.hardware_addr));
-    config.random_seed = number as u64;
-    config.slaac = line.slaac;
-    let Ok(mut interface) = Interface::new(config, &mut device, Instant::ZERO) else {
-        bail!("{}: its Ethernet address is a group's", line.name);
-    };
-    configure(&mut interface, line)?;
-    let mut sockets = SocketSet::new(Vec::new(alloc));
-    let mut owner = Station {
-        alloc,
-        sockets: Vec::new(alloc),
-        pings: Vec::new(alloc),
-        schedule: None,
-        connections: None,
-        tasks: Vec::new(alloc),
-        received: Vec::new(alloc),
-        replies: Vec::new(alloc),
-        attempt: None,
-        writes_udp: false,
-        lacks_memory: false,
-    };
-    for port in line.ports.as_slice() {
-        let handle = add_udp(alloc, &mut sockets, *port)?;
-        let is_echo = line.echoes.as_slice().contains(port);
-        owner.sockets.push(PortSocket { handle, is_echo })?;
-    }
-    add_flows(script, number, line, &mut owner)?;
-    add_pings(alloc, script, number, &mut owner, &mut sockets)?;
-    add_packets(alloc, script, number, &mut owner, &mut sockets)?;
-    add_connections(alloc, script, number, &mut owner, &mut sockets)?;
-    if let Some(patience) = script.patience {
-        let count = owner.count_sockets();
-        owner.schedule = Some(Schedule::new(alloc, count, Duration::from_micros(patience))?);
-    }
-    Ok(Host {
-        interface,
-        device,
-        sockets,
-        owner,
-    })
-}
-
-/// Gives an owner its connections, if its host listens or sends streams.
-fn add_connections(
+/// Makes the host of a line, with its number. It has no sockets yet.
+pub fn new_host(
     alloc: Global,
     script: &Script,
     number: usize,
-    owner: &mut Station,
-    sockets: &mut SocketSet<'static>,
-) -> Result<()> {
-    if let Some(line) = script.hosts.get(number)
-        && script.has_connections(number)
-    {
-        let connections = Connections::new(alloc, script, number, line, sockets)?;
-        owner.connections = Some(Box::new(alloc, connections)?);
-    }
-    Ok(())
+    line: &HostLine,
+) -> Result<Host<'static, Station>> {
+    let mut device = MemoryDevice::new(alloc, CAPABILITIES);
+    let interface = interface_of(alloc, script, number, line, &mut device)?;
+    Ok(Host {
+        interface,
+        device,
+        sockets: SocketSet::new(Vec::new(alloc)),
+        owner: Station::new(alloc),
+    })
+}
+
+/// Makes the interface of a host. By the lines of a script only the memory may be lacking.
+fn interface_of(
+    alloc: Global,
+    script: &Script,
+    number: usize,
+    line: &HostLine,
+    device: &mut MemoryDevice,
+) -> Result<Interface> {
+    let mut config = Config::new(HardwareAddress::Ethernet(line.hardware_addr));
+    config.random_seed = number as u64;
+    config.slaac = line.slaac;
+    let Ok(mut interface) = Interface::new(config, device, Instant::ZERO) else {
+        bail!("{}: its Ethernet address is a group's", line.name);
+    };
+    prepare(alloc, &mut interface, script.rooms_of(Some(number)), line)?;
+    Ok(interface)
+}
+
+/// Gives an interface its room, its addresses, routers and groups.
+fn prepare(alloc: Global, interface: &mut Interface, rooms: Rooms, line: &HostLine) -> Result<()> {
+    make_room(alloc, interface, rooms)?;
+    configure(interface, line)
 }
 
 /// Gives an interface its addresses, routers and groups.
 fn configure(interface: &mut Interface, line: &HostLine) -> Result<()> {
-    let mut addresses = ArrayVec::new();
-    let _ = addresses.try_extend_from_slice(line.addresses.as_slice());
-    if interface.update_ip_addrs(move |_| addresses).is_err() {
-        bail!("{}: an address is a group's", line.name);
+    if !has_configured(interface, line) {
+        bail!("{}: its addresses or groups are refused", line.name);
     }
+    Ok(())
+}
+
+/// Makes room for neighbours, for datagrams in fragments, and for as many groups as a host may join beside those of its
+/// addresses.
+fn make_room(alloc: Global, interface: &mut Interface, rooms: Rooms) -> Result<()> {
+    interface.set_capacities(Capacities {
+        groups: MAX_GROUPS + MAX_ADDRESSES,
+        ..Capacities::default()
+    });
+    let neighbors = Vec::with_capacity(alloc, rooms.neighbors)?;
+    interface.set_neighbor_storage(neighbors, Vec::with_capacity(alloc, rooms.neighbors)?);
+    let keys = Vec::with_capacity(alloc, rooms.fragmented)?;
+    interface.set_fragment_storage(keys, Vec::with_capacity(alloc, rooms.fragmented)?);
+    Ok(())
+}
+
+/// Gives an interface its addresses, routers and groups, and returns whether it took all.
+fn has_configured(interface: &mut Interface, line: &HostLine) -> bool {
+    let mut has_all = interface.set_ip_addrs(line.addresses.as_slice()).is_ok();
     for gateway in line.gateways.as_slice() {
-        let outcome = match gateway {
-            IpAddress::Ipv4(router) => interface.routes_mut().add_default_ipv4_route(*router),
-            IpAddress::Ipv6(router) => interface.routes_mut().add_default_ipv6_route(*router),
-        };
-        if outcome.is_err() {
-            bail!("{}: too many routers", line.name);
-        }
+        has_all = add_gateway(interface, gateway) && has_all;
     }
     for group in line.groups.as_slice() {
-        if interface.join_multicast_group(*group).is_err() {
-            bail!("{}: {group} can't be joined", line.name);
+        has_all = interface.join_multicast_group(*group).is_ok() && has_all;
+    }
+    has_all
+}
+
+/// Sets the router of the default route of its family, and returns whether there was room.
+fn add_gateway(interface: &mut Interface, gateway: &IpAddress) -> bool {
+    match gateway {
+        IpAddress::Ipv4(router) => interface
+            .routes_mut()
+            .add_default_ipv4_route(*router)
+            .is_ok(),
+        IpAddress::Ipv6(router) => interface
+            .routes_mut()
+            .add_default_ipv6_route(*router)
+            .is_ok(),
+    }
+}
+
+/// Adds the sockets of a host to a set, and gives their owner all that the host does by a script.
+pub fn add_all(
+    alloc: Global,
+    script: &Script,
+    number: usize,
+    line: &HostLine,
+    owner: &mut Station,
+    sockets: &mut SocketSet<'static>,
+) -> Result<()> {
+    add_ports(alloc, line, owner, sockets)?;
+    add_tasks(alloc, script, number, line, owner, sockets)?;
+    if script.has_connections(number) {
+        owner.connections = Some(connections_of(alloc, script, number, line, sockets)?);
+    }
+    if let Some(patience) = script.patience {
+        owner.schedule = Some(schedule_of(alloc, owner.count_sockets(), patience)?);
+    }
+    Ok(())
+}
+
+/// Adds a UDP socket for each port of a host.
+fn add_ports(
+    alloc: Global,
+    line: &HostLine,
+    owner: &mut Station,
+    sockets: &mut SocketSet<'static>,
+) -> Result<()> {
+    for port in line.ports.as_slice() {
+        let handle = add_udp(alloc, sockets, *port)?;
+        let is_echo = line.echoes.as_slice().contains(port);
+        owner.sockets.push(PortSocket { handle, is_echo })?;
+    }
+    Ok(())
+}
+
+/// Gives an owner the tasks of its host: of flows, of echo requests, and of packets.
+fn add_tasks(
+    alloc: Global,
+    script: &Script,
+    number: usize,
+    line: &HostLine,
+    owner: &mut Station,
+    sockets: &mut SocketSet<'static>,
+) -> Result<()> {
+    for (i, flow) in script.flows.iter().enumerate() {
+        if flow.host == number {
+            add_flow(i, flow, line, owner)?;
+        }
+    }
+    for (i, ping) in script.pings.iter().enumerate() {
+        if ping.host == number {
+            add_ping(alloc, i, ping, owner, sockets)?;
+        }
+    }
+    for packet in script.packets.iter() {
+        if packet.host == number {
+            add_packet(alloc, packet, owner, sockets)?;
         }
     }
     Ok(())
+}
+
+/// The connections of a host that listens or sends streams.
+fn connections_of(
+    alloc: Global,
+    script: &Script,
+    number: usize,
+    line: &HostLine,
+    sockets: &mut SocketSet<'static>,
+) -> Result<Box<Connections>> {
+    let connections = Connections::new(alloc, script, number, line, sockets)?;
+    Ok(Box::new(alloc, connections)?)
+}
+
+/// A schedule of so many sockets, which give up a packet after so many microseconds.
+fn schedule_of(alloc: Global, count: usize, patience: u64) -> Result<Schedule> {
+    Ok(Schedule::new(alloc, count, Duration::from_micros(patience))?)
 }
 
 /// Adds a UDP socket at a port of any address.
@@ -589,92 +745,112 @@ fn add_udp(alloc: Global, sockets: &mut SocketSet<'static>, port: u16) -> Result
     Ok(sockets.add(socket)?)
 }
 
-/// Gives an owner the tasks of its flows, in the order of the script.
-fn add_flows(script: &Script, number: usize, line: &HostLine, owner: &mut Station) -> Result<()> {
-    for i in 0..script.flows.len() {
-        let flow = script.flows[i];
-        if flow.host == number {
-            let place = line
-                .ports
-                .as_slice()
-                .iter()
-                .position(|port| *port == flow.port);
-            let Some(socket) = place.and_then(|place| owner.sockets.get(place)) else {
-                bail!("no socket");
-            };
-            let task = Task::Datagram {
-                flow: u32::try_from(i).unwrap_or(u32::MAX),
-                socket: socket.handle,
-                remote: flow.remote,
-                size: flow.size,
-                tried: 0,
-            };
-            owner.tasks.push(task)?;
-        }
-    }
+/// Gives an owner the task of a flow, by the flow's number.
+fn add_flow(number: usize, flow: &Flow, line: &HostLine, owner: &mut Station) -> Result<()> {
+    let ports = line.ports.as_slice();
+    let place = ports.iter().position(|port| *port == flow.port);
+    let Some(socket) = place.and_then(|place| owner.sockets.get(place)) else {
+        bail!("no socket");
+    };
+    owner.tasks.push(Task::Flow(Datagrams {
+        flow: u32::try_from(number).unwrap_or(u32::MAX),
+        socket: socket.handle,
+        remote: flow.remote,
+        size: flow.size,
+        tried: 0,
+    }))?;
     Ok(())
 }
 
-/// Gives an owner the tasks of its echo requests, each with a socket for its identifier.
-fn add_pings(
+/// Gives an owner the task of a line's echo requests, by the line's number, with a socket for its identifier.
+fn add_ping(
     alloc: Global,
-    script: &Script,
     number: usize,
+    line: &Ping,
     owner: &mut Station,
     sockets: &mut SocketSet<'static>,
 ) -> Result<()> {
-    for i in 0..script.pings.len() {
-        let line = script.pings[i];
-        if line.host == number {
-            let ping = u32::try_from(i).unwrap_or(u32::MAX);
-            let endpoint = icmp::Endpoint::Ident(identifier_of(ping));
-            let rx = Queue::new(alloc, QUEUE_PACKETS, QUEUE_OCTETS)?;
-            let tx = Queue::new(alloc, QUEUE_PACKETS, QUEUE_OCTETS)?;
-            let socket: icmp::Socket<'static> = icmp::SocketOf::new(endpoint, rx, tx);
-            let handle = sockets.add(socket)?;
-            owner.pings.push(PingSocket { handle, ping })?;
-            owner.tasks.push(Task::Ping {
-                ping,
-                socket: handle,
-                remote: line.remote,
-                tried: 0,
-            })?;
-        }
-    }
+    let ping = u32::try_from(number).unwrap_or(u32::MAX);
+    let socket = add_icmp(alloc, sockets, ping)?;
+    owner.pings.push(PingSocket {
+        handle: socket,
+        ping,
+    })?;
+    owner.tasks.push(Task::Ping(Requests {
+        ping,
+        socket,
+        remote: line.remote,
+        tried: 0,
+    }))?;
     Ok(())
 }
 
-/// Gives an owner the tasks of its packets, each with a raw socket of the packet's version and protocol.
-fn add_packets(
+/// Adds a socket for the replies to a line's echo requests.
+fn add_icmp(alloc: Global, sockets: &mut SocketSet<'static>, ping: u32) -> Result<SocketHandle> {
+    let endpoint = icmp::Endpoint::Ident(identifier_of(ping));
+    let rx = Queue::new(alloc, QUEUE_PACKETS, QUEUE_OCTETS)?;
+    let tx = Queue::new(alloc, QUEUE_PACKETS, QUEUE_OCTETS)?;
+    let socket: icmp::Socket<'static> = icmp::SocketOf::new(endpoint, rx, tx);
+    Ok(sockets.add(socket)?)
+}
+
+/// Gives an owner the task of a packet, with a raw socket of the packet's version and protocol.
+fn add_packet(
     alloc: Global,
-    script: &Script,
-    number: usize,
+    packet: &RawPacket,
     owner: &mut Station,
     sockets: &mut SocketSet<'static>,
 ) -> Result<()> {
-    for packet in script.packets.iter() {
-        if packet.host == number {
-            let (version, protocol) = kind_of(&packet.octets);
-            let rx = Queue::new(alloc, QUEUE_PACKETS, QUEUE_OCTETS)?;
-            let tx = Queue::new(alloc, QUEUE_PACKETS, QUEUE_OCTETS)?;
-            let raw: raw::Socket<'static> = raw::SocketOf::new(version, protocol, rx, tx);
-            let socket = sockets.add(raw)?;
-            let octets = packet.octets.clone()?;
-            owner.tasks.push(Task::Packet { socket, octets })?;
-            if protocol.number() == 17 || protocol.number() == 0 {
-                owner.writes_udp = true;
-            }
-        }
-    }
+    let (version, protocol) = kind_of(&packet.octets);
+    let socket = add_raw(alloc, sockets, version, protocol)?;
+    let octets = packet.octets.clone()?;
+    owner.tasks.push(Task::Packet { socket, octets })?;
     Ok(())
+}
+
+/// Adds a raw socket of a version and a protocol.
+fn add_raw(
+    alloc: Global,
+    sockets: &mut SocketSet<'static>,
+    version: IpVersion,
+    protocol: IpProtocol,
+) -> Result<SocketHandle> {
+    let rx = Queue::new(alloc, QUEUE_PACKETS, QUEUE_OCTETS)?;
+    let tx = Queue::new(alloc, QUEUE_PACKETS, QUEUE_OCTETS)?;
+    let raw: raw::Socket<'static> = raw::SocketOf::new(version, protocol, rx, tx);
+    Ok(sockets.add(raw)?)
+}
+
+/// Whether a raw socket for a packet may send UDP: it is for UDP, or for packets with hop-by-hop options.
+pub fn may_be_udp(packet: &[u8]) -> bool {
+    matches!(protocol_of(packet), 0 | 17)
+}
+
+/// The number of the protocol of a packet.
+fn protocol_of(packet: &[u8]) -> u8 {
+    if is_ipv6(packet) {
+        octet(packet, 6)
+    } else {
+        octet(packet, 9)
+    }
+}
+
+/// Whether a packet's version is 6.
+fn is_ipv6(packet: &[u8]) -> bool {
+    octet(packet, 0) >> 4 == 6
 }
 
 /// The version and the protocol of a packet.
 fn kind_of(packet: &[u8]) -> (IpVersion, IpProtocol) {
-    let octet = |place: usize| packet.get(place).copied().unwrap_or(0);
-    if octet(0) >> 4 == 6 {
-        (IpVersion::Ipv6, IpProtocol::from_number(octet(6)))
+    let version = if is_ipv6(packet) {
+        IpVersion::Ipv6
     } else {
-        (IpVersion::Ipv4, IpProtocol::from_number(octet(9)))
-    }
+        IpVersion::Ipv4
+    };
+    (version, IpProtocol::from_number(protocol_of(packet)))
+}
+
+/// An octet of a packet; 0 after its end.
+fn octet(packet: &[u8], place: usize) -> u8 {
+    packet.get(place).copied().unwrap_or(0)
 }

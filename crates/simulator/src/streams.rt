@@ -49,22 +49,34 @@ pub fn print_streams<W: Write>(
     if script.streams.is_empty() {
         return Ok(());
     }
-    writeln!(output, "streams")?;
     let receptions = receptions(alloc, script, hosts)?;
+    writeln!(output, "streams")?;
     for (i, stream) in script.streams.iter().enumerate() {
-        let Some(sender) = sender_of(hosts, stream, i) else {
-            continue;
-        };
-        let reception = receptions.get(i).copied().unwrap_or(Reception::NONE);
-        let (name, addr, port) = (
-            script.name_of(stream.host),
-            stream.remote.addr,
-            stream.remote.port,
-        );
-        write!(output, "  {i}: {name} to {addr} port {port}: ")?;
-        print_counts(output, sender, &reception, transmissions.again(i))?;
-        print_course(output, stream, sender, &reception)?;
+        if let Some(sender) = sender_of(hosts, stream, i) {
+            let reception = receptions.get(i).copied().unwrap_or(Reception::NONE);
+            print_ends(output, script.name_of(stream.host), i, stream)?;
+            print_stream(output, stream, sender, &reception, transmissions.again(i))?;
+        }
     }
+    Ok(())
+}
+
+/// Prints what became of a stream, of which so many segments were sent again.
+fn print_stream<W: Write>(
+    output: &mut W,
+    stream: &Stream,
+    sender: &Sender,
+    reception: &Reception,
+    again: u64,
+) -> Result<()> {
+    print_counts(output, sender, reception, again)?;
+    print_course(output, stream, sender, reception)
+}
+
+/// Prints where a stream comes from and goes to.
+fn print_ends<W: Write>(output: &mut W, name: &str, number: usize, stream: &Stream) -> Result<()> {
+    let (addr, port) = (stream.remote.addr, stream.remote.port);
+    write!(output, "  {number}: {name} to {addr} port {port}: ")?;
     Ok(())
 }
 
@@ -90,16 +102,21 @@ fn receptions(
     let mut receptions = vec![in alloc; Reception::NONE; script.streams.len()]?;
     for host in hosts.iter() {
         if let Some(connections) = &host.owner.connections {
-            for receiver in connections.receivers().iter().rev() {
-                if let Some(number) = stream_of(script, receiver)
-                    && let Some(reception) = receptions.get_mut(number)
-                {
-                    *reception = Reception::of(receiver);
-                }
-            }
+            note_receivers(script, connections.receivers(), &mut receptions);
         }
     }
     Ok(receptions)
+}
+
+/// Notes what a host's receivers read.
+fn note_receivers(script: &Script, receivers: &[Receiver], receptions: &mut Vec<Reception>) {
+    for receiver in receivers.iter().rev() {
+        if let Some(number) = stream_of(script, receiver)
+            && let Some(reception) = receptions.get_mut(number)
+        {
+            *reception = Reception::of(receiver);
+        }
+    }
 }
 
 /// The number of the stream that a receiver got, if it is one of the script.
@@ -123,10 +140,9 @@ fn print_counts<W: Write>(
     let (written, received) = (sender.written, reception.received);
     write!(output, "{written} octets sent, {received} received, ")?;
     match reception.wrong {
-        Some(place) => write!(output, "octet {place} wrong, ")?,
-        None => write!(output, "none wrong, ")?,
+        Some(place) => writeln!(output, "octet {place} wrong, {again} segments sent again")?,
+        None => writeln!(output, "none wrong, {again} segments sent again")?,
     }
-    writeln!(output, "{again} segments sent again")?;
     Ok(())
 }
 
@@ -137,29 +153,49 @@ fn print_course<W: Write>(
     sender: &Sender,
     reception: &Reception,
 ) -> Result<()> {
-    let begin = Time(stream.start);
     if let Some(end) = reception.ended_at {
-        let took = end.saturating_sub(stream.start);
-        let rate = rate_of(reception.received, took);
-        let end = Time(end);
-        writeln!(
-            output,
-            "     from {begin} to {end}: {took} us, {rate} octets a second"
-        )?;
+        print_end(output, stream.start, end, reception.received)?;
     }
     match sender.stage {
-        Stage::Waits => writeln!(output, "     not begun")?,
-        Stage::Unopened(_) => writeln!(output, "     from {begin}: not opened")?,
-        Stage::Failed(ending, time) => {
-            let (how, time) = (text_of(ending), Time(time));
-            writeln!(output, "     from {begin}: {how} at {time}")?;
+        Stage::Waits => print_line(output, "not begun"),
+        Stage::Unopened(_) => print_failure(output, stream.start, "not opened"),
+        Stage::Failed(ending, time) => print_ending(output, stream.start, ending, time),
+        Stage::Writes(_) | Stage::Closed(_) | Stage::Done if reception.ended_at.is_none() => {
+            print_failure(output, stream.start, "not ended")
         }
-        Stage::Writes(_) | Stage::Closed(_) | Stage::Done => {
-            if reception.ended_at.is_none() {
-                writeln!(output, "     from {begin}: not ended")?;
-            }
-        }
+        Stage::Writes(_) | Stage::Closed(_) | Stage::Done => Ok(()),
     }
+}
+
+/// Prints when a stream began and ended, and how fast it was.
+fn print_end<W: Write>(output: &mut W, begin: u64, end: u64, octets: u64) -> Result<()> {
+    let took = end.saturating_sub(begin);
+    let rate = rate_of(octets, took);
+    let (begin, end) = (Time(begin), Time(end));
+    writeln!(
+        output,
+        "     from {begin} to {end}: {took} us, {rate} octets a second"
+    )?;
+    Ok(())
+}
+
+/// Prints how a stream that began failed.
+fn print_failure<W: Write>(output: &mut W, begin: u64, how: &str) -> Result<()> {
+    let begin = Time(begin);
+    writeln!(output, "     from {begin}: {how}")?;
+    Ok(())
+}
+
+/// Prints how the connection of a stream ended early, and when.
+fn print_ending<W: Write>(output: &mut W, begin: u64, ending: Ending, time: u64) -> Result<()> {
+    let (begin, how, time) = (Time(begin), text_of(ending), Time(time));
+    writeln!(output, "     from {begin}: {how} at {time}")?;
+    Ok(())
+}
+
+/// Prints what is said of a stream that never began.
+fn print_line<W: Write>(output: &mut W, what: &str) -> Result<()> {
+    writeln!(output, "     {what}")?;
     Ok(())
 }
 
