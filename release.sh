@@ -4,9 +4,10 @@
 #
 #   release.sh FOLDER
 #
-# BUILD_LIBRARY, where it is set, is handed to `make -C c`, as ./over_gate.sh after `rt ci`. It needs the Rattle kit's `rt`,
-# a C compiler, pkg-config and git; for aarch64 Debian's gcc-aarch64-linux-gnu, libc6-dev-arm64-cross and qemu-user; for
-# the crate cargo. What is skipped for want of these is said.
+# BUILD_LIBRARY, where it is set, is handed to `make -C c`, as ./over_gate.sh after `rt ci`; with `--program simulate` behind
+# it, it builds `simulate`, in place of `rt run`. It needs the Rattle kit's `rt`, a C compiler, pkg-config and git; for
+# aarch64 Debian's gcc-aarch64-linux-gnu, libc6-dev-arm64-cross and qemu-user; for the crate cargo. What is skipped for want
+# of these is said.
 set -eu
 cd "$(dirname "$0")"
 mkdir -p "$1"
@@ -38,6 +39,26 @@ discover() {
     cp rust/target/release/examples/discover "$place/bin/"
 }
 
+# Builds `simulate`, and keeps it with what tells of its proof.
+simulate() {
+    built=crates/simulate/out/simulate
+    rm -f "$built"
+    if [ -n "${BUILD_LIBRARY-}" ]; then
+        set -- "cd c && $BUILD_LIBRARY --program simulate"
+    else
+        set -- "cd crates/simulate && ${RT:-rt} run </dev/null"
+    fi
+    c/proof.sh make "$place/bin/simulate" "$built" sh -c "$1"
+    rm "$place/bin/simulate.said"
+}
+
+# The unpacked `simulate` is the one that was proved, and prints of the examples what it has to.
+try_simulate() {
+    c/proof.sh check "$place/bin/simulate"
+    # shellcheck disable=SC2046
+    (cd crates/simulate/data && "$place/bin/simulate" $(cat ../args)) | cmp - crates/simulate/stdout
+}
+
 # TARGET BUILD COMPILER RUN MAKE'S VARIABLES..: builds, packs, unpacks elsewhere and tries the archive of a target.
 archive() {
     target=$1 build=$2 compiler=$3 run=$4
@@ -54,11 +75,13 @@ archive() {
         "$compiler" -O2 -o "$place/bin/$program" "c/examples/$program.c" -I"$place/include" "$place/lib/libiface.a"
     done
     [ "$target" != "$own_target" ] || discover
+    [ "$build" != build ] || simulate
     pack "$name"
     rm -rf "$place"
     tar -C "$work" -xzf "$folder/$name.tar.gz"
     for library in libiface.a libiface_c.a; do c/proof.sh check "$place/lib/$library"; done
     python3 docs/carry.py --check "$place"
+    [ "$build" != build ] || try_simulate
     # shellcheck disable=SC2046
     "$compiler" -o "$work/udp_echo" "$place/examples/udp_echo.c" \
         $(PKG_CONFIG_PATH="$place/lib/pkgconfig" pkg-config --cflags --libs iface)

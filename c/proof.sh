@@ -1,5 +1,5 @@
 #!/bin/sh
-# Builds the proved library, and tells it from one that no proof made.
+# Builds the proved library, or a proved program, and tells it from one that no proof made.
 #
 #   proof.sh make KEPT BUILT COMMAND..   runs COMMAND, which is to build BUILT. If its last verdict is `logic=proved`,
 #                                        BUILT is copied to KEPT, and that line and its checksum to KEPT.proof
@@ -38,7 +38,7 @@ make)
 check)
     [ -r "$kept.proof" ] || refuse "$kept: no proof made it"
     is_proved "$(sed -n 1p "$kept.proof")"
-    [ "$(sed -n 2p "$kept.proof")" = "$(sha256sum <"$kept")" ] || refuse "$kept: it isn't the library that was proved"
+    [ "$(sed -n 2p "$kept.proof")" = "$(sha256sum <"$kept")" ] || refuse "$kept: it isn't what was proved"
     ;;
 seal)
     { sed -n 1p "$kept.proof" && sha256sum <"$3" && sed -n 3p "$kept.proof"; } >"$3.proof"
