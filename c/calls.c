@@ -284,7 +284,7 @@ static void guards(uint8_t on, uint8_t own_addresses) {
     int64_t at = 77;
     size_t n;
     iface_config_init(&config);
-    wants("a guard", config.guard.on == 1 && config.guard.own_addresses == 1 && config.guard.loops == 1 && config.guard.fragments == 0, 1);
+    wants("a guard", config.guard.on == 1 && config.guard.own_addresses == 1 && config.guard.loops == 1 && config.guard.slots == 1 && config.guard.fragments == 0, 1);
     wants("its rates", config.guard.errors.interval == 10000 && config.guard.errors.at_once == 10 && config.guard.strangers_stay == 20000000, 1);
     config.hardware_address[0] = 2, config.hardware_address[5] = 1, config.guard.on = on, config.guard.own_addresses = own_addresses;
     must("host", iface_new(&host, &config));
@@ -739,7 +739,7 @@ static void has_capacities(void) {
     struct iface_config config;
     iface_config_init(&config);
     config.hardware_address[0] = 2, config.hardware_address[5] = 1, config.guard.on = 0;
-    has_room(&config, 8, 8, 16), puts_together(&config, 8);
+    has_room(&config, 8, 8, 16), puts_together(&config, 16);
     config.addresses = 4, config.routes = 0, config.groups = 8, config.fragmented = 0;
     has_room(&config, 4, 4, 8), puts_together(&config, 2);
     config.addresses = 0, config.routes = 1, config.groups = 1, config.fragmented = 1;

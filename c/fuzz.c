@@ -185,7 +185,7 @@ static void some_config(struct iface_config *c) {
     c->sockets = below(4) ? 16 : below(3), c->neighbors = below(2) ? 64 : below(6), c->slaac = (uint8_t)below(2);
     c->frame_len = below(4) ? LONGEST : 589 + below(927), c->patience = below(4) ? c->patience : 0;
     if (below(8) == 0) c->medium = (uint8_t)below(3), c->checksums.udp = (uint8_t)below(5), c->start = (int64_t)word();
-    c->guard.on = (uint8_t)below(4), c->guard.fragments = (uint8_t)below(2), c->guard.longest_error = below(4);
+    c->guard.on = (uint8_t)below(4), c->guard.fragments = (uint8_t)below(2), c->guard.slots = (uint8_t)below(2), c->guard.longest_error = below(4);
     c->guard.defend = below(2) * 10000000, c->guard.strangers_stay = below(2) * 20000000;
     c->guard.turns = (uint8_t)below(2), c->guard.reports = (uint8_t)below(2), c->guard.routers = (uint8_t)below(2);
 }

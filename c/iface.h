@@ -64,7 +64,7 @@ enum iface_code {
 /* The version of this header, an octet each: 0.14.0, and the header's number, which grows with each change of a call or
  * a structure. iface_new refuses a library of another one; a program that compares it with iface_version() before its
  * first call learns of that earlier. */
-#define IFACE_VERSION 0x000e0008u
+#define IFACE_VERSION 0x000e0009u
 
 /* The room that iface_receive and iface_next need for a frame, in octets. */
 #define IFACE_FRAME_ROOM 1514
@@ -177,6 +177,7 @@ struct iface_guard {
                                         one has still to report the same, and no later, or if the query is about 224.0.0.1 or
                                         ff02::1: 1 */
     uint8_t routers;                 /* not 0: an advertisement from which no prefix and no router is learnt leaves the neighbours: 1 */
+    uint8_t slots;                   /* not 0: half of the slots for fragments are kept for known neighbours: 1 */
     uint32_t longest_error;          /* an error may be so many times as long as the frame that it answers; 0 sets no bound: 3 */
     uint32_t defend;                 /* a claim of an own IPv4 address that is dropped is answered by an announcement of it (RFC 5227,
                                         2.4 c), unless one was in so many microseconds before; 0 announces nothing: 0 */
@@ -188,8 +189,8 @@ struct iface_config {
     uint64_t patience;           /* how long a packet waits for a neighbour that doesn't answer, in microseconds, before it
                                     is given up; 0 is for ever, and then one such packet stops its socket */
     uint64_t reassembly_timeout; /* how long fragments of a packet wait for the others, in microseconds: not 0, at most a
-                                    day. As many packets at a time are put together as `fragmented` says, so strangers'
-                                    fragments block the others for so long */
+                                    day. Where no slot is left for another packet, one whose fragments have waited for half a
+                                    second gives way to it, and the guard's `slots` keeps half of them for known neighbours */
     int64_t start;               /* the moment at which the host begins: from 0 to IFACE_LAST_MOMENT */
     uint32_t frame_len;          /* the longest frame of the link in octets, with a header of Ethernet and without its
                                     checksum: 1514 on usual Ethernet */
@@ -204,8 +205,8 @@ struct iface_config {
                                     IPv6 addresses are among them */
     uint32_t prefixes;           /* how many prefixes of routers are kept, at most 8 */
     uint32_t routers;            /* how many routers are kept, at most 8 */
-    uint32_t fragmented;         /* how many packets in fragments are put together at a time, in memory that is taken at once; 0
-                                    is two, without such memory */
+    uint32_t fragmented;         /* how many packets in fragments are put together at a time, each in a slot of memory that is
+                                    taken at once; 0 is two, without such memory */
     uint32_t burst;              /* how many frames the link takes one after the other: the window in a segment of TCP is at
                                     most what so many carry; 0 sets no bound */
     uint8_t hardware_address[6]; /* on Ethernet; else it isn't read */
@@ -238,7 +239,7 @@ struct iface_drops {
     uint64_t own_address;  /* messages that claim an own address */
     uint64_t own_source;   /* packets from an own address */
     uint64_t pinned;       /* messages that tell another hardware address of a pinned neighbour */
-    uint64_t fragment;
+    uint64_t fragment;     /* fragments, and strangers' for which no slot is left, as half are kept for known neighbours */
     uint64_t loops;
     uint64_t echo_request; /* echo requests, and fragments of ICMP, beyond their rate */
     uint64_t error;        /* held back */
@@ -248,7 +249,7 @@ struct iface_drops {
 /* ---- hosts ---- */
 
 /* Writes what most programs want: frames of 1514 octets on Ethernet, 8 sockets, 128 neighbours, no addresses from routers,
- * a patience of 3 s (three requests, a second apart: RFC 4861, 10), 10 s for fragments, and a guard. The start is 0, the
+ * a patience of 3 s (three requests, a second apart: RFC 4861, 10), 16 slots for fragments, which wait 10 s, and a guard. The start is 0, the
  * seed is 0, and the hardware address all zeros: set the last two. */
 void iface_config_init(struct iface_config *config);
 

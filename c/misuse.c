@@ -42,7 +42,7 @@ static void fill_in_good(void) {
     wants("usual neighbours", good.neighbors, 128);
     wants("usual addresses, routes and groups", good.addresses == 8 && good.routes == 8 && good.groups == 16, 1);
     wants("what is usually kept of routers", good.prefixes == 4 && good.routers == 4, 1);
-    wants("usual packets in fragments", good.fragmented, 8);
+    wants("usual packets in fragments", good.fragmented, 16);
     wants("usual patience", good.patience, 3000000);
     wants("usual timeout", good.reassembly_timeout, 10000000);
     wants("usual start", (uint64_t)good.start, 0);

@@ -59,6 +59,8 @@ pub struct Guard {
     pub reports: bool,
     /// Whether an advertisement from which no prefix and no router is learnt leaves the neighbours.
     pub routers: bool,
+    /// Whether half of the slots for fragments are kept for known neighbours: strangers' packets take no more than the other half.
+    pub slots: bool,
     /// Echo requests of either ICMP, and fragments of ICMP, that the host gets to see: without a rate by the usual guard.
     pub echo_requests: Option<Rate>,
     /// Errors of either ICMP (RFC 4443 2.4). While a rate of these or of resets is used up, confirmed neighbours have as many.
@@ -86,6 +88,7 @@ impl Guard {
         turns: 0,
         reports: 0,
         routers: 0,
+        slots: 0,
         longest_error: 0,
         defend: 0,
     };
@@ -103,6 +106,7 @@ impl Guard {
             turns: u8::from(self.turns),
             reports: u8::from(self.reports),
             routers: u8::from(self.routers),
+            slots: u8::from(self.slots),
             longest_error: self.longest_error.unwrap_or(0),
             defend: self.defend.map_or(0, micros),
         }
@@ -117,6 +121,7 @@ impl Guard {
             turns: guard.turns != 0,
             reports: guard.reports != 0,
             routers: guard.routers != 0,
+            slots: guard.slots != 0,
             echo_requests: Rate::from_c(guard.echo_requests),
             errors: Rate::from_c(guard.errors),
             resets: Rate::from_c(guard.resets),
@@ -137,7 +142,7 @@ pub struct Drops {
     pub own_source: u64,
     /// Messages that tell another hardware address of a pinned neighbour.
     pub pinned: u64,
-    /// Fragments.
+    /// Fragments, and those of strangers for which no slot is left, as half are kept for known neighbours.
     pub fragment: u64,
     /// Datagrams that could go to and fro for ever.
     pub loops: u64,

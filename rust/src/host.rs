@@ -301,7 +301,7 @@ struct Configured<C> {
 
 impl Settings {
     /// What `iface_config_init` writes: frames of 1514 octets, 8 sockets, room for 128 neighbours, 8 addresses, 8 routes and
-    /// 16 groups, 4 prefixes, 4 routers and 8 packets in fragments, no addresses from routers, a patience of three
+    /// 16 groups, 4 prefixes, 4 routers and 16 packets in fragments, no addresses from routers, a patience of three
     /// seconds, ten seconds for fragments, the start [`Instant::ZERO`], all checksums its own, the seed 0, and a guard.
     pub fn new(hardware_addr: HardwareAddress) -> Settings {
         let config = sys::iface_config {

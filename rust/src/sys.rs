@@ -2,7 +2,7 @@
 //!
 //! Calling any of it is `unsafe`: the header says what the caller keeps. [`Host`](crate::Host) keeps it.
 //!
-//! Sum of the header: 0x387b7472652dec14
+//! Sum of the header: 0x6fa43edcba383762
 #![allow(non_camel_case_types)]
 
 use core::ffi::{c_char, c_void};
@@ -161,7 +161,7 @@ pub const IFACE_DNS_SERVERS: usize = 3;
 /// How many addresses of a result there are at most.
 pub const IFACE_DNS_ADDRESSES: usize = 4;
 /// The version of the header.
-pub const IFACE_VERSION: u32 = 0x000e0008;
+pub const IFACE_VERSION: u32 = 0x000e0009;
 /// Any address, for the end at which a socket listens.
 pub const IFACE_ANY: iface_address = iface_address { version: 0, octets: [0; 16] };
 
@@ -305,6 +305,8 @@ pub struct iface_guard {
     pub reports: u8,
     /// not 0: an advertisement from which no prefix and no router is learnt leaves the neighbours: 1
     pub routers: u8,
+    /// not 0: half of the slots for fragments are kept for known neighbours: 1
+    pub slots: u8,
     /// an error may be so many times as long as the frame that it answers; 0 sets no bound: 3
     pub longest_error: u32,
     /// a claim of an own IPv4 address that is dropped is answered by an announcement of it (RFC 5227, 2.4 c), unless one was in so many microseconds before; 0 announces nothing: 0
@@ -319,7 +321,7 @@ pub struct iface_config {
     pub seed: u64,
     /// how long a packet waits for a neighbour that doesn't answer, in microseconds, before it is given up; 0 is for ever, and then one such packet stops its socket
     pub patience: u64,
-    /// how long fragments of a packet wait for the others, in microseconds: not 0, at most a day. As many packets at a time are put together as fragmented says, so strangers' fragments block the others for so long
+    /// how long fragments of a packet wait for the others, in microseconds: not 0, at most a day. Where no slot is left for another packet, one whose fragments have waited for half a second gives way to it, and the guard's slots keeps half of them for known neighbours
     pub reassembly_timeout: u64,
     /// the moment at which the host begins: from 0 to `IFACE_LAST_MOMENT`
     pub start: i64,
@@ -339,7 +341,7 @@ pub struct iface_config {
     pub prefixes: u32,
     /// how many routers are kept, at most 8
     pub routers: u32,
-    /// how many packets in fragments are put together at a time, in memory that is taken at once; 0 is two, without such memory
+    /// how many packets in fragments are put together at a time, each in a slot of memory that is taken at once; 0 is two, without such memory
     pub fragmented: u32,
     /// how many frames the link takes one after the other: the window in a segment of TCP is at most what so many carry; 0 sets no bound
     pub burst: u32,
@@ -379,7 +381,7 @@ pub struct iface_drops {
     pub own_source: u64,
     /// messages that tell another hardware address of a pinned neighbour
     pub pinned: u64,
-    /// `fragment`.
+    /// fragments, and strangers' for which no slot is left, as half are kept for known neighbours
     pub fragment: u64,
     /// `loops`.
     pub loops: u64,
@@ -549,7 +551,7 @@ const _: () = assert!(size_of::<iface_rooms>() == 16);
 const _: () = assert!(size_of::<iface_segment>() == 32);
 
 unsafe extern "C" {
-    /// Writes what most programs want: frames of 1514 octets on Ethernet, 8 sockets, 128 neighbours, no addresses from routers, a patience of 3 s (three requests, a second apart: RFC 4861, 10), 10 s for fragments, and a guard. The start is 0, the seed is 0, and the hardware address all zeros: set the last two.
+    /// Writes what most programs want: frames of 1514 octets on Ethernet, 8 sockets, 128 neighbours, no addresses from routers, a patience of 3 s (three requests, a second apart: RFC 4861, 10), 16 slots for fragments, which wait 10 s, and a guard. The start is 0, the seed is 0, and the hardware address all zeros: set the last two.
     pub fn iface_config_init(config: *mut iface_config);
     /// What `iface_new` calls, with the version of the header that the program was built with.
     pub fn iface_new_for(host: *mut iface, config: *const iface_config, version: u32) -> u32;

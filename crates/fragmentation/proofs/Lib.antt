@@ -1,4 +1,5 @@
 pub mod FragmentsLemmas
+pub mod HolderLemmas
 pub mod KeptLemmas
 pub mod KeyLemmas
 pub mod LoopLemmas

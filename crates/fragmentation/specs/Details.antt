@@ -1,3 +1,4 @@
+pub mod Holders
 pub mod Lending
 pub mod Pending
 pub mod Place

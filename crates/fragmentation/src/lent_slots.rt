@@ -1,10 +1,13 @@
 //! Slots in storage that was handed over.
 ghost use Rattle.std.specs.Prelude.{◌≡◌, ◌↔◌, ◌≤◌, List, IsErr, IfOk, map as each, length, min, slice_index_or, vec_capacity};
 ghost use Rattle.std.specs.Borrow.{sem};
+ghost use Rattle.fragmentation.specs.Details.Holders.{holder_at, released_at, taken_of};
 ghost use Rattle.fragmentation.specs.Assembly.{live_at, keys_of, slot_for, taken, AreApart, AreFree, AllSound};
 
+use crate::holder::Holder;
 use crate::reassembly::{
-    AssemblerFullError, PacketAssembler, are_none, are_sound, drop_expired, forget_free, take,
+    AssemblerFullError, PacketAssembler, are_none, are_sound, drop_expired, forget_free,
+    holder_among, release_among, take, taken_among,
 };
 use net_base::time::Instant;
 use std::marker::Model;
@@ -106,6 +109,44 @@ impl<K: Drop> LentSlots<K> {
         );
         forget_free(self.keys.as_mut_slice(), self.assemblers.as_slice());
         self.is_idle = are_none(self.keys.as_slice());
+    }
+}
+
+impl<K: Copy> LentSlots<K> {
+    // How many slots there are.
+    pub(crate) fn room(&self) -> usize
+        ensures { result ≡ length self.now }
+    {
+        self.keys.len()
+    }
+
+    // How many slots are taken.
+    pub(crate) fn taken(&self) -> usize
+        ensures taken { result ≡ taken_of self.now }
+        ensures few { result ≤ length self.now }
+    {
+        if self.is_idle {
+            return 0;
+        }
+        taken_among(self.keys.as_slice(), self.assemblers.as_slice())
+    }
+
+    // Who holds the slot at an index.
+    pub(crate) fn holder(&self, index: usize) -> Option<Holder<K>>
+        ensures { result ≡ holder_at index self.now }
+    {
+        holder_among(self.keys.as_slice(), self.assemblers.as_slice(), index)
+    }
+
+    // Frees the slot at an index.
+    pub(crate) fn release(&mut self, index: usize)
+        ensures { self.new ≡ released_at index self.old }
+    {
+        release_among(
+            self.keys.as_mut_slice(),
+            self.assemblers.as_mut_slice(),
+            index,
+        );
     }
 }
 

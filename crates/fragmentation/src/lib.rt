@@ -2,6 +2,7 @@
 #![tactic(auto)]
 
 pub mod fragmenter;
+pub mod holder;
 pub mod key;
 mod lent_slots;
 mod own_slots;
@@ -9,5 +10,6 @@ mod place;
 pub mod reassembly;
 
 pub use fragmenter::{Fragmenter, NextPiece};
+pub use holder::Holder;
 pub use key::FragKey;
 pub use reassembly::{PacketAssembler, PacketAssemblerSet, reassemble};

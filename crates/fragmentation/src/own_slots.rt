@@ -1,11 +1,13 @@
 //! Slots in the value itself.
 ghost use Rattle.std.specs.Prelude.{◌≡◌, ◌↔◌, ◌≤◌, List, IsErr, IfOk, map as each, length, slice_index_or};
 ghost use Rattle.std.specs.Borrow.{sem};
+ghost use Rattle.fragmentation.specs.Details.Holders.{holder_at, released_at, taken_of};
 ghost use Rattle.fragmentation.specs.Assembly.{live_at, keys_of, slot_for, taken, AreApart, AreFree, AllSound};
 
+use crate::holder::Holder;
 use crate::reassembly::{
     AssemblerFullError, PacketAssembler, REASSEMBLY_BUFFER_COUNT, are_sound, drop_expired_of_two,
-    take_of_two,
+    holder_among, release_among, take_of_two, taken_among,
 };
 use arrayvec::ArrayVec;
 use net_base::time::Instant;
@@ -81,6 +83,41 @@ impl<K: Drop> OwnSlots<K> {
             self.keys.as_slice(),
             self.assemblers.as_mut_slice(),
             timestamp,
+        );
+    }
+}
+
+impl<K: Copy> OwnSlots<K> {
+    // How many slots there are.
+    pub(crate) fn room(&self) -> usize
+        ensures { result ≡ length self.now }
+    {
+        self.keys.len()
+    }
+
+    // How many slots are taken.
+    pub(crate) fn taken(&self) -> usize
+        ensures taken { result ≡ taken_of self.now }
+        ensures few { result ≤ length self.now }
+    {
+        taken_among(self.keys.as_slice(), self.assemblers.as_slice())
+    }
+
+    // Who holds the slot at an index.
+    pub(crate) fn holder(&self, index: usize) -> Option<Holder<K>>
+        ensures { result ≡ holder_at index self.now }
+    {
+        holder_among(self.keys.as_slice(), self.assemblers.as_slice(), index)
+    }
+
+    // Frees the slot at an index.
+    pub(crate) fn release(&mut self, index: usize)
+        ensures { self.new ≡ released_at index self.old }
+    {
+        release_among(
+            self.keys.as_mut_slice(),
+            self.assemblers.as_mut_slice(),
+            index,
         );
     }
 }

@@ -1,9 +1,11 @@
 //! Where the slots of a set are.
 ghost use Rattle.std.specs.Prelude.{◌≡◌, ◌↔◌, ◌≤◌, IsErr, IfOk, map as each, length, min, slice_index_or, vec_capacity};
 ghost use Rattle.std.specs.Borrow.{sem};
+ghost use Rattle.fragmentation.specs.Details.Holders.{holder_at, released_at, taken_of};
 ghost use Rattle.fragmentation.specs.Assembly.{live_at, keys_of, slot_for, taken, AreApart, AreFree, AllSound};
 ghost use Rattle.fragmentation.specs.Slots.{slot_room_over};
 
+use crate::holder::Holder;
 use crate::lent_slots::LentSlots;
 use crate::own_slots::OwnSlots;
 use crate::reassembly::{AssemblerFullError, PacketAssembler};
@@ -63,6 +65,51 @@ impl<K: Drop> Place<K> {
         match self {
             Place::Own(own) => own.remove_expired(timestamp),
             Place::Lent(lent) => lent.remove_expired(timestamp),
+        }
+    }
+}
+
+impl<K: Copy> Place<K> {
+    ghost use Rattle.fragmentation.specs.Details.Place.{slots_at};
+
+    // How many slots there are.
+    pub(crate) fn room(&self) -> usize
+        ensures { result ≡ length (slots_at self.now) }
+    {
+        match self {
+            Place::Own(own) => own.room(),
+            Place::Lent(lent) => lent.room(),
+        }
+    }
+
+    // How many slots are taken.
+    pub(crate) fn taken(&self) -> usize
+        ensures taken { result ≡ taken_of (slots_at self.now) }
+        ensures few { result ≤ length (slots_at self.now) }
+    {
+        match self {
+            Place::Own(own) => own.taken(),
+            Place::Lent(lent) => lent.taken(),
+        }
+    }
+
+    // Who holds the slot at an index.
+    pub(crate) fn holder(&self, index: usize) -> Option<Holder<K>>
+        ensures { result ≡ holder_at index (slots_at self.now) }
+    {
+        match self {
+            Place::Own(own) => own.holder(index),
+            Place::Lent(lent) => lent.holder(index),
+        }
+    }
+
+    // Frees the slot at an index.
+    pub(crate) fn release(&mut self, index: usize)
+        ensures { slots_at self.new ≡ released_at index (slots_at self.old) }
+    {
+        match self {
+            Place::Own(own) => own.release(index),
+            Place::Lent(lent) => lent.release(index),
         }
     }
 }

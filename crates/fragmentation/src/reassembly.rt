@@ -3,16 +3,18 @@
 //! A [`PacketAssembler`] is a slot for one datagram, and a [`PacketAssemblerSet`] has some of them, two or as many as
 //! storage was handed over for, each for the datagram of one key. Where fragments overlap, the one received last counts.
 ghost use Rattle.std.specs.Prelude.{◌≡◌, List, ℤ, ◌↔◌, ◌≤◌, ◌<◌, ◌+◌, ◌-◌, ℕ, Bool, nat_le, nat_lt, not, ◌&&◌};
-ghost use Rattle.std.specs.Prelude.{IsTrue, is_none, IsSome, false, true, IsOk, IsErr, slice_index, slice_index_or};
+ghost use Rattle.std.specs.Prelude.{IsTrue, is_none, is_some, IsSome, false, true, IsOk, IsErr, slice_index, slice_index_or};
 ghost use Rattle.std.specs.Prelude.{if◌then◌else◌, IfOk, OnOk, OnErr, IfSome, map as each, length, None, Some};
 ghost use Rattle.std.specs.Prelude.{min, vec_capacity};
 ghost use Rattle.std.specs.Borrow.{sem};
 ghost use Rattle.fragmentation.specs.Assembly as spec;
 ghost use Rattle.fragmentation.specs.Assembly.{octets_after_write, index_of_key, free_slot, has_key};
-ghost use Rattle.fragmentation.specs.Assembly.{live_at, with_key, with_keys, keys_of, taken_at, AllSound};
+ghost use Rattle.fragmentation.specs.Assembly.{live_at, with_key, with_keys, keys_of, taken_at, are_none, AllSound, AreKept};
+ghost use Rattle.fragmentation.specs.Details.Holders.{holder_at, holder_of, released_at, taken_of};
 ghost use Rattle.fragmentation.specs.Stands.{fragment};
 ghost use Rattle.fragmentation.specs.Details.Reassembled.{RestsReassembled};
 
+use crate::holder::Holder;
 use crate::key::FragKey;
 use crate::lent_slots::LentSlots;
 use crate::own_slots::OwnSlots;
@@ -232,6 +234,30 @@ impl<K: Drop> PacketAssembler<K> {
 impl<K: Copy> PacketAssembler<K> {
     ghost use Rattle.fragmentation.specs.Assembly.{with_key};
 
+    // Whether it is taken, if this is its key.
+    #[inline(always)]
+    fn is_taken(&self, key: &Option<K>) -> bool
+        ensures { result ≡ is_some (holder_of (with_key key.now self.now)) }
+    {
+        key.is_some() && self.key.is_some()
+    }
+
+    // Who holds the slot, if it is taken and this is its key.
+    fn holder(&self, key: Option<K>) -> Option<Holder<K>>
+        ensures { result ≡ holder_of (with_key key self.now) }
+    {
+        if self.is_free() {
+            return None;
+        }
+        match key {
+            None => None,
+            Some(key) => Some(Holder {
+                key,
+                expires_at: self.expires_at,
+            }),
+        }
+    }
+
     // If the slot is taken, it gets this key, or is freed without one. Returns its key.
     fn keep_key(&mut self, key: Option<K>) -> Option<K>
         ensures kept { self.new ≡ with_key key self.old }
@@ -376,6 +402,30 @@ impl<K: Drop> PacketAssemblerSet<K> {
     }
 }
 
+impl<K: Copy> PacketAssemblerSet<K> {
+    /// How many slots there are.
+    pub fn room(&self) -> usize
+        ensures { result ≡ length self.now }
+    {
+        self.place.room()
+    }
+
+    /// How many slots are taken.
+    pub fn taken(&self) -> usize
+        ensures taken { result ≡ taken_of self.now }
+        ensures few { result ≤ length self.now }
+    {
+        self.place.taken()
+    }
+
+    /// Who holds the slot at an index. `None` if it is free, or there is none.
+    pub fn holder(&self, index: usize) -> Option<Holder<K>>
+        ensures { result ≡ holder_at index self.now }
+    {
+        self.place.holder(index)
+    }
+}
+
 impl<K> PacketAssemblerSet<K> {
     ghost use Rattle.fragmentation.specs.Assembly.{AreApart};
 
@@ -388,8 +438,25 @@ impl<K> PacketAssemblerSet<K> {
 }
 
 impl PacketAssemblerSet<FragKey> {
-    ghost use Rattle.fragmentation.specs.Slots.{Slots};
+    ghost use Rattle.std.specs.FinMap as map;
+    ghost use Rattle.fragmentation.specs.Slots.{Slot, Slots, slot_of, without_slot};
     ghost use Rattle.fragmentation.specs.Stands.{StandForSlots};
+
+    /// Frees the slot at an index, if it is taken. Otherwise nothing changes.
+    pub fn release(&mut self, index: usize)
+        ensures places { self.new ≡ released_at index self.old }
+        ensures stands { IfSome (holder_at index self.old) (λ holder. (m : Slots) →
+            StandForSlots self.old m → StandForSlots self.new (without_slot m holder.key)) }
+    {
+        self.place.release(index);
+    }
+
+    /// A lemma for proofs about a set: who holds a slot has one among the slots of the host machine that it stands for, which
+    /// ends when his fragments expire. It does nothing.
+    pub fn holds_slots(&self)
+        ensures { (i : ℕ) → IfSome (holder_at i self.now) (λ holder. (m : Slots) → StandForSlots self.now m →
+            IfSome (slot_of m holder.key) (λ slot. slot.ends ≡ holder.expires_at)) }
+    {}
 
     /// A lemma for proofs about a set: there are slots of the host machine that it stands for, no two of its slots for
     /// the slot of one key. It does nothing.
@@ -482,6 +549,56 @@ fn forget_if_free<K: Drop>(key: &mut Option<K>, assembler: &PacketAssembler<K>)
 {
     if key.is_some() && assembler.is_free() {
         *key = None;
+    }
+}
+
+// Who holds the slot at an index.
+pub(crate) fn holder_among<K: Copy>(
+    keys: &[Option<K>],
+    assemblers: &[PacketAssembler<K>],
+    index: usize,
+) -> Option<Holder<K>>
+    requires as_many { length keys.now ≡ length assemblers.now }
+    ensures { result ≡ holder_at index (with_keys keys.now assemblers.now) }
+{
+    if index < keys.len() {
+        assemblers[index].holder(keys[index])
+    } else {
+        None
+    }
+}
+
+// How many slots are taken.
+pub(crate) fn taken_among<K: Copy>(keys: &[Option<K>], assemblers: &[PacketAssembler<K>]) -> usize
+    requires as_many { length keys.now ≡ length assemblers.now }
+    ensures taken { result ≡ taken_of (with_keys keys.now assemblers.now) }
+    ensures few { result ≤ length (with_keys keys.now assemblers.now) }
+{
+    let mut count = 0;
+    for i in 0..keys.len() {
+        if assemblers[i].is_taken(&keys[i]) {
+            count += 1;
+        }
+    }
+    count
+}
+
+// Frees the slot at an index.
+pub(crate) fn release_among<K: Drop>(
+    keys: &mut [Option<K>],
+    assemblers: &mut [PacketAssembler<K>],
+    index: usize,
+)
+    requires as_many { length keys.old ≡ length assemblers.old }
+    ensures left { with_keys keys.new assemblers.new ≡ released_at index (with_keys keys.old assemblers.old) }
+    ensures kept { AreKept keys.old assemblers.old → AreKept keys.new assemblers.new }
+    ensures none { are_none keys.old ≡ true → are_none keys.new ≡ true }
+    ensures keys { length keys.new ≡ length keys.old }
+    ensures places { length assemblers.new ≡ length assemblers.old }
+{
+    if index < keys.len() {
+        keys[index] = None;
+        assemblers[index].reset();
     }
 }
 

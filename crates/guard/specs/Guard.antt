@@ -41,6 +41,7 @@ new_guard = record {
   takes_turns = true;
   keeps_reports = true;
   keeps_neighbors = true;
+  keeps_slots = true;
   pins = no_pins;
   asked = None;
 }

@@ -55,6 +55,10 @@ after_drop reason.Fragment c = record c { fragment = one_more c.fragment }
 after_drop reason.Loop c = record c { loops = one_more c.loops }
 after_drop reason.EchoRequest c = record c { echo_request = one_more c.echo_request }
 
+-- a fragment was refused
+abbrev pub after_refused_fragment : Watch → Watch
+after_refused_fragment w = record w { counts = after_drop reason.Fragment w.counts }
+
 -- an answer was held back
 abbrev pub after_holding : Answer → Counts → Counts
 after_holding Error c = record c { error = one_more c.error }

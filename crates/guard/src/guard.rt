@@ -73,6 +73,8 @@ pub struct Guard {
     pub keeps_reports: bool,
     /// Whether an advertisement of which nothing is learnt leaves the neighbours.
     pub keeps_neighbors: bool,
+    /// Whether half of the slots for fragments are kept for neighbours that are known.
+    pub keeps_slots: bool,
     /// The neighbours whose hardware address the program says.
     pub pins: Pins,
     /// The last request for a hardware address.
@@ -82,7 +84,7 @@ pub struct Guard {
 impl Guard {
     /// A guard that keeps own addresses, and drops loops, not fragments. Echo requests have no rate. A neighbour that isn't confirmed is
     /// known for twenty seconds; sockets and frames take turns; answers that wait stay; and so do neighbours, where nothing is learnt of
-    /// a router.
+    /// a router. Half of the slots for fragments are kept for known neighbours.
     pub const fn new() -> Guard
         ensures { result ≡ spec.new_guard }
     {
@@ -95,6 +97,7 @@ impl Guard {
             takes_turns: true,
             keeps_reports: true,
             keeps_neighbors: true,
+            keeps_slots: true,
             pins: Pins::new(),
             asked: None,
         }
@@ -242,7 +245,7 @@ impl Asked {
 }
 
 /// Whether an address is known at an instant.
-fn is_known(neighbors: &Cache, address: &IpAddress, now: Instant) -> bool
+pub fn is_known(neighbors: &Cache, address: &IpAddress, now: Instant) -> bool
     ensures { result ≡ is_later now (map.get neighbors.now.known address.now) }
 {
     match neighbors.get(address) {

@@ -177,6 +177,13 @@ impl Watch {
         }
     }
 
+    /// Counts a fragment for which there is no slot, as half of them are kept for others.
+    pub fn refuse_fragment(&mut self)
+        ensures { self.new ≡ spec.after_refused_fragment self.old }
+    {
+        self.counts.drop_for(Reason::Fragment);
+    }
+
     /// The frame that announces an own address, if one is owed since somebody claimed it, for a host with this hardware address
     /// (`None` on a medium without, where nothing is announced). It is owed no more.
     pub fn announcement_due(&mut self, hardware: Option<HardwareAddress>) -> Option<[u8; 42]>

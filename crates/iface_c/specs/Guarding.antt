@@ -28,6 +28,7 @@ watch_in c = record {
     takes_turns = holds_in c.turns;
     keeps_reports = holds_in c.reports;
     keeps_neighbors = holds_in c.routers;
+    keeps_slots = holds_in c.slots;
     pins = no_pins;
     asked = None;
   };
@@ -58,6 +59,7 @@ usual_guard = record {
   turns = 1;
   reports = 1;
   routers = 1;
+  slots = 1;
   longest_error = 3;
   defend = 0;
 }

@@ -46,7 +46,7 @@ code_for_new why (Some settings) None = code_if (why settings)
 
 -- of the same call for a program with a header of this version: 18 where it isn't the library's, 0.14.0 with number 6
 abbrev pub code_for_version : ℕ → ℕ → ℕ
-code_for_version version due = if version == 0x000e_0008 then due else 18
+code_for_version version due = if version == 0x000e_0009 then due else 18
 
 -- of a call for which memory may be refused: the one that is due; or in place of 0 that of refused memory, 4
 pub record IsDueOrMemory (due code : ℕ) : Type 0 where

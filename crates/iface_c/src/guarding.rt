@@ -63,6 +63,8 @@ pub struct IfaceGuard {
     pub reports: u8,
     /// Whether an advertisement of which nothing is learnt leaves the neighbours.
     pub routers: u8,
+    /// Whether half of the slots for fragments are kept for neighbours that are known.
+    pub slots: u8,
     /// How many times as long an error may be as what it answers; 0 sets no bound.
     pub longest_error: u32,
     /// How long after the announcement of an own address the next one may be sent, in microseconds; 0: none is.
@@ -95,6 +97,7 @@ impl IfaceGuard {
             turns: 1,
             reports: 1,
             routers: 1,
+            slots: 1,
             longest_error: 3,
             defend: 0,
         }
@@ -115,6 +118,7 @@ impl IfaceGuard {
                 takes_turns: self.turns != 0,
                 keeps_reports: self.reports != 0,
                 keeps_neighbors: self.routers != 0,
+                keeps_slots: self.slots != 0,
                 pins: Pins::new(),
                 asked: None,
             },
@@ -147,7 +151,7 @@ pub struct IfaceDrops {
     pub own_source: u64,
     /// Messages that tell another hardware address of a pinned neighbour.
     pub pinned: u64,
-    /// Fragments.
+    /// Fragments, and those of strangers for which no slot is left, as half are kept for known neighbours.
     pub fragment: u64,
     /// Datagrams that could go to and fro for ever.
     pub loops: u64,

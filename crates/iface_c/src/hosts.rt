@@ -192,7 +192,7 @@ pub extern "C" fn iface_config_init(config: &mut IfaceConfig)
         groups: 16,
         prefixes: 4,
         routers: 4,
-        fragmented: 8,
+        fragmented: 16,
         burst: 0,
         hardware_address: [0; 6],
         medium: 0,

@@ -28,7 +28,8 @@ use Rattle.ip_address.specs.declared.cidr.IpCidr.{IpCidr}
 use Rattle.ip_address.specs.declared.hardware.HardwareAddress.{HardwareAddress}
 use Rattle.guard.specs.declared.watch.Watch.{Watch}
 use Rattle.iface_host.specs.Frames.{Gives, IsDue, IsWritten, Made, PollsInto, Round, Takes, after_response, is_piece_left, let_go, planned}
-use Rattle.iface_host.specs.Guarded.{Admitted, Defends, Dropped, NextIs, Receives, TakesGuarded, after_arrival, after_sending, hardware_addr_of, is_admitted}
+use Rattle.iface_host.specs.Fragments.{MakesRoom}
+use Rattle.iface_host.specs.Guarded.{Admitted, Defends, Dropped, NextIs, Ordinary, Receives, Refused, TakesGuarded, is_ordinary_to, after_arrival, after_sending, hardware_addr_of, is_admitted}
 use Rattle.iface_host.specs.Counters.{after_handing, after_taking}
 use Rattle.iface_host.specs.Outbox.{Tells, Waiting, with_room}
 use Rattle.iface_host.specs.RoundDevice as device
@@ -127,11 +128,22 @@ received t frame known n before after old i s shown result is written r changed 
       }) w_is;
 }
 
-pub admitted : (t : ℤ) (frame : List ℕ) (n : ℕ) (before after : List ℕ) (old mid new : IfaceHost) →
-    is_admitted t frame old ≡ true → mid ≡ after_arrival t frame old → TakesGuarded t frame n before after mid new →
+pub ordinary : (t : ℤ) (frame : List ℕ) (n : ℕ) (before after : List ℕ) (old mid new : IfaceHost) →
+    is_ordinary_to frame old ≡ true → mid ≡ after_arrival t frame old → TakesGuarded t frame n before after mid new →
     Receives t frame n before after old new
-admitted t frame n before after old mid new is mid_is takes =
-    Admitted is (subst (λ (h : IfaceHost). TakesGuarded t frame n before after h new) mid_is takes)
+ordinary t frame n before after old mid new is mid_is takes =
+    Ordinary is (subst (λ (h : IfaceHost). TakesGuarded t frame n before after h new) mid_is takes)
+
+pub admitted : (t : ℤ) (frame : List ℕ) (n : ℕ) (before after : List ℕ) (old mid new : IfaceHost) →
+    is_admitted t frame old ≡ true → mid ≡ after_arrival t frame old → (roomy : IfaceHost) → MakesRoom t frame true mid roomy →
+    TakesGuarded t frame n before after roomy new → Receives t frame n before after old new
+admitted t frame n before after old mid new is mid_is roomy makes takes =
+    Admitted is roomy (subst (λ (h : IfaceHost). MakesRoom t frame true h roomy) mid_is makes) takes
+
+pub refused : (t : ℤ) (frame : List ℕ) (buffer : List ℕ) (old mid new : IfaceHost) →
+    is_admitted t frame old ≡ true → mid ≡ after_arrival t frame old → MakesRoom t frame false mid new → Receives t frame 0 buffer buffer old new
+refused t frame buffer old mid new is mid_is makes =
+    Refused is (subst (λ (h : IfaceHost). MakesRoom t frame false h new) mid_is makes) refl refl
 
 pub dropped : (t : ℤ) (frame : List ℕ) (n : ℕ) (before after : List ℕ) (old mid new : IfaceHost) →
     is_admitted t frame old ≡ false → mid ≡ after_arrival t frame old → Defends n before after mid new → Receives t frame n before after old new

@@ -1,3 +1,4 @@
+mod FragmentRoom
 mod FrameCalls
 mod LeasedCalls
 pub mod Places

@@ -14,6 +14,8 @@ pub mod TableRefusals
 pub mod Segments
 pub mod Counters
 pub mod Frames
+pub mod Fragments
+pub mod FragmentLaws
 pub mod Guarded
 pub mod Waits
 pub mod Leased

@@ -54,6 +54,9 @@ impl IfaceHost {
         if !self.admits(now, frame) {
             return self.defend(out);
         }
+        if !self.makes_room(now, frame) {
+            return 0;
+        }
         self.take_guarded(now, frame, out)
     }
 

@@ -36,7 +36,7 @@ pub const NEIGHBORS: usize = 128;
 pub const ROUTES: usize = 8;
 
 /// How many datagrams most hosts reassemble at once.
-pub const FRAGMENTED: usize = 8;
+pub const FRAGMENTED: usize = 16;
 
 /// For how many addresses, groups, prefixes and routers most hosts have room.
 pub const CAPACITIES: Capacities = Capacities {

@@ -7,6 +7,7 @@
 
 pub mod addresses;
 pub mod counters;
+pub mod fragments;
 pub mod frames;
 pub mod guarded;
 pub mod hop_limits;

@@ -1,4 +1,5 @@
 mod FragmentHandling
+mod FragmentKeys
 mod Icmpv6Rules
 mod Messages
 mod PacketRules

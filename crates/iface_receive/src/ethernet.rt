@@ -123,7 +123,7 @@ fn process_ethertype(
 
 /// Whether a frame to this address is for the interface of an own address: broadcast, multicast, or that address.
 #[inline(always)]
-fn is_for(own: &EthernetAddress, destination: &EthernetAddress) -> bool
+pub(crate) fn is_for(own: &EthernetAddress, destination: &EthernetAddress) -> bool
     ensures { result ≡ is_for own.now destination.now }
 {
     destination.is_broadcast() || destination.is_multicast() || destination == own

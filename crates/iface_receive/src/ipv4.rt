@@ -170,7 +170,7 @@ fn process_datagram(
 }
 
 /// Whether a packet may come from this address: a unicast address, or the unspecified one of a host without an address.
-fn may_be_source(context: &Context, address: &Ipv4Address) -> bool
+pub(crate) fn may_be_source(context: &Context, address: &Ipv4Address) -> bool
     ensures { result ≡ addresses.may_be_source (host_of context.now no_sockets).ip_addrs address.now }
 {
     context.is_unicast_v4(address) || address.is_unspecified()

@@ -5,6 +5,7 @@
 #![tactic(auto)]
 
 pub mod ethernet;
+pub mod fragment_key;
 pub mod icmpv6;
 pub mod ipv4;
 pub mod ipv6;

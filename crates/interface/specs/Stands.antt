@@ -1,6 +1,8 @@
 -- Which host an interface with its sockets stands for.
-use Rattle.std.specs.Prelude.{◌<◌}
+use Rattle.std.specs.Prelude.{◌<◌, List}
 use Rattle.std.specs.Borrow.{Bor}
+use Rattle.fragmentation.specs.Assembly.{Assembly}
+use Rattle.fragmentation.specs.declared.key.FragKey.{FragKey}
 use Rattle.socket_set.specs.SocketSet.{Sockets}
 use Rattle.host_machine.specs.Context.Host.{Host, SocketSet}
 use Rattle.iface_tables.specs.declared.route.Route.{Route}
@@ -16,6 +18,14 @@ use Rattle.interface.specs.declared.interface.Interface.{Interface}
 -- the host of an interface's context with these sockets, without the contents of its slots: its buffers have no meaning
 abbrev pub host_with : Interface → SocketSet → Host
 host_with i sockets = host_of i.context sockets
+
+-- the slots in which an interface reassembles datagrams
+abbrev pub slots_in : Interface → List (Assembly FragKey)
+slots_in i = i.fragments
+
+-- an interface with others
+abbrev pub with_slots_in : Interface → List (Assembly FragKey) → Interface
+with_slots_in i slots = record i { fragments = slots }
 
 -- an interface with another context
 abbrev pub with_context : Interface → Context → Interface

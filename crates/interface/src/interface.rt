@@ -14,7 +14,7 @@ ghost use Rattle.iface_context.specs.Refines as processed;
 
 use crate::polling::{poll_at, poll_result};
 use arrayvec::ArrayVec;
-use fragmentation::{FragKey, PacketAssembler, PacketAssemblerSet};
+use fragmentation::{FragKey, Holder, PacketAssembler, PacketAssemblerSet};
 use host_machine::{
     AddrError, AddrListError, Capacities, HardwareError, MulticastError, NewError,
     PollIngressSingleResult, PollResult, TimeoutError,
@@ -30,6 +30,7 @@ use iface_context::settings::{
 use iface_context::{Context, settings};
 use iface_receive::emit::FrameBuffer;
 use iface_receive::ethernet::process_frame;
+use iface_receive::fragment_key::fragment_key;
 use iface_receive::igmp::igmp_egress;
 use iface_receive::joins::{joins_egress, leaves_egress};
 use iface_receive::mld::mld_egress;
@@ -87,7 +88,8 @@ impl Interface {
     ghost use Rattle.iface_tables.specs.Neighbor.{after_limit, room_over};
     ghost use Rattle.iface_tables.specs.Route.{route_room_over};
     ghost use Rattle.host_machine.specs.Context.Settings.{with_capacities};
-    ghost use Rattle.fragmentation.specs.Slots.{slot_room_over};
+    ghost use Rattle.fragmentation.specs.Details.Holders.{holder_at, released_at, taken_of};
+    ghost use Rattle.fragmentation.specs.Slots.{slot_of, slot_room_over, without_slot};
     ghost use Rattle.std.specs.Option.{option_copied, option_map};
     ghost use Rattle.std.specs.Io.BufRead.{Rests};
     ghost use Rattle.interface.specs.Details.Receives.{HostRefinesReceiving};
@@ -114,7 +116,9 @@ impl Interface {
     ghost use Rattle.std.specs.Borrow.{sem, Lends};
     ghost use Rattle.iface_tables.specs.contracts.route.Routes.{the_row as routes_row};
     ghost use Rattle.interface.specs.contracts.interface.Interface.{the_row};
-    ghost use Rattle.interface.specs.Stands.{host_with, with_context, with_routes, StandsFor, Becomes, HostRefines, IsPaced};
+    ghost use Rattle.host_machine.specs.Context.Host.{no_sockets};
+    ghost use Rattle.iface_receive.specs.FragmentKey.{CarriesFragment, IsFound};
+    ghost use Rattle.interface.specs.Stands.{host_with, slots_in, with_slots_in, with_context, with_routes, StandsFor, Becomes, HostRefines, IsPaced};
     ghost use Rattle.interface.specs.Details.Refines.{HostRefinesTelling};
 
     /// Creates an interface over a device, of which only the capabilities are read. The errors are tested in the order
@@ -481,6 +485,53 @@ impl Interface {
             host.with_slot_room H (slot_room_over (min (vec_capacity keys) (vec_capacity slots)))) }
     {
         self.fragments.set_storage(keys, slots);
+    }
+
+    /// How many datagrams are reassembled at a time.
+    pub fn fragment_room(&self) -> usize
+        ensures value { result ≡ length (slots_in self.now) }
+        ensures stands { (sockets : SocketSet) (H : Host) → StandsFor self.now sockets H → result ≡ H.slots.room }
+    {
+        self.fragments.room()
+    }
+
+    /// The key of the datagram to which a frame's fragment belongs, by the interface's own tests: the frame is for the interface, and
+    /// carries a packet with a right header, that may come from its source and isn't whole. `None` for any other frame.
+    #[inline(always)]
+    pub fn fragment_key(&self, frame: &[u8]) -> Option<FragKey>
+        ensures { IsFound (λ key. CarriesFragment key (host_with self.now no_sockets) frame.now) result }
+    {
+        fragment_key(&self.context, frame)
+    }
+
+    /// In how many slots a datagram is reassembled.
+    #[inline(always)]
+    pub fn fragments_taken(&self) -> usize
+        ensures taken { result ≡ taken_of (slots_in self.now) }
+        ensures few { result ≤ length (slots_in self.now) }
+    {
+        self.fragments.taken()
+    }
+
+    /// The key of the datagram that is reassembled in the slot at an index, and when its fragments expire. `None` if the slot is free,
+    /// or there is none.
+    pub fn fragment_holder(&self, index: usize) -> Option<Holder<FragKey>>
+        ensures value { result ≡ holder_at index (slots_in self.now) }
+        ensures stands { IfSome result (λ holder. (sockets : SocketSet) (H : Host) → StandsFor self.now sockets H →
+            IfSome (slot_of H.slots holder.key) (λ slot. slot.ends ≡ holder.expires_at)) }
+    {
+        self.fragments.holds_slots();
+        self.fragments.holder(index)
+    }
+
+    /// Drops the fragments in the slot at an index, which is free then. Nothing else changes. So who is in front of the interface
+    /// decides which datagram gives way to others.
+    pub fn release_fragments(&mut self, index: usize)
+        ensures released { IfSome (holder_at index (slots_in self.old)) (λ holder.
+            Becomes self.old self.new (λ H. host.with_slots H (without_slot H.slots holder.key))) }
+        ensures slots { self.new ≡ with_slots_in self.old (released_at index (slots_in self.old)) }
+    {
+        self.fragments.release(index);
     }
 
     /// Forgets all routes. From now on there is room for as many as both vectors have capacity for, and for 32 at most, or

@@ -12,7 +12,7 @@ pub mod interface;
 mod polling;
 
 pub use fragmentation::reassembly::{AssemblerError, AssemblerFullError};
-pub use fragmentation::{FragKey, Fragmenter, PacketAssembler, PacketAssemblerSet};
+pub use fragmentation::{FragKey, Fragmenter, Holder, PacketAssembler, PacketAssemblerSet};
 pub use host_machine::{
     AddrError, AddrListError, Answer, Capacities, Command, HardwareError, MulticastError, NewError,
     PollIngressSingleResult, PollResult, TimeoutError,

@@ -1,12 +1,14 @@
-use Rattle.std.proofs.Common.{◌≡◌, ◌∙◌, sym, true, false, rules}
+use Rattle.std.proofs.Common.{◌≡◌, ◌∙◌, sym, subst, true, false, rules}
+use Rattle.iface_host.specs.Fragments.{MakesRoom}
 use Rattle.iface_host.specs.Guarded.{is_admitted}
-use Rattle.iface_host.proofs.FrameCalls.{admitted, dropped}
+use Rattle.iface_host.proofs.FrameCalls.{ordinary, admitted, refused, dropped}
 use Rattle.iface_host.proofs.host.IfaceHost.hear.Goals as goal
 
 pub returns-then-is_ordinary : goal.returns-then-is_ordinary
 returns-then-is_ordinary c =
-    admitted c.args.now c.args.frame.now c.take_ordinary.result c.args.out.now c.take_ordinary.new.out c.args.self.now
-    c.args.self.now c.take_ordinary.new.self c.take_ordinary.ensures.admitted (sym c.take_ordinary.ensures.same) c.take_ordinary.ensures.taken
+    ordinary c.args.now c.args.frame.now c.take_ordinary.result c.args.out.now c.take_ordinary.new.out c.args.self.now
+    c.args.self.now c.take_ordinary.new.self (sym c.is_ordinary.ensures ∙ c.if-is_ordinary.true) (sym c.take_ordinary.ensures.same)
+    c.take_ordinary.ensures.taken
 
 pub returns-then-not-admits : goal.returns-then-not-admits
 returns-then-not-admits c =
@@ -14,11 +16,20 @@ returns-then-not-admits c =
     dropped c.args.now c.args.frame.now c.defend.result c.args.out.now c.defend.new.out c.args.self.now c.admits.new.self
     c.defend.new.self is c.admits.ensures.rest c.defend.ensures
 
+pub returns-then-not-makes_room : goal.returns-then-not-makes_room
+returns-then-not-makes_room c =
+    let is : is_admitted c.args.now c.args.frame.now c.args.self.now ≡ true = sym c.admits.ensures.admitted ∙ c.if-not-admits.false in
+    refused c.args.now c.args.frame.now c.args.out.now c.args.self.now c.admits.new.self c.makes_room.new.self is c.admits.ensures.rest
+    (subst (λ b. MakesRoom c.args.now c.args.frame.now b c.admits.new.self c.makes_room.new.self) c.if-not-makes_room.true c.makes_room.ensures.room)
+
 pub take_guarded-requires-clause-special : goal.take_guarded-requires-clause-special
-take_guarded-requires-clause-special c = c.admits.ensures.ordinary ∙ sym c.is_ordinary.ensures ∙ c.if-is_ordinary.false
+take_guarded-requires-clause-special c =
+    c.makes_room.ensures.ordinary ∙ c.admits.ensures.ordinary ∙ sym c.is_ordinary.ensures ∙ c.if-is_ordinary.false
 
 pub returns : goal.returns
 returns c =
-    let is : is_admitted c.args.now c.args.frame.now c.args.self.now ≡ true = search rules in
+    let is : is_admitted c.args.now c.args.frame.now c.args.self.now ≡ true = sym c.admits.ensures.admitted ∙ c.if-not-admits.false in
     admitted c.args.now c.args.frame.now c.take_guarded.result c.args.out.now c.take_guarded.new.out c.args.self.now
-    c.admits.new.self c.take_guarded.new.self is c.admits.ensures.rest c.take_guarded.ensures
+    c.admits.new.self c.take_guarded.new.self is c.admits.ensures.rest c.makes_room.new.self
+    (subst (λ b. MakesRoom c.args.now c.args.frame.now b c.admits.new.self c.makes_room.new.self) c.if-not-makes_room.false c.makes_room.ensures.room)
+    c.take_guarded.ensures
