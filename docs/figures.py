@@ -48,10 +48,10 @@ def of_constants():
     least, routes = constant("crates/iface_context/src/context.rt", "IFACE_MAX_ADDR_COUNT"), constant(tables + "route.rt", "IFACE_ROUTE_COUNT_LIMIT")
     prefixes, routers = constant(tables + "slaac.rt", "MAX_PREFIX_COUNT"), constant(tables + "slaac.rt", "MAX_ROUTER_COUNT")
     frame, rebuilt = constant("crates/net_base/src/phy.rt", "FRAME_BUFFER_SIZE"), constant("crates/fragmentation/src/reassembly.rt", "REASSEMBLY_BUFFER_SIZE")
-    yield from told("README.md", r"(\d+) to (\d+) addresses, up to (\d+) routes, (\d+) groups, and of SLAAC (\d+) prefixes and (\d+) routers",
+    yield from told("docs/MACHINE.md", r"(\d+) to (\d+) addresses, up to (\d+) routes, (\d+) groups, and of SLAAC (\d+) prefixes and (\d+) routers",
                     (least, addresses, routes, groups, prefixes, routers))
-    yield from told("README.md", r"Frames have at most ([\d,]+) octets, and rebuilt payloads ([\d,]+)\.", (frame, rebuilt))
-    yield from told("README.md", r"of IPv4, up to ([\d,]+) octets: rebuilds", (rebuilt,))
+    yield from told("docs/MACHINE.md", r"Frames have at most ([\d,]+) octets, and rebuilt payloads ([\d,]+)\.", (frame, rebuilt))
+    yield from told("docs/MACHINE.md", r"of IPv4, up to ([\d,]+) octets: rebuilds", (rebuilt,))
     host = "crates/iface_host/src/host.rt"
     usual = {name.lower(): constant(host, name) for name in ("NEIGHBORS", "ROUTES", "FRAGMENTED")}
     usual.update({name: int(count) for name, count in re.findall(r"^    (addresses|groups): (\d+),", read(host), re.M)})
@@ -65,7 +65,7 @@ def of_constants():
 def of_memory():
     """What an interface takes: what c/memory.c prints, of which docs/C.md has the table."""
     due = number(next(row[1] for row in rows(read("docs/C.md"), "Memory") if row[0] == "of these the block of its interface"))
-    yield from told("README.md", r"([\d,]+) octets an interface", (due,))
+    yield from told("README.md", r"An interface takes ([\d,]+) octets", (due,))
     host = next(row for row in rows(read("docs/C.md"), "Memory") if row[0] == "a host, by `iface_new`")
     yield from told("README.md", r"a host takes \[([\d,]+) by default, ([\d,]+) at the least\]", (number(host[1]), number(host[2])))
     yield from told("docs/PERFORMANCE.md", r"An `Interface` takes ([\d,]+) octets", (due,))
@@ -133,8 +133,8 @@ def of_the_kit():
     if not shutil.which("rt"):
         return
     line = subprocess.run(["rt", "version"], capture_output=True, text=True, check=False).stdout.strip()
-    if f"`{line}`" not in read("README.md"):
-        yield f"README.md: the line of the kit is `{line}`"
+    if f"`{line}`" not in read("docs/CONTRIBUTING.md"):
+        yield f"docs/CONTRIBUTING.md: the line of the kit is `{line}`"
 
 
 def problems():
