@@ -3,7 +3,7 @@
 that tables and lines aren't too long, that the examples of CONTRIBUTING.md stand somewhere, that MAP.md has each crate once,
 that calls of C that they name are in iface.h, that numbers of crates are those of crates.txt, that who copies crates by CLIENT.md has all that their lines name, that
 THEOREM.md has each law, and no other, and tells how many there are, that what promises stand on is counted right, that numbers are
-those of what they count (figures.py), and that each listing of CLIENT.md and TCP.md stands in a program (listings.py). Of
+those of what they count (figures.py), that no page has more long sentences than it had (sentences.py), and that each listing of CLIENT.md and TCP.md stands in a program (listings.py). Of
 crates.txt it tests that each crate names those that its line has, and that there aren't too many paths down; and of
 definitions, that those on which no promise stands are in a folder of their own (promises.py).
 
@@ -20,6 +20,7 @@ import files_behind
 import listings
 import promises
 import reference
+import sentences
 
 TOP = pathlib.Path(__file__).resolve().parent.parent
 PAGES = [TOP / "README.md", *sorted((TOP / "docs").glob("*.md")), TOP / "rust" / "README.md", TOP / "rust" / "API.md",
@@ -250,7 +251,7 @@ def main(arguments):
                        ("CLIENT.md", test_copies), ("MAP.md", test_map)):
         problems += [f"docs/{name}: {problem}" for problem in test(texts[TOP / "docs" / name])]
     problems += [f"crates.txt: {problem}" for problem in (*test_uses(crates), *test_paths(crates))]
-    problems += [*promises.misplaced(promises.promised()), *figures.problems()]
+    problems += [*promises.misplaced(promises.promised()), *figures.problems(), *sentences.problems()]
     for name in listings.PAGES:
         problems += [f"docs/{name}: {problem}" for problem in listings.unknown(texts[TOP / "docs" / name])]
     print("\n".join(problems + [f"{len(texts)} pages, {len(problems) or 'no'} problems"]))
