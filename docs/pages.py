@@ -1,9 +1,10 @@
 #!/usr/bin/env python3
 """Tests the pages: that each link leads to a file and to a heading there, that each file that a page names is there,
 that tables and lines aren't too long, that the examples of CONTRIBUTING.md stand somewhere, that MAP.md has each crate once,
-that calls of C that they name are in iface.h, that numbers of crates are those of crates.txt, that who copies crates by CLIENT.md has all that their lines name, that
-THEOREM.md has each law, and no other, and tells how many there are, that what promises stand on is counted right, that numbers are
-those of what they count (figures.py), that no page has more long sentences than it had (sentences.py), and that each listing of CLIENT.md and TCP.md stands in a program (listings.py). Of
+that calls of C that they name are in iface.h, that numbers of crates are those of crates.txt, that who copies crates by
+CLIENT.md has all that their lines name, that THEOREM.md has each law, and no other, and tells how many there are, that what
+promises stand on is counted right, that numbers are those of what they count (figures.py), that no page has more long
+sentences than it had (sentences.py), and that each listing of CLIENT.md and TCP.md stands in a program (listings.py). Of
 crates.txt it tests that each crate names those that its line has, and that there aren't too many paths down; and of
 definitions, that those on which no promise stands are in a folder of their own (promises.py).
 
