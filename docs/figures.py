@@ -60,6 +60,7 @@ def of_constants():
     yield from told("rust/API.md", r"`Config::neighbors`, by default (\d+); `addresses`, (\d+), of \d+ to \d+; `routes`, (\d+)",
                     (usual["neighbors"], usual["addresses"], usual["routes"]))
     yield from told("rust/src/config.rs", r"IFACE_NEIGHBOR_CACHE_COUNT: usize = (\d+);", (usual["neighbors"],))
+    yield from told("rust/src/config.rs", r"REASSEMBLY_BUFFER_COUNT: usize = (\d+);", (usual["fragmented"],))
 
 
 def of_memory():

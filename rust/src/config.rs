@@ -40,7 +40,7 @@ pub const IPV6_HBH_MAX_OPTIONS: usize = 4;
 
 /// How many packets in fragments are put together at a time, unless
 /// [`Config::fragmented`](crate::iface::Config::fragmented) says otherwise.
-pub const REASSEMBLY_BUFFER_COUNT: usize = 8;
+pub const REASSEMBLY_BUFFER_COUNT: usize = 16;
 
 /// The octets of the longest packet that is put together.
 pub const REASSEMBLY_BUFFER_SIZE: usize = 4096;
