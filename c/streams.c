@@ -548,30 +548,30 @@ static void reopens(void) {
     must("accept", iface_stream_accept(&tcp, listener, &s)), reads(&tcp, &host, second, &s, &p, "a question");
     writes(&tcp, &host, second, &s, &p, "an answer"), closes_first(&tcp, &host, second, &s, &p);
     /* while the program has it, and at the same instant, when the own number isn't beyond */
-    struct peer next = {4000, 7, p.seq, 0};
-    come(&host, 2 * second, &next, SYN, "");
+    struct peer again = {4000, 7, p.seq, 0};
+    come(&host, 2 * second, &again, SYN, "");
     struct segment answer = turn(&tcp, &host, 2 * second);
     wants("an acknowledgement", answer.flags, ACK), wants("of the end", answer.ack, p.seq);
     lets_go(&tcp, &host, 2 * second, &s);
     /* the number of the end, which was used */
-    next.seq = p.seq - 1, come(&host, 2 * second, &next, SYN, "");
+    again.seq = p.seq - 1, come(&host, 2 * second, &again, SYN, "");
     answer = turn(&tcp, &host, 2 * second), wants("an acknowledgement", answer.flags, ACK), wants("of the end", answer.ack, p.seq);
     /* where nobody listens */
     must("close", iface_stream_close_listener(&tcp, listener));
-    next.seq = p.seq, come(&host, 2 * second, &next, SYN, "");
+    again.seq = p.seq, come(&host, 2 * second, &again, SYN, "");
     answer = turn(&tcp, &host, 2 * second), wants("an acknowledgement", answer.flags, ACK), wants("of the end", answer.ack, p.seq);
     /* a larger one, with a listener */
     listener = listen_at(&tcp, 7, 4);
-    come(&host, 2 * second, &next, SYN, "");
+    come(&host, 2 * second, &again, SYN, "");
     answer = turn(&tcp, &host, 2 * second), wants("a SYN that acknowledges", answer.flags, SYN | ACK);
-    wants("its number", answer.ack, next.seq + 1), wants("beyond all that was sent", answer.seq - p.ack < 1u << 31, 1);
-    next.seq++, next.ack = answer.seq + 1, come(&host, 2 * second, &next, ACK, "");
+    wants("its number", answer.ack, again.seq + 1), wants("beyond all that was sent", answer.seq - p.ack < 1u << 31, 1);
+    again.seq++, again.ack = answer.seq + 1, come(&host, 2 * second, &again, ACK, "");
     wants_nothing("nothing more", &tcp, &host, 2 * second);
-    must("accept", iface_stream_accept(&tcp, listener, &s)), reads(&tcp, &host, 2 * second, &s, &next, "another");
+    must("accept", iface_stream_accept(&tcp, listener, &s)), reads(&tcp, &host, 2 * second, &s, &again, "another");
     /* the own number of this instant was used: it isn't beyond */
-    closes_first(&tcp, &host, 2 * second, &s, &next), lets_go(&tcp, &host, 2 * second, &s);
-    come(&host, 2 * second, &next, SYN, "");
-    answer = turn(&tcp, &host, 2 * second), wants("an acknowledgement", answer.flags, ACK), wants("of the end", answer.ack, next.seq);
+    closes_first(&tcp, &host, 2 * second, &s, &again), lets_go(&tcp, &host, 2 * second, &s);
+    come(&host, 2 * second, &again, SYN, "");
+    answer = turn(&tcp, &host, 2 * second), wants("an acknowledgement", answer.flags, ACK), wants("of the end", answer.ack, again.seq);
     must("free", iface_streams_free(&tcp, &host)), must("free", iface_free(&host));
 }
 
