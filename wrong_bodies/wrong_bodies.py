@@ -3,8 +3,8 @@
 
 usage: wrong_bodies.py check         each can still be applied: its old texts stand once in their files. Takes a second; .ci/run does it
        wrong_bodies.py try [CRATE..]  the prover has to refuse each, of these crates or of all. It works on a copy of the repository,
-                                     over what `rt check` kept in it, and proves first what it lacks. A wrong rule of a machine that
-                                     its own crate lets through is tried over the crate of its laws
+                                     over what `rt check` kept in it, and proves first what it lacks. A wrong rule of a machine or of
+                                     the guard that its own crate lets through is tried over the crate of its laws
 """
 import pathlib
 import re
@@ -17,7 +17,7 @@ HERE = pathlib.Path(__file__).resolve().parent
 TOP = HERE.parent
 
 # The crate of the laws of a crate of rules.
-LAWS = {"host_machine": "host_laws", "tcp_machine": "tcp_laws"}
+LAWS = {"guard": "guard_laws", "host_machine": "host_laws", "tcp_machine": "tcp_laws"}
 
 
 def why_not(edit, crate):

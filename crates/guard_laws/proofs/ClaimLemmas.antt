@@ -57,7 +57,7 @@ hardware_in frame long =
     ap (λ (o : List ℕ). record { 0 = o }) octets
 
 -- its IPv4 address
-sender_in : (frame : List ℕ) → Ipv4 (arp_in (drop 14 frame)).source_protocol_addr ≡ ipv4_at frame 28
+pub sender_in : (frame : List ℕ) → Ipv4 (arp_in (drop 14 frame)).source_protocol_addr ≡ ipv4_at frame 28
 sender_in frame =
     rw (get_or-drop 14 frame 14 0, get_or-drop 14 frame 15 0, get_or-drop 14 frame 16 0, get_or-drop 14 frame 17 0) refl
 
@@ -69,10 +69,10 @@ type_in false true six n f a s e = grind (arith, nat_tests)
 type_in false false true n f a s e = absurd cc
 type_in false false false n f a s e = absurd cc
 
-type_number : (frame : List ℕ) → (header_in frame).ethertype ≡ protocol.Arp → u16_at frame 12 ≡ 0x0806
+pub type_number : (frame : List ℕ) → (header_in frame).ethertype ≡ protocol.Arp → u16_at frame 12 ≡ 0x0806
 type_number frame e = type_in (u16_at frame 12 == 0x0800) (u16_at frame 12 == 0x0806) (u16_at frame 12 == 0x86dd) (u16_at frame 12) refl refl refl e
 
-long_enough : (frame : List ℕ) → 28 ≤ length (drop 14 frame) → 42 ≤ length frame
+pub long_enough : (frame : List ℕ) → 28 ≤ length (drop 14 frame) → 42 ≤ length frame
 long_enough frame l = omega (arith, l, length-drop 14 frame)
 
 -- two addresses of the same octets

@@ -1,5 +1,5 @@
 -- What is learnt from neighbour messages was told by the frame, and the guard reads the same octets.
-use Rattle.std.proofs.Common.{◌≡◌, ◌≤◌, ◌+◌, ◌-◌, ◌∙◌, ap, sym, subst, ℕ, pos, Bool, true, false, refl, inl, inr, arith, List, length, take, drop}
+use Rattle.std.proofs.Common.{◌≡◌, ◌≤◌, ◌+◌, ◌-◌, ◌∙◌, ap, sym, subst, ℕ, Bool, true, false, refl, inl, inr, arith, List, length, take, drop}
 use Rattle.std.specs.Prelude.{◌==◌, ◌⊎◌, slice_get, slice_index, slice_range, Option, Some, if◌then◌else◌}
 use Rattle.std.specs.Int.{from_be_bytes, w128}
 use Rattle.std.proofs.lemmas.Bool.Decides.{nat_tests}
@@ -15,33 +15,26 @@ use Rattle.ip_address.specs.declared.ipv6.Ipv6Address.{Ipv6Address}
 use Rattle.ip_address.specs.declared.protocol.IpProtocol.TheVariants as ip_protocol
 use Rattle.ip_wire.specs.Ethernet.{header_in}
 use Rattle.ip_wire.specs.declared.ethernet.EthernetProtocol.TheVariants as protocol
-use Rattle.ip_wire.specs.Ipv6Packet.{address_at, end}
-use Rattle.ip_wire.specs.HopByHop.{header_len}
+use Rattle.ip_wire.specs.Ipv6Packet.{address_at, end, ipv6_in}
+use Rattle.ip_wire.specs.HopByHop.{header_len, hop_by_hop_in}
 use Rattle.control_wire.specs.Icmpv6.{Error, IsBody, Listener, Neighbor, OfRouters, Reply, Request, type_in}
 use Rattle.control_wire.specs.Ndisc.{IsNdisc, ndisc_in, flags_in}
 use Rattle.control_wire.specs.NdiscOption.{AreOptions, lladdr_in}
 use Rattle.control_wire.specs.Router.{Advertisement, Solicitation}
 use Rattle.control_wire.specs.declared.ndisc.NdiscNeighborFlags.{NdiscNeighborFlags}
-use Rattle.control_wire.specs.declared.ndisc.NdiscRepr.{NdiscRepr}
 use Rattle.control_wire.specs.declared.ndisc.NdiscRepr.TheVariants.{NeighborAdvert, NeighborSolicit}
 use Rattle.control_wire.specs.Mld.{IsQuery, IsReport}
-use Rattle.iface_tables.specs.declared.neighbor.Neighbor.{Neighbor as Entry}
 use Rattle.host_machine.specs.Interface.Config.{if_ethernet}
 use Rattle.host_machine.specs.Context.Host.{Host}
-use Rattle.host_laws.specs.Laws.Restraint.Neighbors.{AfterHeader, AfterOptions, CameToBeKnown, Gives, HasMessage as Carries, TellsByArp}
-use Rattle.host_laws.specs.Laws.Restraint.Neighbors.{TellsByMessage, WasKnown, WasRenewed, WasTold}
-use Rattle.host_laws.specs.Laws.Restraint.Readings.{CarriesV6}
-use Rattle.host_laws.proofs.Discovery.LearntNeighbors.{neighbors_came}
+use Rattle.host_laws.specs.Laws.Restraint.Neighbors.{Gives}
 use Rattle.guard.proofs.Ipv6Lemmas.{among_if, own_messages_stay, pinned_messages_stay}
 use Rattle.guard.specs.Guard.{is_own}
 use Rattle.guard.specs.Ipv6.{AsSource, Behind, BehindOptions, HasMessage, IsNeighborMessage, source_of}
 use Rattle.guard.specs.Kind.{octet_at}
 use Rattle.guard.specs.Laws.{passes}
 use Rattle.guard.specs.declared.watch.Watch.{Watch}
-use Rattle.guard_laws.proofs.ClaimLemmas.{arrival, passes_on}
-use Rattle.guard_laws.proofs.MessageLemmas.{ArePart, few_octets, first_in, neighbor_in, octet_in, rest_is_part, told_one}
-use Rattle.guard_laws.specs.Claims.{IsKnownOnlyAt}
-use Rattle.guard_laws.specs.MessageClaims.{NobodyClaimsAnOwnIpv6Address, OptionsAreSaid, PinnedIpv6NeighborsStay}
+use Rattle.guard_laws.proofs.ClaimLemmas.{arrival}
+use Rattle.guard_laws.proofs.MessageLemmas.{ArePart, octet_in, rest_is_part, told_one}
 
 -- the type number of IPv6
 type_in_frame : (four arp six : Bool) (n : ℕ) → (n == 0x0800) ≡ four → (n == 0x0806) ≡ arp → (n == 0x86dd) ≡ six →
@@ -51,7 +44,7 @@ type_in_frame false true six n f a s e = absurd cc
 type_in_frame false false true n f a s e = grind (arith, nat_tests)
 type_in_frame false false false n f a s e = absurd cc
 
-type_number : (frame : List ℕ) → (header_in frame).ethertype ≡ protocol.Ipv6 → u16_at frame 12 ≡ 0x86dd
+pub type_number : (frame : List ℕ) → (header_in frame).ethertype ≡ protocol.Ipv6 → u16_at frame 12 ≡ 0x86dd
 type_number frame e = type_in_frame (u16_at frame 12 == 0x0800) (u16_at frame 12 == 0x0806) (u16_at frame 12 == 0x86dd) (u16_at frame 12) refl refl refl e
 
 -- the number of ICMPv6
@@ -66,16 +59,16 @@ number_by false false false false true f n is p = absurd cc
 number_by false false false false false true n is p = grind (arith, nat_tests)
 number_by false false false false false false n is p = absurd cc
 
-icmpv6_number : (n : ℕ) → protocol_of n ≡ ip_protocol.Icmpv6 → n ≡ 58
+pub icmpv6_number : (n : ℕ) → protocol_of n ≡ ip_protocol.Icmpv6 → n ≡ 58
 icmpv6_number n p = number_by (n == 0) (n == 1) (n == 2) (n == 6) (n == 17) (n == 58) n refl p
 
 -- the address at an offset of a packet
-source_in : (frame : List ℕ) → address_at (drop 14 frame) 8 ≡ address_at frame 22
+pub source_in : (frame : List ℕ) → address_at (drop 14 frame) 8 ≡ address_at frame 22
 unfolding address_at
 source_in frame = ap (λ (o : List ℕ). record { bits = from_be_bytes w128 (take 16 o) }) (drop-drop 8 14 frame)
 
 -- a message by its type is one of neighbour discovery
-is_ndisc : (octets : List ℕ) → IsBody octets → (type_in octets ≡ 135) ⊎ (type_in octets ≡ 136) → IsNdisc octets
+pub is_ndisc : (octets : List ℕ) → IsBody octets → (type_in octets ≡ 135) ⊎ (type_in octets ≡ 136) → IsNdisc octets
 is_ndisc octets (Neighbor is) type = is
 is_ndisc octets (Request t c) (inl e) = absurd (omega (arith, t, e))
 is_ndisc octets (Request t c) (inr e) = absurd (omega (arith, t, e))
@@ -93,19 +86,19 @@ is_ndisc octets (Listener (IsReport t c l)) (inl e) = absurd (omega (arith, t, e
 is_ndisc octets (Listener (IsReport t c l)) (inr e) = absurd (omega (arith, t, e))
 
 -- where the options of a frame tell a hardware address
-record IsTold (frame : List ℕ) (at : ℕ) (octets : List ℕ) (h : EthernetAddress) : Type 0 where
-  part : ArePart frame at octets
-  whole : 24 ≤ length octets
-  options : AreOptions (drop 24 octets)
-  type : ℕ
-  tells : lladdr_in type (drop 24 octets) ≡ Some h
+pub record IsTold (frame : List ℕ) (at : ℕ) (octets : List ℕ) (h : EthernetAddress) : Type 0 where
+  pub part : ArePart frame at octets
+  pub whole : 24 ≤ length octets
+  pub options : AreOptions (drop 24 octets)
+  pub type : ℕ
+  pub tells : lladdr_in type (drop 24 octets) ≡ Some h
 
 gives_by : (b : Bool) (t u : Ipv6Address) (x y : Option EthernetAddress) (f : NdiscNeighborFlags) (h : EthernetAddress) →
     Gives (if b then NeighborSolicit t x else NeighborAdvert f u y) h → (x ≡ Some h) ⊎ (y ≡ Some h)
 gives_by true t u x y f h e = inl e
 gives_by false t u x y f h e = inr e
 
-told_in : (frame : List ℕ) (at : ℕ) (octets : List ℕ) (h : EthernetAddress) → ArePart frame at octets → IsNdisc octets → Gives (ndisc_in octets) h →
+pub told_in : (frame : List ℕ) (at : ℕ) (octets : List ℕ) (h : EthernetAddress) → ArePart frame at octets → IsNdisc octets → Gives (ndisc_in octets) h →
     IsTold frame at octets h
 told_in frame at octets h part is gives = by (gives_by (slice_index octets 0 == 135) (address_at octets 8) (address_at octets 8)
     (lladdr_in 1 (drop 24 octets)) (lladdr_in 2 (drop 24 octets)) (flags_in octets) h gives) where
@@ -114,29 +107,32 @@ told_in frame at octets h part is gives = by (gives_by (slice_index octets 0 == 
       by (inr e) = record { part = part; whole = is.whole; options = is.options; type = 2; tells = e }
 
 -- where the message of a packet is in its frame
-record IsPlaced (frame octets : List ℕ) : Type 0 where
-  at : ℕ
-  message : HasMessage frame at
-  part : ArePart frame at octets
+pub record IsPlaced (frame octets : List ℕ) : Type 0 where
+  pub at : ℕ
+  pub message : HasMessage frame at
+  pub part : ArePart frame at octets
 
 longer : (octets : List ℕ) (n : ℕ) → 24 ≤ length (drop n octets) → n + 24 ≤ length octets
 longer octets n l = let d = length-drop n octets in omega (arith, l, d)
 
-payload_part : (frame packet : List ℕ) → packet ≡ drop 14 frame → ArePart frame 54 (slice_range packet 40 (end packet))
+pub payload_part : (frame packet : List ℕ) → packet ≡ drop 14 frame → ArePart frame 54 (slice_range packet 40 (end packet))
 payload_part frame packet is = record {
   most = end packet - 40;
   is = ap (λ (p : List ℕ). take (end packet - 40) (drop 40 p)) is ∙ ap (take (end packet - 40)) (drop-drop 40 14 frame);
 }
 
-placed : (frame packet octets : List ℕ) → packet ≡ drop 14 frame → 24 ≤ length octets → OptionsAreSaid frame → Carries packet octets →
-    IsPlaced frame octets
-placed frame packet octets is long said (AfterHeader header same) = record {
+pub placed_after_header : (frame packet octets : List ℕ) → packet ≡ drop 14 frame → (ipv6_in packet).0.next_header ≡ ip_protocol.Icmpv6 →
+    octets ≡ (ipv6_in packet).1 → IsPlaced frame octets
+placed_after_header frame packet octets is header same = record {
   at = 54;
   message =
       Behind (sym (ap (λ (p : List ℕ). slice_index p 6) is ∙ get_or-drop 14 frame 6 0) ∙ icmpv6_number (slice_index packet 6) header) refl;
   part = subst (ArePart frame 54) (sym same) (payload_part frame packet is);
 }
-placed frame packet octets is long said (AfterOptions header same) = by (slice_range packet 40 (end packet)) (payload_part frame packet is) header same where
+
+pub placed_after_options : (frame packet octets : List ℕ) → packet ≡ drop 14 frame → 24 ≤ length octets → octet_at frame 20 ≡ 0 →
+    (hop_by_hop_in (ipv6_in packet).1).0.next_header ≡ ip_protocol.Icmpv6 → octets ≡ (hop_by_hop_in (ipv6_in packet).1).1 → IsPlaced frame octets
+placed_after_options frame packet octets is long zero header same = by (slice_range packet 40 (end packet)) (payload_part frame packet is) header same where
   by : (payload : List ℕ) → ArePart frame 54 payload → protocol_of (slice_index payload 0) ≡ ip_protocol.Icmpv6 →
       octets ≡ drop (header_len payload) payload → IsPlaced frame octets
   by payload part number rest =
@@ -147,65 +143,27 @@ placed frame packet octets is long said (AfterOptions header same) = by (slice_r
       let second : slice_index payload 1 ≡ octet_at frame 55 = octet_in frame 54 payload part 1 (omega (arith, all)) in
       record {
         at = 54 + header_len payload;
-        message = BehindOptions (said first) first (omega (arith, second));
+        message = BehindOptions zero first (omega (arith, second));
         part =
             subst (ArePart frame (54 + header_len payload)) (sym rest)
             (rest_is_part frame 54 (header_len payload) payload part (omega (arith, all)));
       }
 
 -- a message is behind the whole header
-behind : (frame : List ℕ) (at : ℕ) (octets : List ℕ) → HasMessage frame at → length octets ≤ length frame - at → 24 ≤ length octets → 54 ≤ length frame
+pub behind : (frame : List ℕ) (at : ℕ) (octets : List ℕ) → HasMessage frame at → length octets ≤ length frame - at → 24 ≤ length octets → 54 ≤ length frame
 behind frame at octets (Behind header is) few long = omega (arith, is, few, long)
 behind frame at octets (BehindOptions header first is) few long = omega (arith, is, few, long)
 
 -- who a neighbour message comes from, and what it tells
-record Told (frame : List ℕ) (a : Ipv6Address) (h : EthernetAddress) : Type 0 where
-  at : ℕ
-  octets : List ℕ
-  is : IsNeighborMessage frame at
-  source : source_of frame ≡ Ipv6 a
-  told : IsTold frame at octets h
-
-told_by : (H : Host) (frame : List ℕ) (a : Ipv6Address) (own h : EthernetAddress) → H.hardware_addr ≡ Ethernet own → OptionsAreSaid frame →
-    TellsByMessage H frame (Ipv6 a) h → Told frame a h
-told_by H frame a own h hardware said told = by carried.1 where
-  carried : ((header_in frame).ethertype ≡ protocol.Ipv6) × (told.packet ≡ drop 14 frame)
-  carried = subst (λ (x : HardwareAddress). CarriesV6 x frame told.packet) hardware told.carried
-
-  message : ((type_in told.octets ≡ 135) ⊎ (type_in told.octets ≡ 136)) × (ndisc_in told.octets ≡ told.message)
-  message = neighbor_in told.octets told.message told.values
-
-  is : IsNdisc told.octets
-  is = is_ndisc told.octets told.is_message.body message.0
-
-  gives : Gives (ndisc_in told.octets) h
-  gives = subst (λ (m : NdiscRepr). Gives m h) (sym message.1) told.hardware_is
-
-  typed : (n : ℕ) → n ≡ type_in told.octets → (n ≡ 135) ⊎ (n ≡ 136)
-  typed n e = subst (λ (m : ℕ). (m ≡ 135) ⊎ (m ≡ 136)) (sym e) message.0
-
-  by : told.packet ≡ drop 14 frame → Told frame a h
-  by packet =
-      let place = placed frame told.packet told.octets packet is.whole said told.has_message in
-      let f = few_octets frame place.at told.octets place.part in
-      let w = is.whole in
-      let first : octet_at frame place.at ≡ type_in told.octets =
-      sym (first_in frame place.at told.octets place.part (omega (arith, w))) in
-      record {
-        at = place.at;
-        octets = told.octets;
-        is = record {
-          header = record { whole = behind frame place.at told.octets place.message f w; type = type_number frame carried.0 };
-          message = place.message;
-          type = typed (octet_at frame place.at) first;
-        };
-        source =
-            sym (told.address_is ∙ ap (λ (p : List ℕ). Ipv6 (address_at p 8)) packet ∙ ap Ipv6 (source_in frame));
-        told = told_in frame place.at told.octets h place.part is gives;
-      }
+pub record Told (frame : List ℕ) (a : Ipv6Address) (h : EthernetAddress) : Type 0 where
+  pub at : ℕ
+  pub octets : List ℕ
+  pub is : IsNeighborMessage frame at
+  pub source : source_of frame ≡ Ipv6 a
+  pub told : IsTold frame at octets h
 
 -- what a message that an open guard lets through tells of an own address is the own hardware address
-own_by_message : (at : ℕ) (frame : List ℕ) (w : Watch) (H : Host) (a : Ipv6Address) (own h : EthernetAddress) →
+pub own_by_message : (at : ℕ) (frame : List ℕ) (w : Watch) (H : Host) (a : Ipv6Address) (own h : EthernetAddress) →
     passes (arrival at frame H) w.guard ≡ true → w.guard.keeps_own_addresses ≡ true → H.hardware_addr ≡ Ethernet own →
     is_own H.ip_addrs (Ipv6 a) ≡ true → Told frame a h → h ≡ own
 own_by_message at frame w H a own h pass keeps hardware mine told =
@@ -215,7 +173,7 @@ own_by_message at frame w H a own h pass keeps hardware mine told =
     told_one frame told.at told.octets told.told.type own h told.told.part told.told.whole told.told.options told.told.tells stays.1
 
 -- and of a pinned address the pinned one
-pinned_by_message : (at : ℕ) (frame : List ℕ) (w : Watch) (H : Host) (a : Ipv6Address) (h one : EthernetAddress) (k : ℕ) →
+pub pinned_by_message : (at : ℕ) (frame : List ℕ) (w : Watch) (H : Host) (a : Ipv6Address) (h one : EthernetAddress) (k : ℕ) →
     passes (arrival at frame H) w.guard ≡ true → slice_get w.guard.pins.pairs k ≡ Some (Some (record { address = Ipv6 a; hardware = h })) →
     Told frame a one → one ≡ h
 pinned_by_message at frame w H a h one k pass there told =
@@ -223,30 +181,3 @@ pinned_by_message at frame w H a h one k pass there told =
     there ∙ ap (λ (x : IpAddress). Some (Some (record { address = x; hardware = h }))) (sym told.source) in
     let stays = pinned_messages_stay (arrival at frame H) w.guard h k told.at told.is pinned pass in
     told_one frame told.at told.octets told.told.type h one told.told.part told.told.whole told.told.options told.told.tells stays
-
--- an IPv6 address is none of ARP
-no_arp : (H : Host) (frame : List ℕ) (a : Ipv6Address) (h : EthernetAddress) → TellsByArp H frame (Ipv6 a) h → ⊥
-no_arp H frame a h told = let e = told.address_is in absurd cc
-
--- so is whoever came to be known, by whatever a message tells
-known_at : (at : ℕ) (frame : List ℕ) (old : Host) (a : Ipv6Address) (h : EthernetAddress) →
-    ((own told : EthernetAddress) → old.hardware_addr ≡ Ethernet own → TellsByMessage old frame (Ipv6 a) told → told ≡ h) →
-    IsKnownOnlyAt old (Ipv6 a) h → (n : Entry) → CameToBeKnown (pos at) frame old (Ipv6 a) n → n.hardware_addr ≡ Ethernet h
-known_at at frame old a h by_message before n (WasKnown there) = before n there
-known_at at frame old a h by_message before n (WasRenewed was there is from) =
-    ap (λ (x : Entry). x.hardware_addr) is ∙ before was there
-known_at at frame old a h by_message before n (WasTold own told hardware is (inl arp)) = absurd (no_arp old frame a told arp)
-known_at at frame old a h by_message before n (WasTold own told hardware is (inr message)) =
-    ap (λ (x : Entry). x.hardware_addr) is ∙ ap Ethernet (by_message own told hardware message)
-
-pub nobody_claims_an_own_ipv6_address : NobodyClaimsAnOwnIpv6Address
-nobody_claims_an_own_ipv6_address at frame w old new told notes a own receives said keeps hardware mine before n there =
-    let pass : passes (arrival at frame old) w.guard ≡ true = passes_on at frame w old receives.is_on receives.admitted in
-    known_at at frame old a own (λ other h is message. own_by_message at frame w old a own h pass keeps hardware mine
-    (told_by old frame a other h is said message)) before n (neighbors_came (pos at) frame old new told notes receives.receives (Ipv6 a) n there)
-
-pub pinned_ipv6_neighbors_stay : PinnedIpv6NeighborsStay
-pinned_ipv6_neighbors_stay at frame w old new told notes a h k receives said pinned before n there =
-    let pass : passes (arrival at frame old) w.guard ≡ true = passes_on at frame w old receives.is_on receives.admitted in
-    known_at at frame old a h (λ own other is message. pinned_by_message at frame w old a h other k pass pinned
-    (told_by old frame a own other is said message)) before n (neighbors_came (pos at) frame old new told notes receives.receives (Ipv6 a) n there)

@@ -1,8 +1,7 @@
 -- Newcomers stay as long as so many others end before them as frames come.
 use Rattle.std.proofs.Common.{◌≡◌, ◌≢◌, ℕ, suc, ◌+◌, ◌-◌, ◌*◌, ◌≤◌, ◌<◌, Bool, true, false, List, [], ◌∷◌, length, refl, sym, ap, subst, ◌∙◌, arith}
-use Rattle.std.specs.Prelude.{cond, ℤ, pos, ◌<ℤ◌, ◌≤ℤ◌, ◌==◌, ◌&&◌, ◌||◌, Option, Some, None, if◌then◌else◌}
+use Rattle.std.specs.Prelude.{cond, ℤ, pos, ◌<ℤ◌, ◌≤ℤ◌, ◌&&◌, ◌||◌, Option, Some, None, if◌then◌else◌}
 use Rattle.std.specs.Ordering.{eq_by_cmp}
-use Rattle.std.proofs.lemmas.Bool.Decides.{nat_tests}
 use Rattle.std.proofs.lemmas.Int.{ints}
 use Rattle.std.specs.FinMap as map
 use Rattle.std.specs.FinMap.{get-insert, get-remove}
@@ -14,17 +13,17 @@ use Rattle.iface_tables.specs.declared.neighbor.Neighbor.{Neighbor}
 use Rattle.iface_tables.proofs.EntriesLemmas.{tied}
 use Rattle.iface_tables.proofs.NeighborLemmas.{address_total, address_same}
 use Rattle.guard.specs.Kind.{kind_of}
-use Rattle.guard.specs.Strangers.{end_of_stay, has_address, is_packet, leaves_half, limit_at, limit_for, limit_of}
-use Rattle.guard.specs.Strangers.{limit_of_confirmed, limit_of_new, limit_of_stranger, limited, sender_of, teaches_nobody, may_have_entry}
+use Rattle.guard.specs.Strangers.{end_of_stay, has_address, is_packet, leaves_half, limit_at, limit_of}
+use Rattle.guard.specs.Strangers.{limit_of_confirmed, limit_of_stranger, limited, teaches_nobody}
 use Rattle.guard.specs.Guard.{was_asked}
 use Rattle.guard.specs.declared.guard.Guard.{Guard}
 use Rattle.guard.specs.declared.kind.Kind.{Kind}
 use Rattle.guard.specs.declared.strangers.Limit.{Limit}
-use Rattle.guard_laws.specs.Strangers.{All, AreInOrder, Arrived, End, HaveStay, IsAtNoOther, IsKnownUntil, Learns, Leaves, Less, NewcomersStay}
+use Rattle.guard_laws.specs.Strangers.{All, AreInOrder, Arrived, End, HaveStay, IsAtNoOther, IsKnownUntil, KnowSame, Learns, Leaves, Less, NewcomersStay}
 use Rattle.guard_laws.specs.Strangers.{Runs, StaysAt, Then}
-use Rattle.guard_laws.proofs.CountLemmas.{Known, before, count-all, count-insert_soon, count-insert_there, lt_of, sooner}
-use Rattle.guard_laws.proofs.StrangerLemmas.{Came, InPlace, Lasts, Over, Same, came, found, limit_is, limit_leaves, of_sender, one_more, ordered, own_came}
-use Rattle.guard_laws.proofs.StrangerLemmas.{kept_room, room_same}
+use Rattle.guard_laws.proofs.CountLemmas.{Known, before, count-all, count-insert_soon, count-insert_there, lt_of}
+use Rattle.guard_laws.proofs.StrangerLemmas.{Came, InPlace, Lasts, Over, Same, came, found, limit_is, limit_leaves, of_sender, one_more, own_came}
+use Rattle.guard_laws.proofs.StrangerLemmas.{kept_room, room_same, same_until}
 
 -- a limit makes no entry end later
 limited_fewer : (e end : ℤ) (m : Known) (a : IpAddress) → count_after e (limited_from (map.get m a) m a end) ≤ count_after e m
@@ -124,7 +123,7 @@ module _ (c : Arrived) (b : IpAddress) (h : HardwareAddress) (e left : ℕ) (old
   late_b = let lasts = is_known.lasts in before (pos e) is_known.neighbor.expires_at (omega (arith, ints, lasts))
 
   lasts_by : (a : IpAddress) (learnt new : Neighbors) → Learns c a old learnt →
-      new ≡ limited (limit_of (pos c.at) (kind_of c.frame) a old (map.get old.known a) c.guard) learnt → IsAtNoOther b h new →
+      KnowSame (limited (limit_of (pos c.at) (kind_of c.frame) a old (map.get old.known a) c.guard) learnt) new → IsAtNoOther b h new →
       (d : Bool) → eq_by_cmp address_cmp b a ≡ d → IsKnownUntil new b h (suc e)
   lasts_by a learnt new learns is only false apart =
       let n = is_known.neighbor in
@@ -134,7 +133,7 @@ module _ (c : Arrived) (b : IpAddress) (h : HardwareAddress) (e left : ℕ) (old
       record {
         neighbor = n;
         is_there =
-            ap (λ (k : Neighbors). map.get k.known b) is
+            ap (λ (m : Known). map.get m b) is.0
             ∙ limit_leaves learnt (limit_of (pos c.at) (kind_of c.frame) a old (map.get old.known a) c.guard) a b
             (λ l i. of_sender (pos c.at) (kind_of c.frame) a old (map.get old.known a) c.guard l i) apart ∙ stays;
         hardware = is_known.hardware;
@@ -151,24 +150,26 @@ module _ (c : Arrived) (b : IpAddress) (h : HardwareAddress) (e left : ℕ) (old
       (λ x i. of_sender (pos c.at) (kind_of c.frame) a old (map.get old.known a) c.guard x i ∙ key)
       (λ x i. let at_end : x.expires_at ≡ pos (c.at + c.guard.strangers_stay) =
       ends_at (pos c.at) (kind_of c.frame) a old (map.get old.known a) c.guard x i in rw at_end (omega (arith, ints, stay))) l in
-      let l'' : Lasts new.known b (pos (suc e)) = subst (λ (k : Neighbors). Lasts k.known b (pos (suc e))) (sym is) l' in
+      let l'' : Lasts new.known b (pos (suc e)) = subst (λ (m : Known). Lasts m b (pos (suc e))) (sym is.0) l' in
       record { neighbor = l''.neighbor; is_there = l''.is_there; hardware = only l''.neighbor l''.is_there; lasts = l''.lasts }
+
+  counted : (before new : Neighbors) → KnowSame before new → left + count_after (pos e) before.known ≤ before.room →
+      left + count_after (pos e) new.known ≤ new.room
+  counted before new same le = rw (same.0, same.1) le
 
   step : (new : Neighbors) → Leaves c old new → IsAtNoOther b h new →
       IsKnownUntil new b h (suc e) × (left + count_after (pos e) new.known ≤ new.room)
-  step new (All same) only =
-      subst (λ (k : Neighbors). IsKnownUntil k b h (suc e) × (left + count_after (pos e) k.known ≤ k.room)) (sym same)
-      (is_known, omega (arith, many))
+  step new (All same) only = (same_until old new b h (suc e) same is_known, counted old new same (omega (arith, many)))
   step new (Less a learnt sender may learns is) only =
-      let is' : new ≡ limited (limit_of (pos c.at) (kind_of c.frame) a old (map.get old.known a) c.guard) learnt =
-      is ∙ ap (λ (l : Option Limit). limited l learnt) (limit_is c old some a sender may) in
+      let is' : KnowSame (limited (limit_of (pos c.at) (kind_of c.frame) a old (map.get old.known a) c.guard) learnt) new =
+      subst (λ (l : Option Limit). KnowSame (limited l learnt) new) (limit_is c old some a sender may) is in
       let limit = limit_of (pos c.at) (kind_of c.frame) a old (map.get old.known a) c.guard in
       let room : (limited limit learnt).room ≡ old.room = kept_room limit learnt ∙ room_same c a old learnt learns in
       let one : count_after (pos e) learnt.known ≤ count_after (pos e) old.known + 1 =
       one_more (pos e) old.room old.known learnt.known a (teaches_nobody (kind_of c.frame)) (pos (c.at + 60000000)) (came c a old learnt learns) in
       let two = count_limited (pos e) limit learnt in (
         lasts_by a learnt new learns is' only (eq_by_cmp address_cmp b a) refl,
-        subst (λ (k : Neighbors). left + count_after (pos e) k.known ≤ k.room) (sym is') (rw room (omega (arith, many, one, two))),
+        counted (limited limit learnt) new is' (rw room (omega (arith, many, one, two))),
       )
 
 newcomer : (stay first last e : ℕ) (arrived : List Arrived) (old new : Neighbors) (b : IpAddress) (h : HardwareAddress) → stay ≢ 0 →

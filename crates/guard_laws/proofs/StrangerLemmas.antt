@@ -22,7 +22,7 @@ use Rattle.guard.specs.Guard.{was_asked}
 use Rattle.guard.specs.declared.guard.Guard.{Guard}
 use Rattle.guard.specs.declared.kind.Kind.{Kind}
 use Rattle.guard.specs.declared.strangers.Limit.{Limit}
-use Rattle.guard_laws.specs.Strangers.{All, AreFew, AreInOrder, Arrived, ConfirmedStay, End, HaveStay, IsAtNoOther, IsKnownUntil, Learns, Leaves, Less}
+use Rattle.guard_laws.specs.Strangers.{All, AreFew, AreInOrder, Arrived, ConfirmedStay, End, HaveStay, IsAtNoOther, IsKnownUntil, KnowSame, Learns, Leaves, Less}
 use Rattle.guard_laws.specs.Strangers.{Nobody, Renewed, Runs, StaysAt, Stored, Then}
 use Rattle.guard_laws.proofs.CountLemmas.{Known, before, count-all, count-fewer, count-insert, count-insert_soon, count-insert_there, count-remove, lt_of}
 
@@ -62,18 +62,30 @@ renewed room old new a h teaches_none end is = by (map.get old a) refl is where
 
 pub came : (c : Arrived) (a : IpAddress) (old new : Neighbors) → Learns c a old new →
     Came old.room old.known new.known a (teaches_nobody (kind_of c.frame)) (pos (c.at + 60000000))
-came c a old new (Nobody same) = Same (ap (λ (k : Neighbors). k.known) same)
-came c a old new (Stored h teaches fills) = stored old.room old.known new.known a _ (teaches_nobody (kind_of c.frame)) teaches fills.puts
-came c a old new (Renewed h is) =
-    renewed old.room old.known new.known a h (teaches_nobody (kind_of c.frame)) (pos (c.at + 60000000)) (ap (λ (k : Neighbors). k.known) is)
+came c a old new (Nobody (same, room)) = Same same
+came c a old new (Stored h teaches puts room) = stored old.room old.known new.known a _ (teaches_nobody (kind_of c.frame)) teaches puts
+came c a old new (Renewed h (is, room)) = renewed old.room old.known new.known a h (teaches_nobody (kind_of c.frame)) (pos (c.at + 60000000)) is
 
 pub room_same : (c : Arrived) (a : IpAddress) (old new : Neighbors) → Learns c a old new → new.room ≡ old.room
-room_same c a old new (Nobody same) = ap (λ (k : Neighbors). k.room) same
-room_same c a old new (Stored h teaches fills) = fills.room
-room_same c a old new (Renewed h is) = ap (λ (k : Neighbors). k.room) is
+room_same c a old new (Nobody (same, room)) = room
+room_same c a old new (Stored h teaches puts room) = room
+room_same c a old new (Renewed h (is, room)) = room
+
+-- where the same are known, the same is so of them
+pub same_until : (old new : Neighbors) (b : IpAddress) (h : HardwareAddress) (end : ℕ) → KnowSame old new → IsKnownUntil old b h end →
+    IsKnownUntil new b h end
+same_until old new b h end same k = record {
+  neighbor = k.neighbor;
+  is_there = ap (λ (m : Known). map.get m b) same.0 ∙ k.is_there;
+  hardware = k.hardware;
+  lasts = k.lasts;
+}
+
+pub same_other : (old new : Neighbors) (b : IpAddress) (h : HardwareAddress) → KnowSame old new → IsAtNoOther b h new → IsAtNoOther b h old
+same_other old new b h same only n is = only n (ap (λ (m : Known). map.get m b) same.0 ∙ is)
 
 -- putting twice at an address is putting the second
-put_twice : (m : Known) (a : IpAddress) (x y : Neighbor) → map.insert (map.insert m a x) a y ≡ map.insert m a y
+pub put_twice : (m : Known) (a : IpAddress) (x y : Neighbor) → map.insert (map.insert m a x) a y ≡ map.insert m a y
 put_twice m a x y = same_map address_total address_same _ _ (λ q.
     get-insert address_total (map.insert m a x) a y q ∙ by q (eq_by_cmp address_cmp q a) refl ∙ sym (get-insert address_total m a y q)) where
       by : (q : IpAddress) (b : Bool) → eq_by_cmp address_cmp q a ≡ b → cond b (Some y) (map.get (map.insert m a x) q) ≡ cond b (Some y) (map.get m q)
@@ -375,6 +387,15 @@ pub record Keeps (most t : ℕ) (b : IpAddress) (h : HardwareAddress) (end : ℕ
   pub few : AreFew most t known
   pub is_known : IsKnownUntil known b h end
 
+same_keeps : (most t : ℕ) (b : IpAddress) (h : HardwareAddress) (end : ℕ) (old new : Neighbors) → KnowSame old new → Keeps most t b h end old →
+    Keeps most t b h end new
+same_keeps most t b h end old new same keeps = record {
+  share = subst (λ (r : ℕ). r ≤ 2 * most) (sym same.1) keeps.share;
+  less = subst (λ (r : ℕ). most < r) (sym same.1) keeps.less;
+  few = subst (λ (m : Known). count_after (pos t) m ≤ most) (sym same.0) keeps.few;
+  is_known = same_until old new b h end same keeps.is_known;
+}
+
 module _ (most : ℕ) (c : Arrived) (b : IpAddress) (h : HardwareAddress) (end : ℕ) (old : Neighbors) (keeps : Keeps most (c.at + c.guard.strangers_stay) b h end old)
     (some : c.guard.strangers_stay ≢ 0) (minute : end ≤ c.at + 60000000) (left : c.at + c.guard.strangers_stay < end) where
   confirmed_b : is_before (pos (c.at + c.guard.strangers_stay)) keeps.is_known.neighbor.expires_at ≡ true
@@ -419,19 +440,19 @@ module _ (most : ℕ) (c : Arrived) (b : IpAddress) (h : HardwareAddress) (end :
       })
 
   step : (new : Neighbors) → Leaves c old new → IsAtNoOther b h new → Keeps most (c.at + c.guard.strangers_stay) b h end new
-  step new (All same) only = subst (λ (k : Neighbors). Keeps most (c.at + c.guard.strangers_stay) b h end k) (sym same) keeps
+  step new (All same) only = same_keeps most (c.at + c.guard.strangers_stay) b h end old new same keeps
   step new (Less a learnt sender may learns is) only =
       let limit = limit_is c old some a sender may in
-      let is' : new ≡ limited (limit_of (pos c.at) (kind_of c.frame) a old (map.get old.known a) c.guard) learnt =
-      is ∙ ap (λ (l : Option Limit). limited l learnt) limit in
+      let is' : KnowSame (limited (limit_of (pos c.at) (kind_of c.frame) a old (map.get old.known a) c.guard) learnt) new =
+      subst (λ (l : Option Limit). KnowSame (limited l learnt) new) limit is in
       let left_of = limited (limit_of (pos c.at) (kind_of c.frame) a old (map.get old.known a) c.guard) learnt in
       let room : left_of.room ≡ old.room =
       kept_room (limit_of (pos c.at) (kind_of c.frame) a old (map.get old.known a) c.guard) learnt ∙ room_same c a old learnt learns in
-      subst (λ (k : Neighbors). Keeps most (c.at + c.guard.strangers_stay) b h end k) (sym is') (record {
+      same_keeps most (c.at + c.guard.strangers_stay) b h end left_of new is' (record {
         share = subst (λ (r : ℕ). r ≤ 2 * most) (sym room) keeps.share;
         less = subst (λ (r : ℕ). most < r) (sym room) keeps.less;
         few = few_after most (pos c.at) (kind_of c.frame) a c.guard old learnt (pos (c.at + 60000000)) keeps.share (came c a old learnt learns) keeps.few;
-        is_known = lasts_by a learnt learns (eq_by_cmp address_cmp b a) refl (subst (IsAtNoOther b h) is' only);
+        is_known = lasts_by a learnt learns (eq_by_cmp address_cmp b a) refl (same_other left_of new b h is' only);
       })
 
 -- few stay few as time goes on

@@ -1,4 +1,5 @@
 pub mod Claims
 pub mod MessageClaims
 pub mod Strangers
+pub mod Learning
 pub mod Answers

@@ -8,26 +8,20 @@ use Rattle.ip_address.specs.declared.ipv6.Ipv6Address.{Ipv6Address}
 use Rattle.host_machine.specs.Context.Host.{Host}
 use Rattle.host_machine.specs.Context.Note.{Note}
 use Rattle.guard.specs.Guard.{is_own}
-use Rattle.guard.specs.Kind.{octet_at}
 use Rattle.guard.specs.declared.watch.Watch.{Watch}
 use Rattle.guard_laws.specs.Claims.{IsKnownOnlyAt, ReceivesAdmitted}
-
--- what is behind the header of a packet begins as hop-by-hop options before a message of ICMPv6 do, with 58, only if the header says
--- that they are there (RFC 8200 4.3). What is known of a host's neighbours doesn't tell the others apart
-abbrev pub OptionsAreSaid : List ℕ → Type 0
-OptionsAreSaid frame = octet_at frame 54 ≡ 58 → octet_at frame 20 ≡ 0
 
 -- An own address that is known at no other hardware address than the own one stays so, behind a guard that keeps own addresses
 abbrev pub NobodyClaimsAnOwnIpv6Address : Type 0
 NobodyClaimsAnOwnIpv6Address =
     (at : ℕ) (frame : List ℕ) (w : Watch) (old new : Host) (told : List Event) (notes : List Note) (a : Ipv6Address) (own : EthernetAddress) →
-    ReceivesAdmitted at frame w old told notes new → OptionsAreSaid frame → w.guard.keeps_own_addresses ≡ true →
+    ReceivesAdmitted at frame w old told notes new → w.guard.keeps_own_addresses ≡ true →
     old.hardware_addr ≡ Ethernet own → is_own old.ip_addrs (Ipv6 a) ≡ true → IsKnownOnlyAt old (Ipv6 a) own → IsKnownOnlyAt new (Ipv6 a) own
 
 -- So does a pinned address at no other than the pinned one
 abbrev pub PinnedIpv6NeighborsStay : Type 0
 PinnedIpv6NeighborsStay =
     (at : ℕ) (frame : List ℕ) (w : Watch) (old new : Host) (told : List Event) (notes : List Note) (a : Ipv6Address) (h : EthernetAddress)
-    (k : ℕ) → ReceivesAdmitted at frame w old told notes new → OptionsAreSaid frame →
+    (k : ℕ) → ReceivesAdmitted at frame w old told notes new →
     slice_get w.guard.pins.pairs k ≡ Some (Some (record { address = Ipv6 a; hardware = h })) → IsKnownOnlyAt old (Ipv6 a) h →
     IsKnownOnlyAt new (Ipv6 a) h

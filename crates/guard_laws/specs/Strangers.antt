@@ -4,7 +4,7 @@ use Rattle.std.specs.FinMap as map
 use Rattle.ip_address.specs.declared.cidr.IpCidr.{IpCidr}
 use Rattle.ip_address.specs.declared.hardware.HardwareAddress.{HardwareAddress}
 use Rattle.ip_address.specs.declared.ip.IpAddress.{IpAddress}
-use Rattle.iface_tables.specs.Neighbor.{Fills, Neighbors, after_renewal, count_after}
+use Rattle.iface_tables.specs.Neighbor.{Neighbors, Puts, after_renewal, count_after}
 use Rattle.iface_tables.specs.declared.neighbor.Neighbor.{Neighbor}
 use Rattle.guard.specs.Kind.{kind_of}
 use Rattle.guard.specs.Strangers.{limit_for, limited, may_have_entry, sender_of, teaches_nobody}
@@ -17,20 +17,25 @@ pub record Arrived : Type 0 where
   pub own : List IpCidr
   pub guard : Guard
 
+-- the same neighbours are known, and there is room for as many. A host that asks for somebody is silent for a second, and knows the same
+abbrev pub KnowSame : Neighbors → Neighbors → Type 0
+KnowSame old new = (new.known ≡ old.known) × (new.room ≡ old.room)
+
 -- what a frame does to the neighbours of its host, before the guard leaves less of it: nothing; or its sender is stored for a minute, in
 -- the place of an entry of least end where there is no room (RFC 826, RFC 4861 7.2); or his entry is renewed for a minute (RFC 1122
 -- 2.3.2.1). By datagrams, segments and fragments nobody is stored
 pub data Learns (c : Arrived) (a : IpAddress) (old new : Neighbors) : Type 0 where
-  Nobody : new ≡ old → Learns c a old new
+  Nobody : KnowSame old new → Learns c a old new
   Stored : (h : HardwareAddress) → teaches_nobody (kind_of c.frame) ≡ false →
-      Fills old new a (record { hardware_addr = h; expires_at = pos (c.at + 60000000) }) → Learns c a old new
-  Renewed : (h : HardwareAddress) → new ≡ after_renewal old a h (pos (c.at + 60000000)) → Learns c a old new
+      Puts old.room old.known new.known a (record { hardware_addr = h; expires_at = pos (c.at + 60000000) }) → new.room ≡ old.room →
+      Learns c a old new
+  Renewed : (h : HardwareAddress) → KnowSame (after_renewal old a h (pos (c.at + 60000000))) new → Learns c a old new
 
 -- what is left of it: what comes from nobody that may have an entry leaves all
 pub data Leaves (c : Arrived) (old new : Neighbors) : Type 0 where
-  All : new ≡ old → Leaves c old new
+  All : KnowSame old new → Leaves c old new
   Less : (a : IpAddress) (learnt : Neighbors) → sender_of (kind_of c.frame) ≡ Some a → may_have_entry c.own a ≡ true →
-      Learns c a old learnt → new ≡ limited (limit_for (pos c.at) c.frame c.own old c.guard) learnt → Leaves c old new
+      Learns c a old learnt → KnowSame (limited (limit_for (pos c.at) c.frame c.own old c.guard) learnt) new → Leaves c old new
 
 -- frames that came one after another, and what was left of each
 pub data Runs : List Arrived → Neighbors → Neighbors → Type 0 where

@@ -2,6 +2,7 @@
 ghost use Rattle.guard_laws.specs.Answers.{AnswersStay, LaterAnswersCount, ListenerAnswersStay, TurnsAreTaken};
 ghost use Rattle.guard_laws.specs.Claims.{NobodyClaimsAnOwnAddress, PinnedNeighborsStay};
 ghost use Rattle.guard_laws.specs.MessageClaims.{NobodyClaimsAnOwnIpv6Address, PinnedIpv6NeighborsStay};
+ghost use Rattle.guard_laws.specs.Learning.{FramesTeachTheirSender, HostsKeepConfirmed, HostsKeepNewcomers};
 ghost use Rattle.guard_laws.specs.Strangers.{ConfirmedStay, NewcomersStay};
 
 /// By a frame that its guard admits a host learns no other hardware address for its own IPv4 addresses than its own one.
@@ -14,8 +15,7 @@ pub fn pinned_neighbors_stay()
     ensures { PinnedNeighborsStay }
 {}
 
-/// Likewise of its own IPv6 addresses, if what is behind the packet's header doesn't begin as hop-by-hop options do that the header
-/// doesn't tell of.
+/// Likewise of its own IPv6 addresses.
 pub fn nobody_claims_an_own_ipv6_address()
     ensures { NobodyClaimsAnOwnIpv6Address }
 {}
@@ -34,6 +34,22 @@ pub fn confirmed_stay()
 /// A newcomer stays known for as many later frames, whoever sends them, as half of the entries are: confirmed ones leave that half.
 pub fn newcomers_stay()
     ensures { NewcomersStay }
+{}
+
+/// A frame of any octets teaches a host its sender or nobody, as the laws of neighbours say, by the octets that the guard reads.
+pub fn frames_teach_their_sender()
+    ensures { FramesTeachTheirSender }
+{}
+
+/// Whatever frames come to a host behind its guard, of any octets, and however many: a neighbour that is confirmed stays known at its
+/// hardware address, until less of its time is left than a stranger stays. Confirmed ones never become so many that none is left for others.
+pub fn hosts_keep_confirmed()
+    ensures { HostsKeepConfirmed }
+{}
+
+/// A newcomer stays known to a host for as many later frames, of any octets and whoever sends them, as half of the entries are.
+pub fn hosts_keep_newcomers()
+    ensures { HostsKeepNewcomers }
 {}
 
 /// However many queries of IGMP come, none puts off the answer to a general query of which nothing was reported yet, or takes its place,
