@@ -81,10 +81,10 @@ fn rooms_in(alloc: Global, text: &str) -> Result<Vec<usize>> {
 
 /// Hosts, of which some have other room than C gives, and what each has.
 const ROOMS: [(&str, &[usize]); 2] = [
-    ("host a 02:00:00:00:00:01\n", &[128, 8, 128, 8]),
+    ("host a 02:00:00:00:00:01\n", &[128, 16, 128, 16]),
     (
         "host a 02:00:00:00:00:01\nhost b 02:00:00:00:00:02\nneighbors 9\nfragmented 3 b\nneighbors 20 a\n",
-        &[9, 8, 20, 8, 9, 3],
+        &[9, 16, 20, 16, 9, 3],
     ),
 ];
 
@@ -94,6 +94,42 @@ fn rooms_of_hosts(rt: HostRuntime) {
         let rooms = rooms_in(rt.alloc(), text);
         assert!(rt; rooms.as_ref().is_ok_and(|rooms| rooms.as_slice() == wanted));
     }
+}
+
+/// Six hosts, of which some are on other links than the first, and two of a router.
+const LINKS: &str = "\
+host a 02:00:00:00:00:01
+hosts 4 10.0.0.1/24 7
+host b 02:00:00:00:00:02
+link 2 h2 to h4
+link 8 b h4
+forward h3 a
+";
+
+/// Of each host its link, and the number of the way that begins at it; then of each way the numbers of both hosts.
+fn links_in(alloc: Global, text: &str) -> Result<Vec<usize>> {
+    let script = script_in(alloc, text)?;
+    let mut numbers = Vec::new(alloc);
+    for host in 0..script.hosts.len() {
+        numbers.push(script.link_of(Some(host)))?;
+        numbers.push(script.way_from(host).unwrap_or(9))?;
+    }
+    for way in script.ways.iter() {
+        numbers.push(way.from)?;
+        numbers.push(way.to)?;
+    }
+    Ok(numbers)
+}
+
+#[test]
+fn links_and_ways(rt: HostRuntime) {
+    let numbers = links_in(rt.alloc(), LINKS);
+    let wanted = [1, 1, 1, 9, 2, 9, 2, 0, 8, 9, 8, 9, 3, 0, 0, 3];
+    assert!(rt;
+        numbers
+            .as_ref()
+            .is_ok_and(|numbers| numbers.as_slice() == &wanted[..])
+    );
 }
 
 /// Two pairs at one port, a host that listens there too, and one that listens at the port of no stream.

@@ -277,6 +277,68 @@ fn lines_of_traffic(rt: HostRuntime) {
     assert!(rt; matches!(other, Ok(None)), "{other:?}");
 }
 
+/// Lines of links and of routers between them.
+const LINKS: [(&str, &str); 16] = [
+    ("link", "a word is missing"),
+    ("link 2", "a word is missing"),
+    ("link 0 a", "0 is no link"),
+    ("link 9 a", "9 is no number up to 8"),
+    ("link two a", "two is no number up to 8"),
+    ("link 2 c", "c is no host"),
+    ("link 2 a c", "c is no host"),
+    ("link 2 a to", "a word is missing"),
+    ("link 2 a to c", "c is no host"),
+    ("link 2 b to a", "a stands before b"),
+    ("forward", "a word is missing"),
+    ("forward a", "a word is missing"),
+    ("forward a c", "c is no host"),
+    ("forward a a", "a and a are on one link"),
+    ("forward a b", "a and b are on one link"),
+    ("forward a 2", "2 is no host"),
+];
+
+#[test]
+fn lines_of_links(rt: HostRuntime) {
+    let other = first_other(rt.alloc(), &LINKS);
+    assert!(rt; matches!(other, Ok(None)), "{other:?}");
+}
+
+/// Hosts of two links with a router between them, of which one line more is said.
+const ROUTER: &str = "\
+host a 02:00:00:00:00:01
+host b 02:00:00:00:00:02
+host c 02:00:00:00:00:03
+link 2 b c
+forward a b
+";
+
+/// What is said of a line about hosts of a router.
+fn refusal_of_router(alloc: Global, line: &str) -> Result<String> {
+    match script_in(alloc, format!(in alloc; "{ROUTER}{line}\n")?.as_str()) {
+        Ok(_script) => Ok(format!(in alloc; "it is read")?),
+        Err(error) => Ok(format!(in alloc; "{error:#}")?),
+    }
+}
+
+#[test]
+fn hosts_of_routers_stay(rt: HostRuntime) {
+    for (line, host) in [
+        ("forward b a", "b"),
+        ("forward a c", "a"),
+        ("forward c a", "a"),
+        ("link 3 b", "b"),
+        ("link 1 a to c", "a"),
+    ] {
+        let said = refusal_of_router(rt.alloc(), line);
+        let wanted = format!(in rt.alloc(); "line 6: {host} is of a router already");
+        let is_said = match (&said, &wanted) {
+            (Ok(said), Ok(wanted)) => said.as_str() == wanted.as_str(),
+            _ => false,
+        };
+        assert!(rt; is_said, "{said:?}");
+    }
+}
+
 /// More of one thing than a host may have: the line that is too much, behind as many as may be.
 fn refusal_behind(alloc: Global, line: &str, times: usize) -> Result<String> {
     let mut lines = String::new(alloc);

@@ -1,4 +1,4 @@
-//! `simulate` runs hosts on one Ethernet that loses, repeats, reorders and delays frames. It reads a script from
+//! `simulate` runs hosts on Ethernets that lose, repeat, reorder, delay and change frames. It reads a script from
 //! standard input, and prints the datagrams that sockets get and tables of what was sent (crate `simulator`,
 //! `docs/SIMULATE.md`).
 //!

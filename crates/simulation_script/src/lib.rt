@@ -2,5 +2,6 @@
 #![tactic(auto)]
 
 pub mod line;
+mod links;
 pub mod script;
 pub mod words;

@@ -1,8 +1,9 @@
 //! The lines of a script.
 
+use crate::links;
 use crate::script::{
-    Flow, HostLine, Leave, Listener, MAX_COLUMNS, MAX_STREAMS, Outage, OutsideFrame, Pace, Ping,
-    Rate, RawPacket, Rooms, Router, Script, Section, Stream, Treatment,
+    FIRST_LINK, Flow, HostLine, Leave, Listener, MAX_COLUMNS, MAX_STREAMS, Outage, OutsideFrame,
+    Pace, Ping, Rate, RawPacket, Rooms, Router, Script, Section, Stream, Treatment,
 };
 use crate::words::Words;
 use anyhow::{Context, Result, bail};
@@ -79,6 +80,7 @@ fn read_statement(
         "rate" => read_rate(script, words),
         "neighbors" | "fragmented" => read_room(script, word, words),
         "down" => read_outage(script, words),
+        "link" | "forward" => links::read_link_or_router(script, word, words),
         "chart" => read_section(script, words),
         "router" => read_router(script, words),
         "frame" => read_frame(alloc, script, words),
@@ -284,6 +286,8 @@ fn host_line(name: String, hardware_addr: EthernetAddress, slaac: bool) -> HostL
         rate: None,
         rooms: None,
         outages: ArrayVec::new(),
+        link: FIRST_LINK,
+        way: None,
     }
 }
 
@@ -410,7 +414,7 @@ fn numbered_host(name: String, address: Ipv4Cidr, port: u16) -> HostLine {
 }
 
 /// The number of the host that the next word names.
-fn host_in(script: &Script, words: &mut Words<'_>) -> Result<usize> {
+pub(crate) fn host_in(script: &Script, words: &mut Words<'_>) -> Result<usize> {
     let name = words.word()?;
     match script.host_named(name) {
         Some(host) => Ok(host),

@@ -21,6 +21,9 @@ pub const MAX_OUTAGES: usize = 8;
 /// The most hosts that have a column of their own in a chart.
 pub const MAX_COLUMNS: usize = 12;
 
+/// The link of hosts of which none is said.
+pub const FIRST_LINK: usize = 1;
+
 /// The most streams of a script: each has a port of its own.
 pub const MAX_STREAMS: usize = 16_384;
 
@@ -78,7 +81,7 @@ impl Rooms {
     /// What most hosts have, as those of the libraries for C and cargo.
     pub const USUAL: Rooms = Rooms {
         neighbors: 128,
-        fragmented: 8,
+        fragmented: 16,
     };
 }
 
@@ -118,6 +121,10 @@ pub struct HostLine {
     pub rooms: Option<Rooms>,
     /// When it is cut off.
     pub outages: ArrayVec<Outage, MAX_OUTAGES>,
+    /// The number of its link, from 1.
+    pub link: usize,
+    /// The number of the way through a router that begins at it, if it is one of a router's hosts.
+    pub way: Option<usize>,
 }
 
 impl HostLine {
@@ -249,6 +256,15 @@ pub struct Router {
     pub every: u64,
 }
 
+/// A way through a router, of which two hosts are the interfaces: packets that come to the one are sent by the other (RFC 1812 5.2).
+#[derive(Clone, Copy, Debug, PartialEq, Eq)]
+pub struct Way {
+    /// The number of the host to which packets come.
+    pub from: usize,
+    /// The number of the host that sends them on.
+    pub to: usize,
+}
+
 /// What a chart shows.
 #[derive(Drop)]
 pub struct Section {
@@ -337,8 +353,10 @@ pub struct Script {
     pub listeners: Vec<Listener>,
     /// The connections by which hosts send.
     pub streams: Vec<Stream>,
-    /// The routers.
+    /// The routers that advertise prefixes.
     pub routers: Vec<Router>,
+    /// The ways through routers, two for each.
+    pub ways: Vec<Way>,
     /// The packets of raw sockets.
     pub packets: Vec<RawPacket>,
     /// The frames from outside.
@@ -364,6 +382,7 @@ impl Script {
             listeners: Vec::new(alloc),
             streams: Vec::new(alloc),
             routers: Vec::new(alloc),
+            ways: Vec::new(alloc),
             packets: Vec::new(alloc),
             frames: Vec::new(alloc),
             leaves: Vec::new(alloc),
@@ -407,6 +426,19 @@ impl Script {
             Some(line) => line.rooms.unwrap_or(self.rooms),
             None => self.rooms,
         }
+    }
+
+    /// The link of a host; of a frame from outside, which no host sends, the first one.
+    pub fn link_of(&self, host: Option<usize>) -> usize {
+        match self.line(host) {
+            Some(line) => line.link,
+            None => FIRST_LINK,
+        }
+    }
+
+    /// The number of the way through a router that begins at a host, if there is one.
+    pub fn way_from(&self, host: usize) -> Option<usize> {
+        self.hosts.get(host)?.way
     }
 
     /// The number of the host with this Ethernet address.
@@ -538,6 +570,23 @@ impl Script {
                 }
             }
         }
+    }
+
+    /// Puts a host on a link, if there is one of this number.
+    pub(crate) fn set_link(&mut self, host: usize, link: usize) {
+        if let Some(line) = self.hosts.get_mut(host) {
+            line.link = link;
+        }
+    }
+
+    /// Adds a way through a router.
+    pub(crate) fn add_way(&mut self, way: Way) -> Result<()> {
+        let number = self.ways.len();
+        self.ways.push(way)?;
+        if let Some(line) = self.hosts.get_mut(way.from) {
+            line.way = Some(number);
+        }
+        Ok(())
     }
 
     /// Adds a time for which a host is cut off, and returns whether there was room for it.

@@ -1,5 +1,6 @@
 //! What is counted in a simulation.
 
+use crate::forwarding::Verdict;
 use crate::kind::{KINDS, Kind};
 use crate::link::Fate;
 use crate::station::{Attempt, Received, Traffic};
@@ -118,6 +119,41 @@ impl Display for Tally {
     }
 }
 
+/// How many packets for others came to a host of a router, by what became of them.
+#[derive(Clone, Copy)]
+pub struct Crossing {
+    /// Those that the other host queued.
+    pub forwarded: u64,
+    /// Those for which it had no room.
+    pub refused: u64,
+    /// Those whose hop limit was used up.
+    pub expired: u64,
+    /// The fragments of IPv4.
+    pub fragments: u64,
+}
+
+impl Crossing {
+    /// None.
+    const NONE: Crossing = Crossing {
+        forwarded: 0,
+        refused: 0,
+        expired: 0,
+        fragments: 0,
+    };
+
+    /// One more.
+    fn add(&mut self, verdict: Verdict, is_queued: bool) {
+        let count = match verdict {
+            Verdict::Stays => return,
+            Verdict::Expires => &mut self.expired,
+            Verdict::IsFragment => &mut self.fragments,
+            Verdict::GoesOn if is_queued => &mut self.forwarded,
+            Verdict::GoesOn => &mut self.refused,
+        };
+        *count = count.saturating_add(1);
+    }
+}
+
 /// What a datagram is that came to a socket.
 #[derive(Clone, Copy, PartialEq, Eq)]
 pub enum Origin {
@@ -140,6 +176,8 @@ pub struct Counts {
     pub flows: Vec<Tally>,
     /// What is counted of each line of echo requests.
     pub pings: Vec<Tally>,
+    /// What is counted of each way through a router.
+    pub crossings: Vec<Crossing>,
     /// How many datagrams came to a socket that no flow sent.
     pub strange: u64,
     /// The copies that the link took.
@@ -163,6 +201,7 @@ impl Counts {
             received: vec![in alloc; ByKind::NONE; hosts]?,
             flows: tallies(alloc, script.flows.len())?,
             pings: tallies(alloc, script.pings.len())?,
+            crossings: vec![in alloc; Crossing::NONE; script.ways.len()]?,
             strange: 0,
             copies: 0,
             lost: 0,
@@ -190,6 +229,13 @@ impl Counts {
     pub fn count_received(&mut self, host: usize, kind: Kind) {
         if let Some(count) = self.received.get_mut(host) {
             count.add(kind);
+        }
+    }
+
+    /// A packet came to a router by a way, and was queued or not if it goes on.
+    pub fn count_crossing(&mut self, way: usize, verdict: Verdict, is_queued: bool) {
+        if let Some(crossing) = self.crossings.get_mut(way) {
+            crossing.add(verdict, is_queued);
         }
     }
 

@@ -1,13 +1,14 @@
 //! What happens in a simulation at its events.
 
 use crate::agenda::What;
+use crate::forwarding::Verdict;
 use crate::kind::Kind;
 use crate::link::Passage;
 use crate::simulation::Simulation;
 use crate::station::Turn;
 use anyhow::{Result, bail};
 use host_machine::{Answer, PollIngressSingleResult};
-use simulation_script::script::Leave;
+use simulation_script::script::{Leave, Script, Way};
 use std::io::Write;
 
 /// The most polls of a host at one instant.
@@ -114,8 +115,9 @@ impl Simulation {
             .note_arrival(&self.script, Some(from), &passage, label, output)?;
         let now = self.medium.course.now;
         let answer = self.hosts.deliver(self.alloc, number, k, &passage, now)?;
-        self.medium.pending.arrived(number);
         self.follow(passage.to, &answer, output)?;
+        self.route(number, k, &passage, output)?;
+        self.medium.pending.arrived(number);
         self.hosts.forget(self.medium.pending.take_done());
         match label.kind {
             Kind::RouterSolicitation => self.medium.course.solicit(&self.script, passage.to),
@@ -134,7 +136,59 @@ impl Simulation {
         let answer = self
             .hosts
             .deliver_outside(self.alloc, &line.octets, &passage, now)?;
-        self.follow(passage.to, &answer, output)
+        self.follow(passage.to, &answer, output)?;
+        self.route_outside(frame, &passage, output)
+    }
+
+    /// A copy of a kept frame arrived. If it came to a router, its packet may go on.
+    fn route<W: Write>(
+        &mut self,
+        number: usize,
+        k: usize,
+        passage: &Passage,
+        output: &mut W,
+    ) -> Result<()> {
+        let Some((place, way)) = way_from(&self.script, passage.to) else {
+            return Ok(());
+        };
+        let bit = passage.changed;
+        let verdict = self.hosts.judge(self.alloc, number, k, bit, &way)?;
+        self.pass_on(place, &way, verdict, output)
+    }
+
+    /// A copy of a frame from outside arrived. If it came to a router, its packet may go on.
+    fn route_outside<W: Write>(
+        &mut self,
+        frame: usize,
+        passage: &Passage,
+        output: &mut W,
+    ) -> Result<()> {
+        let Some((place, way)) = way_from(&self.script, passage.to) else {
+            return Ok(());
+        };
+        let octets = octets_of(&self.script, frame);
+        let verdict = match passage.changed {
+            None => self.hosts.judge_octets(self.alloc, octets, &way),
+            Some(bit) => self.hosts.judge_changed(self.alloc, octets, bit, &way),
+        }?;
+        self.pass_on(place, &way, verdict, output)
+    }
+
+    /// A packet that came to a router is counted, and goes on by the other host or not.
+    fn pass_on<W: Write>(
+        &mut self,
+        place: usize,
+        way: &Way,
+        verdict: Verdict,
+        output: &mut W,
+    ) -> Result<()> {
+        if verdict != Verdict::GoesOn {
+            self.medium.counts.count_crossing(place, verdict, false);
+            return Ok(());
+        }
+        let is_queued = self.hosts.forward(way.to)?;
+        self.medium.counts.count_crossing(place, verdict, is_queued);
+        self.settle(way.to, output)
     }
 
     /// A host leaves a group.
@@ -149,6 +203,20 @@ impl Simulation {
     fn leave_group<W: Write>(&mut self, leave: &Leave, output: &mut W) -> Result<()> {
         self.hosts.leave(leave.host, leave.group)?;
         self.settle(leave.host, output)
+    }
+}
+
+/// The way through a router that begins at a host, and its number, if there is one.
+fn way_from(script: &Script, host: usize) -> Option<(usize, Way)> {
+    let number = script.way_from(host)?;
+    Some((number, *script.ways.get(number)?))
+}
+
+/// The octets of a frame from outside; none, if there isn't one of this number.
+fn octets_of(script: &Script, frame: usize) -> &[u8] {
+    match script.frames.get(frame) {
+        Some(line) => &line.octets,
+        None => &[],
     }
 }
 

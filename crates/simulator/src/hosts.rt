@@ -1,4 +1,5 @@
 //! The hosts of a simulation, and what is done with them.
+use crate::forwarding::{Verdict, packet_to_forward, verdict_on};
 use crate::link::Passage;
 use crate::simulation::instant;
 use crate::station::{self, Attempt, Station, Turn};
@@ -8,7 +9,7 @@ use host_machine::{Answer, Command};
 use ip_wire::IpAddress;
 use net_base::phy::Device;
 use network::{Network, Transmission};
-use simulation_script::script::Script;
+use simulation_script::script::{Script, Way};
 use simulation_streams::connections::earlier;
 use std::alloc::Global;
 
@@ -192,6 +193,82 @@ impl Hosts {
     /// A frame that no host sent so is delivered.
     fn take_in(&mut self, octets: &[u8], to: usize, now: u64) -> Result<Answer> {
         Ok(self.network.take_in(octets, to, instant(now))?)
+    }
+
+    /// What becomes of a copy of a kept frame that came to a router by a way. A packet that goes on is handed to the owner
+    /// of the host that sends it.
+    pub(crate) fn judge(
+        &self,
+        alloc: Global,
+        number: usize,
+        k: usize,
+        bit: Option<u64>,
+        way: &Way,
+    ) -> Result<Verdict> {
+        match (self.network.frame(number, k), bit) {
+            (None, _) => Ok(Verdict::Stays),
+            (Some(frame), None) => self.judge_octets(alloc, frame, way),
+            (Some(frame), Some(bit)) => self.judge_changed(alloc, frame, bit, way),
+        }
+    }
+
+    /// What becomes of a frame of which a bit was changed on its way to a router.
+    pub(crate) fn judge_changed(
+        &self,
+        alloc: Global,
+        frame: &[u8],
+        bit: u64,
+        way: &Way,
+    ) -> Result<Verdict> {
+        let octets = changed(alloc, frame, bit)?;
+        self.judge_octets(alloc, &octets, way)
+    }
+
+    /// What becomes of a frame that came to a router, octet by octet.
+    pub(crate) fn judge_octets(&self, alloc: Global, frame: &[u8], way: &Way) -> Result<Verdict> {
+        let verdict = self.verdict_on(frame, way);
+        if verdict == Verdict::GoesOn {
+            self.hand(way.to, packet_to_forward(alloc, frame)?);
+        }
+        Ok(verdict)
+    }
+
+    /// What becomes of a frame that came to a router, by the addresses of its hosts now.
+    fn verdict_on(&self, frame: &[u8], way: &Way) -> Verdict {
+        let hosts = self.network.hosts();
+        match (hosts.get(way.from), hosts.get(way.to)) {
+            (Some(from), Some(to)) => {
+                let (near, far) = (&from.interface, &to.interface);
+                verdict_on(frame, near.hardware_addr(), near.ip_addrs(), far.ip_addrs())
+            }
+            _ => Verdict::Stays,
+        }
+    }
+
+    /// Hands a packet to the owner of a router's host.
+    fn hand(&self, host: usize, packet: Vec<u8>) {
+        if let Some(owner) = self.owner(host)
+            && let Some(forwarder) = &owner.forwarder
+        {
+            forwarder.hand(packet);
+        }
+    }
+
+    /// The owner of a router's host queues the packet that was handed to it. Returns whether there was room.
+    pub(crate) fn forward(&mut self, host: usize) -> Result<bool> {
+        self.act(host, Turn::Forward)?;
+        Ok(self.is_queued(host))
+    }
+
+    /// Whether the owner of a router's host queued the packet that was handed to it last.
+    fn is_queued(&self, host: usize) -> bool {
+        match self.owner(host) {
+            Some(owner) => owner
+                .forwarder
+                .as_ref()
+                .is_some_and(|forwarder| forwarder.is_queued),
+            None => false,
+        }
     }
 
     /// What a host answered. Fails if its owner or its device got no memory.

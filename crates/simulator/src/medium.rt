@@ -64,12 +64,20 @@ struct Shipment {
     leaving: u64,
 }
 
-/// The hosts to which a frame goes: those of a range of numbers, but for one.
+/// The hosts to which a frame goes: those of a range of numbers that are on a link, but for one.
 #[derive(Clone, Copy)]
 struct Receivers {
     first: usize,
     end: usize,
     but: Option<usize>,
+    link: usize,
+}
+
+impl Receivers {
+    /// Whether a host of the range is one of them.
+    fn has(&self, script: &Script, host: usize) -> bool {
+        self.but != Some(host) && script.link_of(Some(host)) == self.link
+    }
 }
 
 /// The medium.
@@ -243,7 +251,7 @@ impl Medium {
         let receivers = self.receivers_of(script, shipment.from, frame);
         let mut copies = 0_usize;
         for to in receivers.first..receivers.end {
-            if receivers.but != Some(to) {
+            if receivers.has(script, to) {
                 copies = copies.saturating_add(self.send_copy(script, shipment, to, output)?);
             }
         }
@@ -326,8 +334,8 @@ impl Medium {
         Some((transmission.from, self.label_of(frame)))
     }
 
-    /// The hosts to which a frame goes: all others if its destination is a group or broadcast, and otherwise the one with this
-    /// Ethernet address, if there is one.
+    /// The hosts to which a frame goes: all others on the link of its sender if its destination is a group or broadcast, and
+    /// otherwise the one there with this Ethernet address, if there is one. A frame from outside is on the first link.
     fn receivers_of(&self, script: &Script, from: Option<usize>, frame: &[u8]) -> Receivers {
         let (first, end, but) = match frame.first_chunk::<6>() {
             Some(destination) if destination[0] & 1 != 0 => (0, script.hosts.len(), from),
@@ -337,7 +345,13 @@ impl Medium {
             },
             None => (0, 0, None),
         };
-        Receivers { first, end, but }
+        let link = script.link_of(from);
+        Receivers {
+            first,
+            end,
+            but,
+            link,
+        }
     }
 
     /// Counts and shows that a copy arrives.

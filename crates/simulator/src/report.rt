@@ -1,8 +1,9 @@
 //! How what was counted is printed.
 
-use crate::counts::{ByKind, Counts, Origin, Tally};
+use crate::counts::{ByKind, Counts, Crossing, Origin, Tally};
 use crate::kind::Kind;
-use crate::station::{Received, Station, may_be_udp};
+use crate::packets::may_be_udp;
+use crate::station::{Received, Station};
 use anyhow::Result;
 use host::link::Host;
 use ip_wire::IpCidr;
@@ -162,17 +163,43 @@ fn print_answers<W: Write>(output: &mut W, tally: &Tally) -> Result<()> {
     Ok(())
 }
 
-/// Prints how many packets hosts gave up, the frames by host and kind, what the link did, and whether the law holds.
+/// Prints what routers forwarded, how many packets hosts gave up, the frames by host and kind, what the link did, and
+/// whether the law holds.
 pub fn print_frames<W: Write>(
     output: &mut W,
     script: &Script,
     hosts: &[Host<'static, Station>],
     counts: &Counts,
 ) -> Result<()> {
+    print_ways(output, script, counts)?;
     print_all_given_up(output, script, hosts)?;
     print_all_kinds(output, script, counts)?;
     print_link(output, counts)?;
-    print_premises(output, script, counts)
+    print_premises(output, script, hosts, counts)
+}
+
+/// Prints what routers forwarded each way, if there are some.
+fn print_ways<W: Write>(output: &mut W, script: &Script, counts: &Counts) -> Result<()> {
+    if script.ways.is_empty() {
+        return Ok(());
+    }
+    writeln!(output, "routers")?;
+    for (way, crossing) in script.ways.iter().zip(counts.crossings.iter()) {
+        let (from, to) = (script.name_of(way.from), script.name_of(way.to));
+        print_way(output, from, to, crossing)?;
+    }
+    Ok(())
+}
+
+/// Prints how many packets were forwarded from one host to another, and how many were dropped.
+fn print_way<W: Write>(output: &mut W, from: &str, to: &str, crossing: &Crossing) -> Result<()> {
+    let (forwarded, refused) = (crossing.forwarded, crossing.refused);
+    let (expired, fragments) = (crossing.expired, crossing.fragments);
+    writeln!(
+        output,
+        "  {from} to {to}: {forwarded} forwarded; dropped: {refused} for want of room, {expired} for their hop limit, {fragments} as fragments"
+    )?;
+    Ok(())
 }
 
 /// Prints how many packets each host gave up.
@@ -254,8 +281,13 @@ fn print_link<W: Write>(output: &mut W, counts: &Counts) -> Result<()> {
 }
 
 /// Prints whether the premises of the law are met: each datagram that a socket gets was sent by a socket.
-fn print_premises<W: Write>(output: &mut W, script: &Script, counts: &Counts) -> Result<()> {
-    match writer_of_udp(script) {
+fn print_premises<W: Write>(
+    output: &mut W,
+    script: &Script,
+    hosts: &[Host<'static, Station>],
+    counts: &Counts,
+) -> Result<()> {
+    match writer_of_udp(script, hosts) {
         Some(host) => {
             let name = script.name_of(host);
             writeln!(output, "premises: not met, {name} has a raw socket for UDP")?;
@@ -266,8 +298,8 @@ fn print_premises<W: Write>(output: &mut W, script: &Script, counts: &Counts) ->
 }
 
 /// The first host with a raw socket for UDP.
-fn writer_of_udp(script: &Script) -> Option<usize> {
-    let mut first = None;
+fn writer_of_udp(script: &Script, hosts: &[Host<'static, Station>]) -> Option<usize> {
+    let mut first = hosts.iter().position(|host| host.owner.may_send_udp());
     for packet in script.packets.iter() {
         if may_be_udp(&packet.octets) {
             first = Some(packet.host.min(first.unwrap_or(usize::MAX)));

@@ -1,11 +1,13 @@
 //! A host with its sockets, and the user of these.
+use crate::forwarder::{Forwarder, MOST_SOCKETS};
+use crate::packets::{QUEUE_OCTETS, QUEUE_PACKETS, add_raw, kind_of, queue_packet};
 use crate::simulation::instant;
 use anyhow::{Result, bail};
 use egress_schedule::Schedule;
 use host::drive::Owner;
 use host::link::Host;
 use interface::{Capacities, Config, Interface};
-use ip_wire::{HardwareAddress, IpAddress, IpProtocol, IpVersion};
+use ip_wire::{HardwareAddress, IpAddress};
 use net_base::MemoryDevice;
 use net_base::phy::{ChecksumCapabilities, DeviceCapabilities, Medium};
 use net_base::time::{Duration, Instant};
@@ -14,7 +16,7 @@ use simulation_script::script::{
 };
 use simulation_streams::connections::Connections;
 use socket_set::{SocketHandle, SocketSet};
-use sockets::{IpEndpoint, IpListenEndpoint, Queue, icmp, raw, udp};
+use sockets::{IpEndpoint, IpListenEndpoint, Queue, icmp, udp};
 use std::alloc::Global;
 
 /// Ethernet with frames of at most 1514 octets.
@@ -27,12 +29,6 @@ const CAPABILITIES: DeviceCapabilities = DeviceCapabilities {
 
 /// The longest IP packet that such a frame carries, in octets.
 const IP_MTU: usize = 1_500;
-
-/// The maximum number of packets in a queue of a socket.
-const QUEUE_PACKETS: usize = 8;
-
-/// The maximum number of octets in a queue of a socket.
-const QUEUE_OCTETS: usize = 8192;
 
 /// The octets of the data of an echo request.
 const PING_DATA: usize = 48;
@@ -53,6 +49,8 @@ pub enum Turn {
     AfterRound(u64),
     /// Its connections take what came, and send what is due at a time, in microseconds.
     Exchange(u64),
+    /// It queues the packet that it is to forward.
+    Forward,
 }
 
 impl Turn {
@@ -65,20 +63,22 @@ impl Turn {
             Turn::BeforeRound(now, true) => (3, now as usize),
             Turn::AfterRound(now) => (4, now as usize),
             Turn::Exchange(now) => (5, now as usize),
+            Turn::Forward => (6, 0),
         };
-        value.saturating_mul(6).saturating_add(kind)
+        value.saturating_mul(7).saturating_add(kind)
     }
 
     /// The turn that a number stands for.
     fn of(number: usize) -> Turn {
-        let value = number / 6;
-        match number % 6 {
+        let value = number / 7;
+        match number % 7 {
             0 => Turn::Collect,
             1 => Turn::Task(value),
             2 => Turn::BeforeRound(value as u64, false),
             3 => Turn::BeforeRound(value as u64, true),
             4 => Turn::AfterRound(value as u64),
-            _ => Turn::Exchange(value as u64),
+            5 => Turn::Exchange(value as u64),
+            _ => Turn::Forward,
         }
     }
 }
@@ -221,6 +221,8 @@ pub struct Station {
     schedule: Option<Schedule>,
     /// Its connections of TCP, if it listens or sends streams.
     pub connections: Option<Box<Connections>>,
+    /// What it sends for the other host of a router, if its own is of one.
+    pub forwarder: Option<Forwarder>,
     /// What it has to do.
     pub tasks: Vec<Task>,
     /// What it took from its UDP sockets in the last turn.
@@ -245,6 +247,7 @@ impl Owner for Station {
             }
             Turn::AfterRound(now) => self.end_round(now, sockets),
             Turn::Exchange(now) => self.exchange(now, sockets),
+            Turn::Forward => self.forward(sockets),
         }
     }
 }
@@ -258,6 +261,7 @@ impl Station {
             pings: Vec::new(alloc),
             schedule: None,
             connections: None,
+            forwarder: None,
             tasks: Vec::new(alloc),
             received: Vec::new(alloc),
             replies: Vec::new(alloc),
@@ -269,8 +273,15 @@ impl Station {
     /// How many sockets it has at most.
     fn count_sockets(&self) -> usize {
         let of_connections = if self.connections.is_some() { 4 } else { 0 };
+        let of_router = if self.forwarder.is_some() {
+            MOST_SOCKETS
+        } else {
+            0
+        };
         let of_lines = self.sockets.len().saturating_add(self.tasks.len());
-        of_lines.saturating_add(of_connections)
+        of_lines
+            .saturating_add(of_connections)
+            .saturating_add(of_router)
     }
 
     /// Whether rounds of polls are between two turns of it.
@@ -281,6 +292,14 @@ impl Station {
     /// Whether it listens or sends streams.
     pub fn has_connections(&self) -> bool {
         self.connections.is_some()
+    }
+
+    /// Whether it may send UDP by a socket by which it forwards.
+    pub fn may_send_udp(&self) -> bool {
+        match &self.forwarder {
+            Some(forwarder) => forwarder.may_send_udp(),
+            None => false,
+        }
     }
 
     /// How many packets its schedule gave up.
@@ -317,6 +336,15 @@ impl Station {
     fn exchange(&mut self, now: u64, sockets: &mut SocketSet<'_>) {
         if let Some(connections) = &mut self.connections
             && connections.exchange(now, sockets).is_err()
+        {
+            self.lacks_memory = true;
+        }
+    }
+
+    /// Queues the packet that it is to forward.
+    fn forward(&mut self, sockets: &mut SocketSet<'_>) {
+        if let Some(forwarder) = &mut self.forwarder
+            && forwarder.queue(sockets).is_err()
         {
             self.lacks_memory = true;
         }
@@ -469,7 +497,7 @@ fn do_task(alloc: Global, task: &mut Task, sockets: &mut SocketSet<'_>) -> Resul
         Task::Flow(datagrams) => Ok(Some(datagrams.queue_next(alloc, sockets)?)),
         Task::Ping(requests) => Ok(Some(requests.queue_next(alloc, sockets)?)),
         Task::Packet { socket, octets } => {
-            queue_packet(sockets, *socket, octets);
+            let _ = queue_packet(sockets, *socket, octets);
             Ok(None)
         }
     }
@@ -480,13 +508,6 @@ fn next_number(tried: &mut u32) -> u32 {
     let number = *tried;
     *tried = number.saturating_add(1);
     number
-}
-
-/// Queues an IP packet, if its socket has room.
-fn queue_packet(sockets: &mut SocketSet<'_>, handle: SocketHandle, octets: &[u8]) {
-    if let Some(socket) = sockets.get_mut::<raw::Socket<'_>>(handle) {
-        let _ = socket.send((), octets);
-    }
 }
 
 /// Queues a datagram, and returns whether its socket had room.
@@ -666,6 +687,9 @@ pub fn add_all(
     owner: &mut Station,
     sockets: &mut SocketSet<'static>,
 ) -> Result<()> {
+    if line.way.is_some() {
+        owner.forwarder = Some(Forwarder::new(alloc));
+    }
     add_ports(alloc, line, owner, sockets)?;
     add_tasks(alloc, script, number, line, owner, sockets)?;
     if script.has_connections(number) {
@@ -806,51 +830,4 @@ fn add_packet(
     let octets = packet.octets.clone()?;
     owner.tasks.push(Task::Packet { socket, octets })?;
     Ok(())
-}
-
-/// Adds a raw socket of a version and a protocol.
-fn add_raw(
-    alloc: Global,
-    sockets: &mut SocketSet<'static>,
-    version: IpVersion,
-    protocol: IpProtocol,
-) -> Result<SocketHandle> {
-    let rx = Queue::new(alloc, QUEUE_PACKETS, QUEUE_OCTETS)?;
-    let tx = Queue::new(alloc, QUEUE_PACKETS, QUEUE_OCTETS)?;
-    let raw: raw::Socket<'static> = raw::SocketOf::new(version, protocol, rx, tx);
-    Ok(sockets.add(raw)?)
-}
-
-/// Whether a raw socket for a packet may send UDP: it is for UDP, or for packets with hop-by-hop options.
-pub fn may_be_udp(packet: &[u8]) -> bool {
-    matches!(protocol_of(packet), 0 | 17)
-}
-
-/// The number of the protocol of a packet.
-fn protocol_of(packet: &[u8]) -> u8 {
-    if is_ipv6(packet) {
-        octet(packet, 6)
-    } else {
-        octet(packet, 9)
-    }
-}
-
-/// Whether a packet's version is 6.
-fn is_ipv6(packet: &[u8]) -> bool {
-    octet(packet, 0) >> 4 == 6
-}
-
-/// The version and the protocol of a packet.
-fn kind_of(packet: &[u8]) -> (IpVersion, IpProtocol) {
-    let version = if is_ipv6(packet) {
-        IpVersion::Ipv6
-    } else {
-        IpVersion::Ipv4
-    };
-    (version, IpProtocol::from_number(protocol_of(packet)))
-}
-
-/// An octet of a packet; 0 after its end.
-fn octet(packet: &[u8], place: usize) -> u8 {
-    packet.get(place).copied().unwrap_or(0)
 }
