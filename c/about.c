@@ -42,6 +42,7 @@ const char *iface_strerror(uint32_t code) {
     case IFACE_IN_USE: return "a connection has these ends";
     case IFACE_BAD_NAME: return "the text is no name";
     case IFACE_NO_SERVER: return "there is no server to ask";
+    case IFACE_NO_ROUTE: return "no network and no route of the host has the destination";
     }
     return "unknown code";
 }

@@ -130,12 +130,12 @@ enum kind {
 
 /* Which calls take memory, by the header; and which of these may go on without it. */
 static int takes_memory(int kind) {
-    return kind == NEXT || kind == DHCP_POLL || kind == NEW || kind == TCP_NEW || kind == DHCP_NEW || kind == DNS_NEW || kind == LISTEN ||
+    return kind == NEXT || kind == DHCP_POLL || kind == DNS_POLL || kind == NEW || kind == TCP_NEW || kind == DHCP_NEW || kind == DNS_NEW || kind == LISTEN ||
            kind == SERVERS || kind == START || (kind >= UDP_OPEN && kind <= TCP_OPEN);
 }
 
 static int goes_on(int kind) {
-    return kind == NEXT || kind == DHCP_POLL;
+    return kind == NEXT || kind == DHCP_POLL || kind == DNS_POLL;
 }
 
 /* A call with its arguments, drawn once for both hosts. */
@@ -193,6 +193,7 @@ static void some_config(struct iface_config *c) {
 static void some_streams(struct iface_streams_config *c) {
     iface_streams_config_init(c);
     for (size_t i = 0; i < sizeof c->number_key; i++) c->number_key[i] = (uint8_t)word();
+    c->table_key[0] = below(8) ? word() : 0;
     c->places = below(8) ? 1 + below(NAMES) : 0, c->send_room = below(2) ? 2000 : below(50), c->receive_room = below(2) ? 2000 : below(50);
     c->packets = below(32), c->packet_octets = below(20000), c->far_octets = below(4000), c->ipv4 = (uint8_t)(below(8) > 0);
     c->ipv6 = (uint8_t)below(2), c->nagle = (uint8_t)below(2), c->congestion_control = (uint8_t)below(2), c->ack_delay = below(20000);
@@ -751,6 +752,7 @@ static void accepts(struct world *w, int64_t now) {
     size_t listener, n = 0;
     uint8_t got[100];
     iface_streams_config_init(&config);
+    config.number_key[31] = 1, config.table_key[1] = 2;
     must("connections", iface_streams_new(&w->tcp, &w->host, &config));
     must("listen", iface_stream_listen(&w->tcp, &at_80, 4, &listener));
     keep_segment(4, 2, 5000, 80, 999, 0, 2, 8000, 0), come_kept(w, now), must("poll", iface_streams_poll(&w->tcp, &w->host, now));

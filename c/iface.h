@@ -58,13 +58,14 @@ enum iface_code {
     IFACE_HAS_STREAMS = 22,  /* iface_streams_new: the handle owns connections already */
     IFACE_IN_USE = 23,       /* iface_stream_connect: a connection has these ends */
     IFACE_BAD_NAME = 24,     /* iface_dns_start: the text is no name */
-    IFACE_NO_SERVER = 25     /* iface_dns_start: the client knows no server */
+    IFACE_NO_SERVER = 25,    /* iface_dns_start: the client knows no server */
+    IFACE_NO_ROUTE = 26      /* iface_stream_connect: no network and no route of the host has the destination */
 };
 
 /* The version of this header, an octet each: 0.14.0, and the header's number, which grows with each change of a call or
  * a structure. iface_new refuses a library of another one; a program that compares it with iface_version() before its
  * first call learns of that earlier. */
-#define IFACE_VERSION 0x000e0009u
+#define IFACE_VERSION 0x000e000au
 
 /* The room that iface_receive and iface_next need for a frame, in octets. */
 #define IFACE_FRAME_ROOM 1514
@@ -550,8 +551,9 @@ uint32_t iface_poll_at(iface *host, int64_t now, int64_t *at);
  * and iface_dhcp_apply when there is an event. A handle of a client (iface_dhcp) is kept as that of a host: set to IFACE_DHCP_NONE
  * before its first call, not copied, and in one call at a time. It goes with the host that it was made for.
  *
- * Two places for sockets have to be free: one for the client's UDP socket, and one for a raw socket, which is open while a
- * message to all servers waits to be sent. A program that calls none of these is linked without any of it by --gc-sections. */
+ * The client takes two places for sockets: one for its UDP socket, and one for a raw socket, which is open while a message to all
+ * servers waits to be sent. A socket that gets nothing keeps that place meanwhile. A program that calls none of these is linked
+ * without any of it by --gc-sections. */
 
 /* A handle, which owns a client or none. Its fields are the library's. */
 typedef struct iface_dhcp {
@@ -583,7 +585,7 @@ enum iface_dhcp_event {
  * messages are known, another for each host and each start. `known` is an address that the host had before, which the client
  * asks for first, or IFACE_ANY.
  * HAS_CLIENT, BAD_ARGUMENT (a version of `known` that is neither 0 nor 4), NO_HOST, NOT_THERE (a medium without hardware
- * addresses), TABLE_FULL (no socket is left), NO_MEMORY. */
+ * addresses), TABLE_FULL (no two sockets are left), NO_MEMORY. */
 uint32_t iface_dhcp_new(iface_dhcp *client, iface *host, uint64_t seed, const struct iface_address *known);
 
 /* Does what is due: the client takes what came to port 68, a message that is to be sent now is queued, and what has become of
@@ -595,6 +597,11 @@ uint32_t iface_dhcp_poll(iface_dhcp *client, iface *host, int64_t now, uint32_t 
  * without end. NO_CLIENT. */
 uint32_t iface_dhcp_poll_at(iface_dhcp *client, int64_t *at);
 
+/* Writes the code for which the message that was due last is lost, or 0 if it isn't: NO_MEMORY (for the raw socket), QUEUE_FULL (the
+ * message before still waits, as for its server's neighbour), TABLE_FULL (other sockets took the place while memory was refused), NO_SOCKET. The
+ * next message is due at the instant of iface_dhcp_poll_at. NO_CLIENT. */
+uint32_t iface_dhcp_lost(iface_dhcp *client, uint32_t *why);
+
 /* Writes the lease that the client has. NO_CLIENT, EMPTY (it has none). */
 uint32_t iface_dhcp_lease(iface_dhcp *client, struct iface_lease *lease);
 
@@ -604,8 +611,9 @@ uint32_t iface_dhcp_lease(iface_dhcp *client, struct iface_lease *lease);
  * NO_CLIENT, NO_HOST, TABLE_FULL, NOT_UNICAST (one of all own addresses can't be one). */
 uint32_t iface_dhcp_apply(iface_dhcp *client, iface *host);
 
-/* Gives up the lease, if there is one, and begins anew, as after a link went down. The next iface_dhcp_poll tells of a lease that
- * is gone. NO_CLIENT. */
+/* Is called once a link came up. Gives up the lease, if there is one, and asks for its address again (RFC 2131, 3.2): where the link
+ * leads to another network the server refuses it, and the client asks for offers. Without a lease the client begins anew. The next
+ * iface_dhcp_poll tells of a lease that is gone. NO_CLIENT. */
 uint32_t iface_dhcp_reset(iface_dhcp *client);
 
 /* Frees a client: the handle owns none from then on. If the other handle owns a host, the client's sockets there are closed. What
@@ -622,9 +630,10 @@ uint32_t iface_dhcp_free(iface_dhcp *client, iface *host);
  * A query has a UDP socket of its own as long as it waits, at a random port from 49152 on: as many places for sockets have to be
  * free. The servers are asked one behind the other, and then again, from that on which answered last: each has two seconds to
  * answer, three when it is asked for the second time, and five from then on. One that fails or refuses has no more time (RFC 1034,
- * 5.3.3). Ten seconds for each server after it began a query has failed. Memory is taken when the client is made, when its servers
- * are set, and for the socket of a query, whose memory is freed with it. A program that calls none of these is linked without any of
- * it by --gc-sections. */
+ * 5.3.3), and a question that waits for a server's hardware address gives way to the next one: the query's socket is closed, and
+ * another one opened. Ten seconds for each server after it began a query has failed. Memory is taken when the client is made, when
+ * its servers are set, and for the socket of a query, whose memory is freed with it. Without memory for another one the query has
+ * none, and fails in time. A program that calls none of these is linked without any of it by --gc-sections. */
 
 /* A handle, which owns a client or none. Its fields are the library's. */
 typedef struct iface_dns {
@@ -668,7 +677,8 @@ struct iface_dns_answer {
  * and ports of queries come from it, and who doesn't know it can't tell the next ones from those before (RFC 5452, 9.2). `servers`
  * is an array of IFACE_DNS_SERVERS addresses, in the order in which they are asked. Those of version 0, as IFACE_ANY, are left out;
  * so the servers of a lease may be handed over as they are.
- * HAS_CLIENT, BAD_ARGUMENT (a server whose version is neither 0, 4 nor 6), NOT_UNICAST (a server that can't be one), NO_MEMORY. */
+ * HAS_CLIENT, BAD_ARGUMENT (a server whose version is neither 0, 4 nor 6), NOT_UNICAST (an address that no other host can have: a
+ * group's, a loopback one, one of 0.0.0.0/8 or 240.0.0.0/4), NO_MEMORY. */
 uint32_t iface_dns_new(iface_dns *dns, uint32_t queries, const uint64_t *key, const struct iface_address *servers);
 
 /* Sets the servers, as iface_dns_new has them, in place of those before. Queries that wait go on with the new ones: each asks the
@@ -783,12 +793,13 @@ enum iface_stream_ending {
     IFACE_ABORTED = 4    /* the program aborted, or the own address is gone */
 };
 
-/* Writes what most programs want: the values in the comments above, and zeros for the two secrets, which the program sets. */
+/* Writes what most programs want: the values in the comments above, and zeros for the two secrets, which the program sets: iface_streams_new
+ * refuses zeros. */
 void iface_streams_config_init(struct iface_streams_config *config);
 
 /* Makes connections for a host, which the handle owns from then on, and opens two raw sockets of the host for each family. Segments
  * are as long as the link carries: 40 octets less than its longest packet over IPv4, 60 over IPv6.
- * HAS_STREAMS, BAD_ARGUMENT (a number that is out of range, or neither family), NO_HOST, TABLE_FULL (the host has no places for
+ * HAS_STREAMS, BAD_ARGUMENT (a number that is out of range, neither family, or a secret of zeros), NO_HOST, TABLE_FULL (the host has no places for
  * the sockets), NO_MEMORY. */
 uint32_t iface_streams_new(iface_streams *tcp, iface *host, const struct iface_streams_config *config);
 
@@ -824,7 +835,7 @@ uint32_t iface_stream_close_listener(iface_streams *tcp, size_t listener);
  * none. Writes its name. The next iface_streams_poll sends the SYN, and iface_stream_state tells what becomes of it. An address of
  * `local` that the host doesn't have ends it then, as if aborted.
  * BAD_ARGUMENT, NO_STREAMS, NO_HOST, BAD_MOMENT, BAD_PORT (also the peer's), NOT_THERE (no own address of this family), BAD_ADDRESS
- * (one that isn't unicast, or they are of two families), IN_USE (choose another port), TABLE_FULL (each place has a connection, and
+ * (one that isn't unicast, or they are of two families), NO_ROUTE, IN_USE (choose another port), TABLE_FULL (each place has a connection, and
  * none that was released is in TIME-WAIT). */
 uint32_t iface_stream_connect(iface_streams *tcp, iface *host, int64_t now, const struct iface_endpoint *local,
                               const struct iface_endpoint *remote, struct iface_stream *stream);

@@ -192,13 +192,23 @@ static void begins_anew_after_a_refusal(void) {
     answer(&host, now, NAK, 0, 0);
     lease(&client, &host, now + 3 * second, 51, 120);
     wants_own(&host, 51);
-    wants("the raw socket is closed", iface_queues(&host, 1, &received, &to_send), IFACE_NO_SOCKET);
+    must("what keeps its second place", iface_queues(&host, 1, &received, &to_send));
+    wants("has room for nothing", received.most_packets + to_send.most_packets + received.most_octets + to_send.most_octets, 0);
     must("its UDP socket", iface_queues(&host, 0, &received, &to_send));
     must("reset", iface_dhcp_reset(&client));
     wants_own(&host, 51);
     wants("gone", poll_once(&client, &host, now + 4 * second), IFACE_DHCP_DECONFIGURED);
     must("apply", iface_dhcp_apply(&client, &host));
     wants_nothing_own(&host);
+    /* and its address is asked for again, of all servers (RFC 2131 4.3.2): three seconds after the request before */
+    wants("no event", poll_once(&client, &host, now + 6 * second), IFACE_DHCP_NOTHING);
+    wants_broadcast(&host, now + 6 * second, "\3");
+    wants_option("what it had", 50, "\300\250\105\63", 4);
+    wants("no server is named", option(54) == NULL, 1);
+    answer(&host, now + 6 * second, ACK, 51, 120);
+    wants("leased again", poll_once(&client, &host, now + 6 * second), IFACE_DHCP_CONFIGURED);
+    must("apply", iface_dhcp_apply(&client, &host));
+    wants_own(&host, 51);
     must("free", iface_dhcp_free(&client, &host));
     wants("its socket is closed", iface_queues(&host, 0, &received, &to_send), IFACE_NO_SOCKET);
     must("free", iface_free(&host));
@@ -243,6 +253,7 @@ static void refuses(void) {
     wants("no client", iface_dhcp_poll(&client, &host, 0, &event), IFACE_NO_CLIENT);
     wants("no client", iface_dhcp_poll_at(&client, &at), IFACE_NO_CLIENT);
     wants("no client", iface_dhcp_lease(&client, &got), IFACE_NO_CLIENT);
+    wants("no client", iface_dhcp_lost(&client, &event), IFACE_NO_CLIENT);
     wants("no client", iface_dhcp_apply(&client, &host), IFACE_NO_CLIENT);
     wants("no client", iface_dhcp_reset(&client), IFACE_NO_CLIENT);
     wants("no client", iface_dhcp_free(&client, &host), IFACE_NO_CLIENT);
@@ -251,11 +262,12 @@ static void refuses(void) {
     make(&host, IFACE_IP, 2);
     wants("no hardware addresses", iface_dhcp_new(&client, &host, 1, &none), IFACE_NOT_THERE);
     must("free", iface_free(&host));
-    make(&host, IFACE_ETHERNET, 1);
+    make(&host, IFACE_ETHERNET, 2);
     must("socket", iface_udp_open(&host, &end, &rooms, &socket));
-    wants("no place", iface_dhcp_new(&client, &host, 1, &none), IFACE_TABLE_FULL);
+    wants("one place of two", iface_dhcp_new(&client, &host, 1, &none), IFACE_TABLE_FULL);
     must("close", iface_close(&host, socket));
     must("client", iface_dhcp_new(&client, &host, 1, &none));
+    wants("both places are the client's", iface_udp_open(&host, &end, &rooms, &socket), IFACE_TABLE_FULL);
     iface_dhcp copy = client;
     wants("a client is there", iface_dhcp_new(&client, &host, 1, &bad), IFACE_HAS_CLIENT);
     wants("handle kept", memcmp(&copy, &client, sizeof client) == 0, 1);
@@ -267,9 +279,14 @@ static void refuses(void) {
     wants("another host", iface_dhcp_poll(&client, &other, 0, &event), IFACE_NO_SOCKET);
     wants("no lease", iface_dhcp_lease(&client, &got), IFACE_EMPTY);
     wants("nothing written", event == 77 && at == 77 && got.prefix_len == 77, 1);
-    /* without a place for the raw socket the message is lost, and sent again later */
-    wants("no event", poll_once(&client, &host, 0), IFACE_DHCP_NOTHING), wants("no frame", next_frame(&host, 0), 0);
+    /* its second place is the raw socket's while a message to all servers waits, and the client's afterwards */
+    wants("no event", poll_once(&client, &host, 0), IFACE_DHCP_NOTHING);
+    wants("none is left", iface_udp_open(&host, &end, &rooms, &socket), IFACE_TABLE_FULL);
+    wants_broadcast(&host, 0, "\1");
+    must("lost", iface_dhcp_lost(&client, &event)), wants("nothing is lost", event, 0);
     must("due", iface_dhcp_poll_at(&client, &at)), wants("later", at >= 3 * second && at <= 5 * second, 1);
+    wants("no event", poll_once(&client, &host, 0), IFACE_DHCP_NOTHING);
+    wants("none is left", iface_udp_open(&host, &end, &rooms, &socket), IFACE_TABLE_FULL);
     must("free", iface_dhcp_free(&client, &other));
     wants("free again", iface_dhcp_free(&client, &other), IFACE_NO_CLIENT);
     must("free", iface_free(&host)), must("free", iface_free(&other));

@@ -289,6 +289,7 @@ static iface_streams tcp = IFACE_STREAMS_NONE;
 static struct iface_streams_config usual_connections(void) {
     struct iface_streams_config config;
     iface_streams_config_init(&config);
+    config.number_key[0] = 1, config.table_key[0] = 2;
     return config;
 }
 

@@ -428,7 +428,7 @@ static void refuses_frames(iface *host) {
 
 /* What the library says of itself, and of each code. */
 static void tells_of_itself(void) {
-    const char *unknown = iface_strerror(IFACE_NO_SERVER + 1);
+    const char *unknown = iface_strerror(IFACE_NO_ROUTE + 1);
     wants("version", iface_version(), IFACE_VERSION);
     wants("name", strncmp(iface_build(), "fumitorygate 0.14.0 (", 21) == 0, 1);
     wants("a number that is no code", strcmp(unknown, "unknown code") == 0, 1);

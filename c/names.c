@@ -260,6 +260,34 @@ static void moves_on(void) {
     }
 }
 
+/* On Ethernet a first server that isn't there costs its two seconds, whatever waits for its hardware address: the question for it gives
+ * way to that for the second one. */
+static void passes_an_absent_server(void) {
+    iface host = IFACE_NONE;
+    iface_dns dns = IFACE_DNS_NONE;
+    struct iface_config config;
+    struct iface_address own = v4(1), list[IFACE_DNS_SERVERS] = {v4(100), v4(101), none};
+    size_t n;
+    iface_config_init(&config);
+    config.seed = 1, config.sockets = 4, config.hardware_address[0] = 2, config.hardware_address[5] = 1;
+    must("host", iface_new(&host, &config));
+    must("address", iface_add_address(&host, &own, 24));
+    must("client", iface_dns_new(&dns, 1, key, list));
+    size_t query = start(&host, &dns, 0, "www.example.com", IFACE_DNS_A);
+    for (int64_t now = 0; now < 2 * second; now += second) {
+        must("poll", iface_dns_poll(&dns, &host, now));
+        wants("a request", next_frame(&host, now), 42), wants_octets("for the first server", sent + 38, "\300\250\105\144", 4);
+    }
+    must("poll", iface_dns_poll(&dns, &host, 2 * second));
+    wants("a request", next_frame(&host, 2 * second), 42), wants_octets("for the second server", sent + 38, "\300\250\105\145", 4);
+    memcpy(frame, "\2\0\0\0\0\1\2\0\0\0\0\145\10\6\0\1\10\0\6\4\0\2\2\0\0\0\0\145\300\250\105\145\2\0\0\0\0\1\300\250\105\1", 42);
+    must("reply", iface_receive(&host, 2 * second, frame, 42, out, sizeof out, &n));
+    wants("the question", next_frame(&host, 2 * second), 14 + IP_QUESTION + sizeof WWW - 1);
+    wants_octets("to the second server", sent + 14 + IP_SOURCE + 4, "\300\250\105\145", 4);
+    wants_state(&dns, query, IFACE_DNS_PENDING);
+    unmake(&host, &dns);
+}
+
 /* Two at once, each by its own port and number, and each with its own answer. */
 static void asks_two_at_once(void) {
     iface host = IFACE_NONE;
@@ -376,8 +404,10 @@ static void changes_servers(void) {
     wants_state(&dns, query, IFACE_DNS_PENDING);
     wants_query(&host, &dns, 2 * second, 101, ASKS_WWW);
     servers[2].version = 5, wants("a version", iface_dns_servers(&dns, servers), IFACE_BAD_ARGUMENT);
-    /* 0.0.0.0, 224.0.0.1, 255.255.255.255 and ff02::1 are no servers */
-    const struct iface_address wrong[] = {{4, {0}}, {4, {224, 0, 0, 1}}, {4, {255, 255, 255, 255}}, {6, {0xff, 2, [15] = 1}}, {6, {0}}};
+    /* none of these is another host's address: unspecified, of this network, loopback, of a group, reserved (RFC 1122, 3.2.1.3) */
+    const struct iface_address wrong[] = {
+        {4, {0}}, {4, {0, 1, 2, 3}}, {4, {127, 0, 0, 1}}, {4, {127, 0, 0, 53}}, {4, {224, 0, 0, 1}}, {4, {240, 0, 0, 1}}, {4, {255, 255, 255, 255}},
+        {6, {0}}, {6, {[15] = 1}}, {6, {0xff, 2, [15] = 1}}};
     for (size_t i = 0; i < sizeof wrong / sizeof *wrong; i++)
         servers[2] = wrong[i], wants("no server", iface_dns_servers(&dns, servers), IFACE_NOT_UNICAST);
     servers[0] = servers[2] = none, must("none", iface_dns_servers(&dns, servers));
@@ -452,6 +482,7 @@ int main(void) {
     ignores_forged();
     gives_up();
     moves_on();
+    passes_an_absent_server();
     asks_two_at_once();
     asks_from_one_port();
     reads_names();

@@ -189,6 +189,7 @@ static size_t listener, writable;
     each(dhcp_new, iface_dhcp_new(&client, &host, 1, &address)) \
     each(dhcp_poll, iface_dhcp_poll(&client, &host, now, &number)) \
     each(dhcp_poll_at, iface_dhcp_poll_at(&client, &at)) \
+    each(dhcp_lost, iface_dhcp_lost(&client, &number)) \
     each(dhcp_lease, iface_dhcp_lease(&client, &lease)) \
     each(dhcp_apply, iface_dhcp_apply(&client, &host)) \
     each(dhcp_reset, iface_dhcp_reset(&client)) \
@@ -448,7 +449,7 @@ static void turn(void) {
 
 /* The client does what is due, and what it sends is answered by a message of a type. */
 static void lease_step(uint8_t type) {
-    MUST(dhcp_poll), MUST(dhcp_poll_at);
+    MUST(dhcp_poll), MUST(dhcp_poll_at), MUST(dhcp_lost);
     memset(out, 0, AT_CLIENT + 6);
     MUST(next);
     given = lease_reply(frame, out, type, 50, 120), MUST(receive);
@@ -534,7 +535,7 @@ static void speak_tcp(void) {
     MUST(config_init), config.medium = IFACE_IP, config.frame_len = 1500;
     MUST(new_for), iface_new(&peer_host, &config);
     prefix_len = 24, address = own[0], MUST(add_address), iface_add_address(&peer_host, &own[1], 24);
-    MUST(streams_config_init), streams_config.places = 2, streams_config.packet_octets = 16384, MUST(streams_new), iface_streams_new(&peer_tcp, &peer_host, &streams_config);
+    MUST(streams_config_init), streams_config.number_key[0] = 1, streams_config.table_key[0] = 2, streams_config.places = 2, streams_config.packet_octets = 16384, MUST(streams_new), iface_streams_new(&peer_tcp, &peer_host, &streams_config);
     local = (struct iface_endpoint){IFACE_ANY, 7}, number = 4, MUST(stream_listen);
     iface_stream_connect(&peer_tcp, &peer_host, now, &from, &to, &theirs);
     exchange_segments(), MUST(stream_accept), exchange_octets(&theirs);

@@ -670,6 +670,10 @@ static void refuses(void) {
     wants("no connections", iface_stream_connect(&tcp, &host, 0, &end, &at_peer, &s), IFACE_NO_STREAMS);
     wants_no_stream(&tcp, &s, IFACE_NO_STREAMS);
     iface_streams_config_init(&config);
+    refuses_new(&tcp, &host, config, "no secrets");
+    config.table_key[1] = 1, refuses_new(&tcp, &host, config, "no secret of numbers");
+    config.table_key[1] = 0, config.number_key[31] = 1, refuses_new(&tcp, &host, config, "no secret of ends");
+    config.table_key[1] = 1;
     wants("no host", iface_streams_new(&tcp, &host, &config), IFACE_NO_HOST);
     make(&host, 3);
     wants("three sockets", iface_streams_new(&tcp, &host, &config), IFACE_TABLE_FULL);
@@ -707,6 +711,13 @@ static void refuses(void) {
     wants("a group", iface_stream_connect(&tcp, &host, 0, &end, &group, &s), IFACE_BAD_ADDRESS);
     wants("a group", iface_stream_connect(&tcp, &host, 0, &group, &at_peer, &s), IFACE_BAD_ADDRESS);
     end.address = at_peer.address, wants("two families", iface_stream_connect(&tcp, &host, 0, &end, &v6, &s), IFACE_BAD_ADDRESS);
+    /* beyond the own network without a route, and by one that ends at a moment (RFC 1122, 3.3.1) */
+    const struct iface_endpoint far = {{4, {198, 51, 100, 1}}, 80};
+    const struct iface_address far_network = {4, {198, 51, 100, 0}};
+    end.address.version = 0;
+    wants("no route", iface_stream_connect(&tcp, &host, 0, &end, &far, &s), IFACE_NO_ROUTE);
+    must("a route", iface_add_route_until(&host, &far_network, 24, &at_peer.address, second));
+    wants("that has ended", iface_stream_connect(&tcp, &host, second + 1, &end, &far, &s), IFACE_NO_ROUTE);
     wants_no_stream(&tcp, &s, IFACE_NO_SOCKET);
     wants("nothing written", s.place == 77 && s.generation == 77 && listener == 77 && at == 77, 1);
     end.address.version = 0, must("connect", iface_stream_connect(&tcp, &host, 0, &end, &at_peer, &s));

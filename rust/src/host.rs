@@ -73,6 +73,8 @@ pub enum Error {
     BadName,
     /// There is no server of names to ask.
     NoServer,
+    /// No network and no route of the host has the peer of a connection.
+    NoRoute,
     /// There are no secrets for connections of TCP: none are set, and without the feature `std` there is no source of them.
     NoSecrets,
     /// The library isn't of the header that this crate was made from, so it makes no host. `fresh.sh` tries it.
@@ -111,6 +113,7 @@ impl fmt::Display for Error {
             Error::InUse => "a connection has these ends",
             Error::BadName => "the text is no name",
             Error::NoServer => "there is no server to ask",
+            Error::NoRoute => "there is no route",
             Error::NoSecrets => "there are no secrets for connections",
             Error::OtherVersion { own, library: Some(library) } => {
                 return write!(f, "the crate is made for {}, and the library is {}", Version(own), Version(library));
@@ -160,6 +163,7 @@ fn refusal(code: u32) -> Error {
         sys::IFACE_IN_USE => Error::InUse,
         sys::IFACE_BAD_NAME => Error::BadName,
         sys::IFACE_NO_SERVER => Error::NoServer,
+        sys::IFACE_NO_ROUTE => Error::NoRoute,
         sys::IFACE_BAD_VERSION => Error::OtherVersion { own: sys::IFACE_VERSION, library: library_version() },
         other => Error::Other(other),
     }

@@ -2,7 +2,7 @@
 //!
 //! Calling any of it is `unsafe`: the header says what the caller keeps. [`Host`](crate::Host) keeps it.
 //!
-//! Sum of the header: 0x6fa43edcba383762
+//! Sum of the header: 0xbe2102104dad2e1b
 #![allow(non_camel_case_types)]
 
 use core::ffi::{c_char, c_void};
@@ -59,6 +59,8 @@ pub const IFACE_IN_USE: u32 = 23;
 pub const IFACE_BAD_NAME: u32 = 24;
 /// `iface_dns_start`: the client knows no server
 pub const IFACE_NO_SERVER: u32 = 25;
+/// `iface_stream_connect`: no network and no route of the host has the destination
+pub const IFACE_NO_ROUTE: u32 = 26;
 
 /// `iface_control`.
 pub const IFACE_TCP_DATA: u8 = 0;
@@ -161,7 +163,7 @@ pub const IFACE_DNS_SERVERS: usize = 3;
 /// How many addresses of a result there are at most.
 pub const IFACE_DNS_ADDRESSES: usize = 4;
 /// The version of the header.
-pub const IFACE_VERSION: u32 = 0x000e0009;
+pub const IFACE_VERSION: u32 = 0x000e000a;
 /// Any address, for the end at which a socket listens.
 pub const IFACE_ANY: iface_address = iface_address { version: 0, octets: [0; 16] };
 
@@ -675,21 +677,23 @@ unsafe extern "C" {
     pub fn iface_guard_pinned_conflict(host: *mut iface, hardware_address: *mut u8, at: *mut i64) -> u32;
     /// Writes the instant at which `iface_next` is to be called again, if no frame comes before and no call changes the host: one that has passed, if something is due at once, and `IFACE_NEVER`, if nothing is due.
     pub fn iface_poll_at(host: *mut iface, now: i64, at: *mut i64) -> u32;
-    /// Makes a client for a host with a hardware address, which the handle owns from then on. The seed is of the numbers by which its messages are known, another for each host and each start. known is an address that the host had before, which the client asks for first, or `IFACE_ANY`. HAS_CLIENT, BAD_ARGUMENT (a version of known that is neither 0 nor 4), NO_HOST, NOT_THERE (a medium without hardware addresses), TABLE_FULL (no socket is left), NO_MEMORY.
+    /// Makes a client for a host with a hardware address, which the handle owns from then on. The seed is of the numbers by which its messages are known, another for each host and each start. known is an address that the host had before, which the client asks for first, or `IFACE_ANY`. HAS_CLIENT, BAD_ARGUMENT (a version of known that is neither 0 nor 4), NO_HOST, NOT_THERE (a medium without hardware addresses), TABLE_FULL (no two sockets are left), NO_MEMORY.
     pub fn iface_dhcp_new(client: *mut iface_dhcp, host: *mut iface, seed: u64, known: *const iface_address) -> u32;
     /// Does what is due: the client takes what came to port 68, a message that is to be sent now is queued, and what has become of the lease is written. A message for which there is no room or no memory counts as lost, and is sent again later. NO_CLIENT, NO_HOST, BAD_MOMENT, NO_SOCKET (the host hasn't the client's socket).
     pub fn iface_dhcp_poll(client: *mut iface_dhcp, host: *mut iface, now: i64, event: *mut u32) -> u32;
     /// Writes the instant at which `iface_dhcp_poll` is to be called again, if nothing comes before: `IFACE_NEVER` only for a lease without end. NO_CLIENT.
     pub fn iface_dhcp_poll_at(client: *mut iface_dhcp, at: *mut i64) -> u32;
+    /// Writes the code for which the message that was due last is lost, or 0 if it isn't: NO_MEMORY (for the raw socket), QUEUE_FULL (the message before still waits, as for its server's neighbour), TABLE_FULL (other sockets took the place while memory was refused), NO_SOCKET. The next message is due at the instant of `iface_dhcp_poll_at`. NO_CLIENT.
+    pub fn iface_dhcp_lost(client: *mut iface_dhcp, why: *mut u32) -> u32;
     /// Writes the lease that the client has. NO_CLIENT, EMPTY (it has none).
     pub fn iface_dhcp_lease(client: *mut iface_dhcp, lease: *mut iface_lease) -> u32;
     /// Gives the host the address of the lease with its network, and its router as a default route, after the others; in place of those that the client gave it before, and none without a lease. That forgets all neighbours, unless the lease gives the same as before: then nothing changes. Other addresses and routes stay. NO_CLIENT, NO_HOST, TABLE_FULL, NOT_UNICAST (one of all own addresses can't be one).
     pub fn iface_dhcp_apply(client: *mut iface_dhcp, host: *mut iface) -> u32;
-    /// Gives up the lease, if there is one, and begins anew, as after a link went down. The next `iface_dhcp_poll` tells of a lease that is gone. NO_CLIENT.
+    /// Is called once a link came up. Gives up the lease, if there is one, and asks for its address again (RFC 2131, 3.2): where the link leads to another network the server refuses it, and the client asks for offers. Without a lease the client begins anew. The next `iface_dhcp_poll` tells of a lease that is gone. NO_CLIENT.
     pub fn iface_dhcp_reset(client: *mut iface_dhcp) -> u32;
     /// Frees a client: the handle owns none from then on. If the other handle owns a host, the client's sockets there are closed. What the client gave the host stays: call `iface_dhcp_reset` and `iface_dhcp_apply` before. NO_CLIENT.
     pub fn iface_dhcp_free(client: *mut iface_dhcp, host: *mut iface) -> u32;
-    /// Makes a client for so many queries at once, which the handle owns from then on. key is 16 random octets, a secret: the numbers and ports of queries come from it, and who doesn't know it can't tell the next ones from those before (RFC 5452, 9.2). servers is an array of `IFACE_DNS_SERVERS` addresses, in the order in which they are asked. Those of version 0, as `IFACE_ANY`, are left out; so the servers of a lease may be handed over as they are. HAS_CLIENT, BAD_ARGUMENT (a server whose version is neither 0, 4 nor 6), NOT_UNICAST (a server that can't be one), NO_MEMORY.
+    /// Makes a client for so many queries at once, which the handle owns from then on. key is 16 random octets, a secret: the numbers and ports of queries come from it, and who doesn't know it can't tell the next ones from those before (RFC 5452, 9.2). servers is an array of `IFACE_DNS_SERVERS` addresses, in the order in which they are asked. Those of version 0, as `IFACE_ANY`, are left out; so the servers of a lease may be handed over as they are. HAS_CLIENT, BAD_ARGUMENT (a server whose version is neither 0, 4 nor 6), NOT_UNICAST (an address that no other host can have: a group's, a loopback one, one of 0.0.0.0/8 or 240.0.0.0/4), NO_MEMORY.
     pub fn iface_dns_new(dns: *mut iface_dns, queries: u32, key: *const u64, servers: *const iface_address) -> u32;
     /// Sets the servers, as `iface_dns_new` has them, in place of those before. Queries that wait go on with the new ones: each asks the one whose turn it is, and no answer of another counts; without a server they time out. BAD_ARGUMENT, NO_CLIENT, NOT_UNICAST, NO_MEMORY.
     pub fn iface_dns_servers(dns: *mut iface_dns, servers: *const iface_address) -> u32;
@@ -705,9 +709,9 @@ unsafe extern "C" {
     pub fn iface_dns_cancel(dns: *mut iface_dns, host: *mut iface, query: usize) -> u32;
     /// Frees a client with its queries: the handle owns none from then on. If the other handle owns a host, their sockets there are closed. NO_CLIENT.
     pub fn iface_dns_free(dns: *mut iface_dns, host: *mut iface) -> u32;
-    /// Writes what most programs want: the values in the comments above, and zeros for the two secrets, which the program sets.
+    /// Writes what most programs want: the values in the comments above, and zeros for the two secrets, which the program sets: `iface_streams_new` refuses zeros.
     pub fn iface_streams_config_init(config: *mut iface_streams_config);
-    /// Makes connections for a host, which the handle owns from then on, and opens two raw sockets of the host for each family. Segments are as long as the link carries: 40 octets less than its longest packet over IPv4, 60 over IPv6. HAS_STREAMS, BAD_ARGUMENT (a number that is out of range, or neither family), NO_HOST, TABLE_FULL (the host has no places for the sockets), NO_MEMORY.
+    /// Makes connections for a host, which the handle owns from then on, and opens two raw sockets of the host for each family. Segments are as long as the link carries: 40 octets less than its longest packet over IPv4, 60 over IPv6. HAS_STREAMS, BAD_ARGUMENT (a number that is out of range, neither family, or a secret of zeros), NO_HOST, TABLE_FULL (the host has no places for the sockets), NO_MEMORY.
     pub fn iface_streams_new(tcp: *mut iface_streams, host: *mut iface, config: *const iface_streams_config) -> u32;
     /// Does what is due: the connections take what came, and what they send is queued. That may end one, by a time-out: look at `iface_stream_state` between this and sleeping. NO_STREAMS, NO_HOST, BAD_MOMENT.
     pub fn iface_streams_poll(tcp: *mut iface_streams, host: *mut iface, now: i64) -> u32;
@@ -721,7 +725,7 @@ unsafe extern "C" {
     pub fn iface_stream_accept(tcp: *mut iface_streams, listener: usize, stream: *mut iface_stream) -> u32;
     /// Closes a listener: a SYN for it is answered by a reset from then on, unless another one listens there. Handshakes under way end in a reset once they are complete, and connections that wait can still be accepted. Its number is given to no other listener, and its memory is freed with the connections. NOT_THERE (no listener has this number).
     pub fn iface_stream_close_listener(tcp: *mut iface_streams, listener: usize) -> u32;
-    /// Opens a connection to a peer, from a port of one own address; or of the one that `iface_source_for` writes, if that of local is none. Writes its name. The next `iface_streams_poll` sends the SYN, and `iface_stream_state` tells what becomes of it. An address of local that the host doesn't have ends it then, as if aborted. BAD_ARGUMENT, NO_STREAMS, NO_HOST, BAD_MOMENT, BAD_PORT (also the peer's), NOT_THERE (no own address of this family), BAD_ADDRESS (one that isn't unicast, or they are of two families), IN_USE (choose another port), TABLE_FULL (each place has a connection, and none that was released is in TIME-WAIT).
+    /// Opens a connection to a peer, from a port of one own address; or of the one that `iface_source_for` writes, if that of local is none. Writes its name. The next `iface_streams_poll` sends the SYN, and `iface_stream_state` tells what becomes of it. An address of local that the host doesn't have ends it then, as if aborted. BAD_ARGUMENT, NO_STREAMS, NO_HOST, BAD_MOMENT, BAD_PORT (also the peer's), NOT_THERE (no own address of this family), BAD_ADDRESS (one that isn't unicast, or they are of two families), NO_ROUTE, IN_USE (choose another port), TABLE_FULL (each place has a connection, and none that was released is in TIME-WAIT).
     pub fn iface_stream_connect(tcp: *mut iface_streams, host: *mut iface, now: i64, local: *const iface_endpoint, remote: *const iface_endpoint, stream: *mut iface_stream) -> u32;
     /// Queues the first octets, as many as there is room for, and writes how many: 0 once the program closed, or the connection is gone. Where it is 0, `iface_streams_poll_at` says what it said before.
     pub fn iface_stream_send(tcp: *mut iface_streams, stream: *const iface_stream, octets: *const u8, length: usize, count: *mut usize) -> u32;

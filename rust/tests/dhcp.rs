@@ -71,8 +71,21 @@ impl Link {
         let asked = self.broadcast(now, Some(reply(&asked, OFFER, LEASED)), REQUEST);
         assert_eq!(option(&asked, 50), Some(&LEASED.octets()[..]));
         assert_eq!(option(&asked, 54), Some(&SERVER.octets()[..]));
+        self.agree(now, &asked)
+    }
+
+    /// REQUEST of the address that it had, naming no server, and ACK (RFC 2131, 3.2, 4.3.2).
+    fn lease_again(&mut self, now: Instant) -> dhcpv4::Config {
+        let asked = self.broadcast(now, None, REQUEST);
+        assert_eq!(option(&asked, 50), Some(&LEASED.octets()[..]));
+        assert_eq!(option(&asked, 54), None);
+        self.agree(now, &asked)
+    }
+
+    /// ACK.
+    fn agree(&mut self, now: Instant, asked: &[u8]) -> dhcpv4::Config {
         assert_eq!(self.event(), None);
-        assert_eq!(self.poll(now, Some(reply(&asked, ACK, LEASED))), None);
+        assert_eq!(self.poll(now, Some(reply(asked, ACK, LEASED))), None);
         match self.event() {
             Some(dhcpv4::Event::Configured(config)) => config,
             other => panic!("{other:?}"),
@@ -156,7 +169,7 @@ fn a_refusal_and_a_reset_begin_anew() {
     link.sockets.get_mut::<dhcpv4::Socket>(link.handle).reset();
     assert_eq!(link.event(), Some(dhcpv4::Event::Deconfigured));
     let next = link.iface.poll_at(later, &link.sockets).unwrap().max(later + SECOND);
-    assert_eq!(link.lease(next.max(later + Duration::from_secs(5))).address, config.address);
+    assert_eq!(link.lease_again(next.max(later + Duration::from_secs(5))).address, config.address);
 }
 
 /// smoltcp's documentation of `set_max_lease_duration`: a lease is capped, if the server gave it for longer.
@@ -174,7 +187,7 @@ fn a_lease_is_given_up_after_the_longest_time() {
     link.poll(Instant::from_secs(15), None);
     assert_eq!(link.event(), Some(dhcpv4::Event::Deconfigured));
     link.sockets.get_mut::<dhcpv4::Socket>(link.handle).set_max_lease_duration(None);
-    assert_eq!(link.lease(Instant::from_secs(20)).address, config.address);
+    assert_eq!(link.lease_again(Instant::from_secs(20)).address, config.address);
     link.poll(Instant::from_secs(40), None);
     assert_eq!(link.event(), None);
 }

@@ -8,7 +8,7 @@ use Rattle.dhcp_client.specs.declared.client.DhcpPhase.TheVariants.{Discovering,
 use Rattle.dhcp_client.specs.declared.lease.DhcpLease.{DhcpLease}
 use Rattle.dhcp_client.specs.declared.lease.LeaseTimes.{LeaseTimes}
 use Rattle.dhcp_client.specs.Lease.{are_over, has_ended}
-use Rattle.dhcp_client.specs.Client.{lease, lease_in, must_give_up, must_give_up_in, after_giving_up, after_reset, is_to_send}
+use Rattle.dhcp_client.specs.Client.{lease, lease_in, must_give_up, must_give_up_in, after_giving_up, after_restart, is_to_send}
 use Rattle.dhcp_client.specs.Messages.{after_asking, after_sending, numbered}
 use Rattle.dhcp_client.specs.Laws.{IsBefore, LeasesEnd}
 
@@ -34,7 +34,7 @@ pub same_lease : (t : Bool) (now random : ℕ) (d : DhcpClient) →
 same_lease true now random d = refl
 same_lease false now random d = refl
 
-pub kept : (now : ℕ) (c : DhcpClient) (l : DhcpLease) (t : Bool) → must_give_up now c ≡ t → lease (if t then after_reset c else c) ≡ Some l →
+pub kept : (now : ℕ) (c : DhcpClient) (l : DhcpLease) (t : Bool) → must_give_up now c ≡ t → lease (if t then after_restart c else c) ≡ Some l →
     (t ≡ false) × (lease c ≡ Some l)
 kept now c l true h e = absurd (cc)
 kept now c l false h e = (refl, e)

@@ -20,7 +20,7 @@ use Rattle.dhcp_client.specs.Answers.{after_answer, after_type, requesting, leas
 use Rattle.dhcp_client.specs.Answers.{is_answer, is_asked, is_by, is_discovering}
 use Rattle.dhcp_client.specs.Lease.{is_usable, lease_by, lease_of, spans_of, times_of}
 use Rattle.dhcp_client.specs.Addresses.{is_mask, is_networks, is_other, mask_of, other_in, others_in, without_gaps}
-use Rattle.dhcp_client.specs.Client.{lease, after_reset, after_giving_up, must_give_up, is_to_send}
+use Rattle.dhcp_client.specs.Client.{lease, lease_in, address_in, first_phase, after_reset, after_restart, after_giving_up, must_give_up, is_to_send}
 use Rattle.dhcp_client.specs.Messages.{after_sending, message, message_in, numbered, is_discover, asked_server, is_rebinding}
 use Rattle.dhcp_client.specs.Run.{Event, Receive, Ask, Tell, Reset, Sent, History, begun, after, after_all}
 use Rattle.dhcp_client.specs.Laws.{Agrees, IsAgreed, IsOther, AreOthers, IsUsable, Gives, LeasesAreAnswered, broadcast, end_of}
@@ -46,7 +46,7 @@ record Known (hw : EthernetAddress) (last : Option Sent) (c : DhcpClient) : Type
 
 module _ (hw : EthernetAddress) (last : Option Sent) where
   -- where nothing is asked any more
-  by_reset : (t : Bool) (c : DhcpClient) → Known hw last c → Known hw last (if t then after_reset c else c)
+  by_reset : (t : Bool) (c : DhcpClient) → Known hw last c → Known hw last (if t then after_restart c else c)
   by_reset true c k = let is = k.hardware in record { hardware = is; asked = tt }
   by_reset false c k = k
 
@@ -74,7 +74,7 @@ module _ (hw : EthernetAddress) (last : Option Sent) where
   by_ack true at m c k = k
   by_ack false at m c k = by_lease (lease_of at m) c k
 
-  by_nak : (t : Bool) (c : DhcpClient) → Known hw last c → Known hw last (if t then c else after_reset c)
+  by_nak : (t : Bool) (c : DhcpClient) → Known hw last c → Known hw last (if t then c else after_restart c)
   by_nak true c k = k
   by_nak false c k = let is = k.hardware in record { hardware = is; asked = tt }
 
@@ -306,7 +306,7 @@ module _ (hw : EthernetAddress) (last : Option Sent) (a : Asked) (c : DhcpClient
   give_ack true phase ack e = inl e
   give_ack false phase ack e = give_lease (lease_of a.at m) phase ack refl e
 
-  give_nak : (t : Bool) → lease (if t then c else after_reset c) ≡ Some l → lease c ≡ Some l
+  give_nak : (t : Bool) → lease (if t then c else after_restart c) ≡ Some l → lease c ≡ Some l
   give_nak true e = e
   give_nak false e = absurd (cc)
 
@@ -331,6 +331,14 @@ receives : (hw : EthernetAddress) (last : Option Sent) (o : Option Asked) (c : D
 receives hw last None c m l hardware asked ea e = inl e
 receives hw last (Some a) c m l hardware asked ea e = if_answers hw last a c m l (is_answer m c) hardware asked ea refl e
 
+-- a client that begins anew has no lease
+unleased : (known : Option Ipv4Address) (l : DhcpLease) → lease_in (first_phase known) ≡ Some l → ⊥
+unleased None l e = cc
+unleased (Some address) l e = cc
+
+begun_unleased : (c : DhcpClient) (l : DhcpLease) → lease (after_reset c) ≡ Some l → ⊥
+begun_unleased c l e = unleased (address_in c.phase) l e
+
 one_event : (hw : EthernetAddress) (h : History) (e : Event) (l : DhcpLease) → Known hw h.last h.client →
     lease (after e h).client ≡ Some l → (lease h.client ≡ Some l) ⊎ Gives hw h.last e l
 one_event hw h (Receive m) l k e = receives hw h.last h.client.asked h.client m l k.hardware k.asked refl e
@@ -340,7 +348,7 @@ one_event hw h (Ask now random) l k e =
     let there : lease d ≡ Some l = sym (same_lease (is_to_send now d) now random d) ∙ e in
     inl (kept now c l (must_give_up now c) refl there).1
 one_event hw h Tell l k e = inl e
-one_event hw h Reset l k e = absurd (cc)
+one_event hw h Reset l k e = absurd (begun_unleased h.client l e)
 
 first : (hw : EthernetAddress) (known : Option Ipv4Address) → Known hw None (begun hw known).client
 first hw known = record { hardware = refl; asked = tt }

@@ -20,7 +20,7 @@ use Rattle.dhcp_client.specs.Answers.{after_answer, after_type, requesting, leas
 use Rattle.dhcp_client.specs.Answers.{is_answer, is_discovering, renewed_at}
 use Rattle.dhcp_client.specs.Lease.{is_usable, lease_by, lease_of, rebind_span, renew_span, spans_of, times_of}
 use Rattle.dhcp_client.specs.Addresses.{mask_of, other_in, others_in}
-use Rattle.dhcp_client.specs.Client.{lease_in, after_reset, after_giving_up, must_give_up, is_to_send, has_come, send_in, if_ending}
+use Rattle.dhcp_client.specs.Client.{lease_in, address_in, first_phase, after_reset, after_restart, after_giving_up, must_give_up, is_to_send, has_come, send_in, if_ending}
 use Rattle.dhcp_client.specs.Messages.{after_sending, message, message_in, message_at, next_at, half_until, numbered}
 use Rattle.dhcp_client.specs.Messages.{are_rebinding, is_discover, renewal, renewal_after}
 use Rattle.dhcp_client.specs.Run.{Event, Receive, Ask, Tell, Reset, Sent, History, begun, after, after_all}
@@ -138,7 +138,7 @@ begins a c l (Some t) (Some s) sorted is = record {
 }
 
 module _ (last : Option Sent) where
-  by_reset : (b : Bool) (c : DhcpClient) → Kept last c → Kept last (if b then after_reset c else c)
+  by_reset : (b : Bool) (c : DhcpClient) → Kept last c → Kept last (if b then after_restart c else c)
   by_reset true c k = record { asked = tt; phase = tt }
   by_reset false c k = k
 
@@ -168,7 +168,7 @@ module _ (last : Option Sent) where
       let waiting : Waiting (Some a) c.phase last c = subst (λ (o : Option Asked). Waiting o c.phase last c) ea k.asked in
       by_lease a m (lease_of a.at m) c k (waiting is) refl
 
-  by_nak : (b : Bool) (c : DhcpClient) → Kept last c → Kept last (if b then c else after_reset c)
+  by_nak : (b : Bool) (c : DhcpClient) → Kept last c → Kept last (if b then c else after_restart c)
   by_nak true c k = k
   by_nak false c k = record { asked = tt; phase = tt }
 
@@ -290,13 +290,18 @@ told last c k = record { asked = waiting c.asked k.asked; phase = phase c.phase 
   phase (Rebooting address) i = tt
   phase (Bound l) i = times l.times last i
 
+-- a client that begins anew has no lease, so nothing is asked of its times
+begun_in : (known : Option Ipv4Address) (last : Option Sent) (c : DhcpClient) → InPhase (first_phase known) last c
+begun_in None last c = tt
+begun_in (Some address) last c = tt
+
 by_event : (e : Event) (h : History) → Kept h.last h.client → Kept (after e h).last (after e h).client
 by_event (Receive m) h k = by_answer h.last h.client.asked m h.client k refl
 by_event (Ask now random) h k =
     let d = after_giving_up now h.client in
     by_sending (is_to_send now d) h.last now random d refl (by_reset h.last (must_give_up now h.client) h.client k)
 by_event Tell h k = told h.last h.client k
-by_event Reset h k = record { asked = tt; phase = tt }
+by_event Reset h k = record { asked = tt; phase = begun_in (address_in h.client.phase) h.last (after_reset h.client) }
 
 by_all : (es : List Event) (h : History) → Kept h.last h.client → Kept (after_all es h).last (after_all es h).client
 by_all [] h k = k

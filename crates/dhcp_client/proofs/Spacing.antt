@@ -15,7 +15,7 @@ use Rattle.dhcp_client.specs.declared.lease.DhcpLease.{DhcpLease}
 use Rattle.dhcp_client.specs.declared.lease.LeaseTimes.{LeaseTimes}
 use Rattle.dhcp_client.specs.Answers.{after_answer, after_type, requesting, leased, is_answer, is_discovering}
 use Rattle.dhcp_client.specs.Lease.{is_usable, lease_of}
-use Rattle.dhcp_client.specs.Client.{after_reset, after_giving_up, must_give_up, is_to_send, has_come, send_in, if_ending}
+use Rattle.dhcp_client.specs.Client.{after_restart, after_giving_up, must_give_up, is_to_send, has_come, send_in, if_ending}
 use Rattle.dhcp_client.specs.Messages.{after_asking, after_sending, message, message_in, numbered, is_discover}
 use Rattle.dhcp_client.specs.Run.{Event, Receive, Ask, Tell, Reset, client_after, client_after_all}
 use Rattle.dhcp_client.specs.Laws.{type_at, KindsAreSpaced}
@@ -27,7 +27,7 @@ Gates c d = (c.discover_after ≤ d.discover_after) × (c.request_after ≤ d.re
 same : (c : DhcpClient) → Gates c c
 same c = (omega arith, omega arith)
 
-by_reset : (t : Bool) (c : DhcpClient) → Gates c (if t then after_reset c else c)
+by_reset : (t : Bool) (c : DhcpClient) → Gates c (if t then after_restart c else c)
 by_reset true c = same c
 by_reset false c = same c
 
@@ -52,7 +52,7 @@ by_ack : (t : Bool) (at : ℕ) (m : DhcpRepr) (c : DhcpClient) → Gates c (if t
 by_ack true at m c = same c
 by_ack false at m c = by_lease (lease_of at m) c
 
-by_nak : (t : Bool) (c : DhcpClient) → Gates c (if t then c else after_reset c)
+by_nak : (t : Bool) (c : DhcpClient) → Gates c (if t then c else after_restart c)
 by_nak true c = same c
 by_nak false c = same c
 
@@ -147,7 +147,7 @@ gate_after : (t : Bool) (now : ℕ) (c : DhcpClient) → now + 3000000
 gate_after true now c = omega arith
 gate_after false now c = omega arith
 
-gates_given_up : (t : Bool) (p : DhcpPhase) (c : DhcpClient) → gate p (if t then after_reset c else c) ≡ gate p c
+gates_given_up : (t : Bool) (p : DhcpPhase) (c : DhcpClient) → gate p (if t then after_restart c else c) ≡ gate p c
 gates_given_up true p c = refl
 gates_given_up false p c = refl
 

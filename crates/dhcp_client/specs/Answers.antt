@@ -10,7 +10,7 @@ use Rattle.dhcp_client.specs.declared.client.DhcpClient.{DhcpClient}
 use Rattle.dhcp_client.specs.declared.client.DhcpPhase.TheVariants.{Requesting, Bound}
 use Rattle.dhcp_client.specs.declared.lease.DhcpLease.{DhcpLease}
 use Rattle.dhcp_client.specs.declared.lease.LeaseTimes.{LeaseTimes}
-use Rattle.dhcp_client.specs.Client.{after_reset}
+use Rattle.dhcp_client.specs.Client.{after_restart}
 use Rattle.dhcp_client.specs.Lease.{is_usable, lease_of}
 use Rattle.dhcp_client.specs.Messages.{is_discover}
 
@@ -57,7 +57,7 @@ after_ack sent_at m c = if is_discovering c then c else leased (lease_of sent_at
 
 -- a refusal lets it begin anew
 abbrev pub after_nak : DhcpClient → DhcpClient
-after_nak c = if is_discovering c then c else after_reset c
+after_nak c = if is_discovering c then c else after_restart c
 
 abbrev pub after_type : DhcpMessageType → ℕ → DhcpRepr → DhcpClient → DhcpClient
 after_type Discover sent_at m c = c

@@ -53,15 +53,30 @@ abbrev pub has_changed_by : Option DhcpLease → Bool → Bool
 has_changed_by None before = before
 has_changed_by (Some lease) before = true
 
--- the client begins anew, without a lease; the distance to what was sent before stays
-abbrev pub after_reset : DhcpClient → DhcpClient
-after_reset c = record c {
-  phase = Discovering;
+-- the client begins a phase, without a lease; the distance to what was sent before stays
+abbrev pub beginning : DhcpPhase → DhcpClient → DhcpClient
+beginning phase c = record c {
+  phase = phase;
   asked = None;
   tries = 0;
   next_at = 0;
   has_changed = has_changed_by (lease c) c.has_changed;
 }
+
+-- it asks for offers again
+abbrev pub after_restart : DhcpClient → DhcpClient
+after_restart c = beginning Discovering c
+
+-- the address that it has, or asks for as one that it had
+abbrev pub address_in : DhcpPhase → Option Ipv4Address
+address_in Discovering = None
+address_in (Requesting address server) = None
+address_in (Rebooting address) = Some address
+address_in (Bound lease) = Some lease.address
+
+-- after a link came up again it asks for that address first, which another server may refuse (RFC 2131 3.2, 4.3.2)
+abbrev pub after_reset : DhcpClient → DhcpClient
+after_reset c = beginning (first_phase (address_in c.phase)) c
 
 -- a request is sent four times, after 4, 8 and 16 seconds, and its last answer is waited for during 32: a minute in all (RFC 2131
 -- 3.1 (5), 4.1)
@@ -79,7 +94,7 @@ abbrev pub must_give_up : ℕ → DhcpClient → Bool
 must_give_up now c = must_give_up_in c.phase now c
 
 abbrev pub after_giving_up : ℕ → DhcpClient → DhcpClient
-after_giving_up now c = if must_give_up now c then after_reset c else c
+after_giving_up now c = if must_give_up now c then after_restart c else c
 
 -- when the phase's message is sent next; never, for a lease without end
 abbrev pub if_ending : Option LeaseTimes → ℕ → Option ℕ

@@ -16,7 +16,7 @@ use Rattle.dhcp_client.specs.Answers.{after_receiving}
 use Rattle.dhcp_client.specs.Client.{lease, poll_at}
 use Rattle.dhcp_client.specs.Lease.{is_usable}
 use Rattle.dhcp_client.specs.Messages.{after_asking, message_at}
-use Rattle.dhcp_client.specs.Run.{Event, Receive, Ask, Tell, Reset, Sent, begun, after, after_all, client_after_all}
+use Rattle.dhcp_client.specs.Run.{Event, Receive, Ask, Tell, Reset, Sent, begun, after, after_all, client_after, client_after_all}
 
 abbrev pub broadcast : Ipv4Address
 broadcast = record { bits = 0xffff_ffff }
@@ -198,3 +198,16 @@ AgreementsAreTaken =
     message_at now random c ≡ Some sent → sent.repr.message_type ≡ Request → Answers sent Ack server m →
     m.options.lease_duration ≡ Some seconds → IfSome (lease c) (λ l. l.server ≡ server) → IfSome sent.repr.options.server_identifier (λ s. s ≡ server) →
     IsFor (lease (after_receiving m (after_asking now random c))) m.your_ip
+
+-- a message asks any server for an address that the client had (RFC 2131 4.3.2, table 4)
+abbrev pub AsksForOld : Option DhcpMessage → Ipv4Address → Type 0
+AsksForOld None address = ⊥
+AsksForOld (Some m) address =
+    (m.repr.message_type ≡ Request) × (m.repr.options.requested_ip ≡ Some address) × (m.repr.options.server_identifier ≡ None)
+    × (m.repr.client_ip.bits ≡ 0) × (m.dst ≡ broadcast)
+
+-- a client that is reset asks for the address that it had, as soon as something is due
+abbrev pub ResetsAskAgain : Type 0
+ResetsAskAgain =
+    (now random at : ℕ) (c : DhcpClient) (l : DhcpLease) → now < 0xffff_ffff_ffff_ffff → lease c ≡ Some l →
+    poll_at (client_after Reset c) ≡ Some at → at ≤ now → AsksForOld (message_at now random (client_after Reset c)) l.address

@@ -107,23 +107,38 @@ impl DhcpClient {
         }
     }
 
-    /// Gives up the lease, if there is one, and begins anew: as after a link went down. The owner is told of a lease that
-    /// is gone. What is sent next still keeps its distance from what was sent before.
+    /// Gives up the lease, if there is one, and asks for its address again, as once a link came up (RFC 2131 3.2): a server that
+    /// knows of another network refuses it, and then the client asks for offers. Without a lease it begins anew. The owner is told
+    /// of a lease that is gone. What is sent next still keeps its distance from what was sent before.
     pub fn reset(&mut self)
         ensures { self.new ≡ spec.after_reset self.old }
     {
-        self.restart();
+        let phase = match self.phase {
+            DhcpPhase::Bound(lease) => DhcpPhase::Rebooting {
+                address: lease.address,
+            },
+            DhcpPhase::Rebooting { address } => DhcpPhase::Rebooting { address },
+            _ => DhcpPhase::Discovering,
+        };
+        self.begin(phase);
     }
 
-    /// Begins anew.
+    /// Asks for offers anew.
     pub(crate) fn restart(&mut self)
-        ensures { self.new ≡ spec.after_reset self.old }
+        ensures { self.new ≡ spec.after_restart self.old }
+    {
+        self.begin(DhcpPhase::Discovering);
+    }
+
+    /// Begins a phase, without a lease.
+    fn begin(&mut self, next: DhcpPhase)
+        ensures { self.new ≡ spec.beginning next self.old }
     {
         let phase = self.phase;
         if let DhcpPhase::Bound(_) = phase {
             self.has_changed = true;
         }
-        self.phase = DhcpPhase::Discovering;
+        self.phase = next;
         self.asked = None;
         self.tries = 0;
         self.next_at = 0;

@@ -1,7 +1,7 @@
 //! What a client promises, whatever messages come and whenever it is asked, each law as the contract of an empty function.
 ghost use Rattle.dhcp_client.specs.Laws.{AgreementsAreTaken, DiscoveryGoesOn, KindsAreSpaced, LeasesAreAnswered, LeasesEnd};
 ghost use Rattle.dhcp_client.specs.Laws.{LeasesStay, NeverStuck, OffersAreTaken, PollAtIsExact, RenewalsAreAsked};
-ghost use Rattle.dhcp_client.specs.Laws.{RenewalsAreInTime, RenewalsWait};
+ghost use Rattle.dhcp_client.specs.Laws.{RenewalsAreInTime, RenewalsWait, ResetsAskAgain};
 
 /// A lease comes only from an agreement (ACK) to the request that was sent last: with its number, the client's hardware
 /// address, and the identifier of a server, which is the one that the request named, or went to. It ends as many seconds
@@ -69,4 +69,10 @@ pub fn offers_are_taken()
 /// An agreement that answers a REQUEST and can be used gives a lease of its address.
 pub fn agreements_are_taken()
     ensures { AgreementsAreTaken }
+{}
+
+/// A client that had a lease when it was reset asks for its address, as soon as something is due: of any server, and without a
+/// server's identifier (RFC 2131 4.3.2).
+pub fn resets_ask_again()
+    ensures { ResetsAskAgain }
 {}

@@ -1,6 +1,6 @@
 //! `http_hello` is a host at 192.168.69.7 and fd69::7 that has one page at port 80, by HTTP/1.1 (RFC 9110, RFC 9112).
 //! It reads lines of standard input, each a moment in microseconds and maybe a frame in hexadecimal that comes then. It prints
-//! the frames that it sends, and when it wants to be told the moment next. Its arguments, if any, are how many connections it
+//! the frames that it sends, and when it wants to be told the moment next; and at first, on standard error, where it listens. Its arguments, if any, are how many connections it
 //! may have at once, and how many octets each may hold.
 #![tactic(auto)]
 
@@ -19,6 +19,7 @@ fn main(rt: HostRuntime) -> Result<()> {
     let limits = Limits::of_arguments(&rt)?;
     let mut host = LineHost::new(rt.alloc(), &limits)?;
     let mut pages = Pages::new(rt.alloc(), &limits, &mut host.streams)?;
+    writeln!(rt.stderr(), "listens at 192.168.69.7 and fd69::7, port 80")?;
     serve(&rt, &mut host, &mut pages)
 }
 

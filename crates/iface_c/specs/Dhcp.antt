@@ -152,6 +152,11 @@ pub record ShowsPollAt (at : ℤ) (old new : Dhcp) : Type 0 where
   pub written : at ≡ read_as (dhcp.poll_at old)
   pub same : new ≡ old
 
+-- the code for which the message that was due last is lost was written, and nothing changed
+pub record ShowsLost (why : ℕ) (old new : Dhcp) : Type 0 where
+  pub written : why ≡ code_if old.lost
+  pub same : new ≡ old
+
 -- the lease is given up
 abbrev pub Resets : Dhcp → Dhcp → Type 0
 Resets old new = new ≡ record old { client = after_reset old.client }

@@ -4,7 +4,7 @@ use Rattle.iface_host.specs.declared.host.IfaceHost.{IfaceHost}
 use Rattle.iface_host.specs.declared.refusal.Refusal.{Refusal}
 use Rattle.iface_host.specs.declared.refusal.Refusal.TheVariants.{NoMemory, BadMtu, NotUnicast, BadMoment}
 use Rattle.iface_host.specs.declared.refusal.Refusal.TheVariants.{BadAddress, NotThere, TableFull, NoSocket, BadPort}
-use Rattle.iface_host.specs.declared.refusal.Refusal.TheVariants.{TooLong, QueueFull, Empty, NoRoom, BadTimeout}
+use Rattle.iface_host.specs.declared.refusal.Refusal.TheVariants.{TooLong, QueueFull, Empty, NoRoom, BadTimeout, NoRoute}
 
 -- of a refusal
 abbrev pub code_of : Refusal → ℕ
@@ -22,6 +22,7 @@ code_of QueueFull = 14
 code_of Empty = 15
 code_of NoRoom = 16
 code_of BadTimeout = 17
+code_of NoRoute = 26
 
 -- 0 where nothing is refused
 abbrev pub code_if : Option Refusal → ℕ
@@ -44,9 +45,9 @@ code_for_new why settings (Some host) = 2
 code_for_new why None None = 3
 code_for_new why (Some settings) None = code_if (why settings)
 
--- of the same call for a program with a header of this version: 18 where it isn't the library's, 0.14.0 with number 6
+-- of the same call for a program with a header of this version: 18 where it isn't the library's, 0.14.0 with number 10
 abbrev pub code_for_version : ℕ → ℕ → ℕ
-code_for_version version due = if version == 0x000e_0009 then due else 18
+code_for_version version due = if version == 0x000e_000a then due else 18
 
 -- of a call for which memory may be refused: the one that is due; or in place of 0 that of refused memory, 4
 pub record IsDueOrMemory (due code : ℕ) : Type 0 where

@@ -244,7 +244,26 @@ pub extern "C" fn iface_dhcp_lease(
     }
 }
 
-/// Lets a client give up its lease, and begin anew.
+/// Writes the code for which the message that was due last is lost, 0 if it isn't.
+#[unsafe(no_mangle)]
+pub extern "C" fn iface_dhcp_lost(client: &mut IfaceDhcp, alloc: Global, why: &mut u32) -> u32
+    ensures done { spec.DidOne result (λ old new. spec.ShowsLost why.new old new) client.old client.new }
+    ensures code { result ≡ spec.code_of_one (λ _. None) (dhcp_in client.old) }
+    ensures kept { result ≢ 0 → why.new ≡ why.old }
+{
+    let Some(dhcp) = client.take(alloc) else {
+        return NO_CLIENT;
+    };
+    let lost = dhcp.lost();
+    client.put(dhcp);
+    *why = match lost {
+        Some(refusal) => code(refusal),
+        None => OK,
+    };
+    OK
+}
+
+/// Lets a client give up its lease, and ask for its address again.
 #[unsafe(no_mangle)]
 pub extern "C" fn iface_dhcp_reset(client: &mut IfaceDhcp, alloc: Global) -> u32
     ensures done { spec.DidOne result spec.Resets client.old client.new }

@@ -59,7 +59,7 @@ pub const BAD_NAME: u32 = 24;
 pub const NO_SERVER: u32 = 25;
 
 /// The version of the header, `IFACE_VERSION`.
-pub const VERSION: u32 = 0x000e_0009;
+pub const VERSION: u32 = 0x000e_000a;
 
 /// The code of a refusal.
 pub fn code(refusal: Refusal) -> u32
@@ -81,5 +81,6 @@ pub fn code(refusal: Refusal) -> u32
         Refusal::Empty => 15,
         Refusal::NoRoom => 16,
         Refusal::BadTimeout => 17,
+        Refusal::NoRoute => 26,
     }
 }

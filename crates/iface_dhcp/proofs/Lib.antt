@@ -1,3 +1,4 @@
 mod Hearing
+mod Places
 mod Prefixes
 mod Waiting

@@ -1,18 +1,20 @@
 -- A client of DHCP for a host: how it is made, and how it goes.
-use Rattle.std.specs.Prelude.{ℕ, ℤ, ◌≡◌, pos, min, List, Option, Some, None}
+use Rattle.std.specs.Prelude.{ℕ, ℤ, ◌≡◌, pos, min, List, Option, Some, None, if◌then◌else◌}
 use Rattle.std.specs.Option.{option_map}
 use Rattle.ip_address.specs.declared.ethernet_address.EthernetAddress.{EthernetAddress}
 use Rattle.sockets.specs.declared.endpoint.IpListenEndpoint.{IpListenEndpoint}
+use Rattle.sockets.specs.declared.icmp.Endpoint.TheVariants.{Udp}
 use Rattle.dhcp_client.specs.Client as client
 use Rattle.iface_host.specs.Properties.{hardware_of}
 use Rattle.iface_host.specs.Refusals.{close_refusal}
 use Rattle.iface_host.specs.Sockets as sockets
-use Rattle.iface_host.specs.Sockets.{Opens, udp}
-use Rattle.iface_host.specs.TableRefusals.{udp_opening_refusal}
+use Rattle.iface_host.specs.Sockets.{Opens, icmp, udp}
+use Rattle.iface_host.specs.Streams.{has_room_for}
+use Rattle.iface_host.specs.TableRefusals.{first_reason, udp_opening_refusal}
 use Rattle.iface_host.specs.declared.host.IfaceHost.{IfaceHost}
 use Rattle.iface_host.specs.declared.opening.Rooms.{Rooms}
 use Rattle.iface_host.specs.declared.refusal.Refusal.{Refusal}
-use Rattle.iface_host.specs.declared.refusal.Refusal.TheVariants.{NotThere}
+use Rattle.iface_host.specs.declared.refusal.Refusal.TheVariants.{NotThere, TableFull}
 use Rattle.iface_dhcp.specs.declared.dhcp.Dhcp.{Dhcp}
 use Rattle.iface_dhcp.specs.declared.dhcp.DhcpSettings.{DhcpSettings}
 
@@ -24,20 +26,37 @@ port = record { addr = None; port = 68 }
 abbrev pub rooms : Rooms
 rooms = record { received = record { packets = 8; octets = 2944 }; to_send = record { packets = 1; octets = 320 } }
 
--- it was just made, for a host with a hardware address, which has its socket now
+-- what keeps the client's second place: a socket without room, which gets nothing and sends nothing. It is for errors about datagrams
+-- from port 68
+abbrev pub no_rooms : Rooms
+no_rooms = record { received = record { packets = 0; octets = 0 }; to_send = record { packets = 0; octets = 0 } }
+
+abbrev pub keeper : sockets.Socket
+keeper = icmp (Udp 68) no_rooms
+
+-- a place is kept; or there is none, or no memory
+pub data Keeps (kept : Option ℕ) (old new : IfaceHost) : Type 0 where
+  Kept : (n : ℕ) → kept ≡ Some n → Opens keeper n old new → Keeps kept old new
+  NotKept : kept ≡ None → new ≡ old → Keeps kept old new
+
+-- it was just made, for a host with a hardware address, which has its socket now, and keeps a second place
 pub record IsNew (s : DhcpSettings) (dhcp : Dhcp) (old new : IfaceHost) : Type 0 where
   pub hardware_addr : EthernetAddress
   pub hardware : hardware_of old ≡ Some hardware_addr
-  pub opened : Opens (udp port rooms) dhcp.socket old new
+  pub between : IfaceHost
+  pub opened : Opens (udp port rooms) dhcp.socket old between
+  pub kept : Keeps dhcp.kept between new
   pub client : dhcp.client ≡ client.new_client hardware_addr s.known
   pub broadcast : dhcp.broadcast ≡ None
+  pub lost : dhcp.lost ≡ None
   pub random : dhcp.random ≡ s.random_seed
   pub leased : dhcp.leased ≡ None
 
--- the host's link has no hardware addresses, or there is no place for a socket
+-- the host's link has no hardware addresses, or there are no two places for sockets
 abbrev pub refusal_for : Option EthernetAddress → IfaceHost → Option Refusal
 refusal_for None host = Some NotThere
-refusal_for (Some address) host = udp_opening_refusal host port
+refusal_for (Some address) host =
+    first_reason (udp_opening_refusal host port) (if has_room_for 2 host then None else Some TableFull)
 
 abbrev pub new_refusal : IfaceHost → Option Refusal
 new_refusal host = refusal_for (hardware_of host) host
@@ -59,8 +78,10 @@ abbrev pub ClosesIf : Option ℕ → IfaceHost → IfaceHost → Type 0
 ClosesIf None old new = new ≡ old
 ClosesIf (Some n) old new = ClosesOne n old new
 
--- its sockets are closed, first that of UDP
+-- its sockets are closed: that of UDP, the raw one, and what keeps a place
 pub record Closes (dhcp : Dhcp) (old new : IfaceHost) : Type 0 where
   pub between : IfaceHost
   pub udp : ClosesOne dhcp.socket old between
-  pub raw : ClosesIf dhcp.broadcast between new
+  pub after : IfaceHost
+  pub raw : ClosesIf dhcp.broadcast between after
+  pub place : ClosesIf dhcp.kept after new

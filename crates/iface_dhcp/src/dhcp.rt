@@ -5,6 +5,7 @@ ghost use Rattle.dhcp_client.specs.Client as client;
 ghost use Rattle.iface_dhcp.specs.Dhcp as spec;
 ghost use Rattle.iface_host.specs.declared.refusal.Refusal.{Refusal};
 
+use crate::place::keep_place;
 use dhcp_client::message::CLIENT_PORT;
 use dhcp_client::{DhcpClient, DhcpLease};
 use iface_host::{IfaceHost, Leased, Refusal, Room, Rooms};
@@ -46,6 +47,11 @@ pub struct Dhcp {
     pub socket: u32,
     /// The number of its raw socket, which is open while a message to all servers waits there.
     pub broadcast: Option<u32>,
+    /// The number of the socket that keeps the place of the raw one, while that isn't open. Only where memory was refused there may
+    /// be neither.
+    pub kept: Option<u32>,
+    /// Why the message that was due last is lost, if it is.
+    pub lost: Option<Refusal>,
     /// Where its random numbers come from.
     pub random: Rand,
     /// What it has given the host.
@@ -53,9 +59,9 @@ pub struct Dhcp {
 }
 
 impl Dhcp {
-    /// A client for a host, which gives it a UDP socket of port 68. `NotThere` if the host's link has no hardware addresses,
-    /// else `TableFull` if no number or no place for a socket is left, else `NoMemory` if memory for it is refused; then the
-    /// host stays unchanged.
+    /// A client for a host, which gives it two places: one for a UDP socket of port 68, and one for the raw socket by which it asks
+    /// all servers. `NotThere` if the host's link has no hardware addresses, else `TableFull` if no two numbers or no two places for
+    /// sockets are left, else `NoMemory` if memory for it is refused; then the host stays unchanged.
     pub fn new(
         alloc: Global,
         host: &mut IfaceHost,
@@ -70,10 +76,15 @@ impl Dhcp {
             return Err(Refusal::NotThere);
         };
         host.unused_number()?;
+        if !host.has_room_for(2) {
+            return Err(Refusal::TableFull);
+        }
         let client = Dhcp {
             client: DhcpClient::new(hardware_addr, settings.known),
             socket: 0,
             broadcast: None,
+            kept: None,
+            lost: None,
             random: Rand::new(settings.random_seed),
             leased: None,
         };
@@ -85,6 +96,7 @@ impl Dhcp {
             port: CLIENT_PORT,
         };
         dhcp.socket = host.open_udp(port, ROOMS)?;
+        dhcp.kept = keep_place(host);
         Ok(dhcp)
     }
 
@@ -95,8 +107,17 @@ impl Dhcp {
         self.client.lease()
     }
 
-    /// Gives up the lease, if there is one, and begins anew, as after a link went down. The next poll tells of a lease that is
-    /// gone. What was given to the host stays until [`Dhcp::apply`].
+    /// Why the message that was due last is lost, if it is: `NoMemory` where memory for the raw socket is refused, `TableFull` where
+    /// others have its place since, `QueueFull` while the message before waits for its neighbour.
+    pub fn lost(&self) -> Option<Refusal>
+        ensures { result ≡ self.now.lost }
+    {
+        self.lost
+    }
+
+    /// Gives up the lease, if there is one, and asks for its address again, as once a link came up (RFC 2131 3.2): where the link
+    /// leads to another network the server refuses it, and the client asks for offers. Without a lease it begins anew. The next poll
+    /// tells of a lease that is gone. What was given to the host stays until [`Dhcp::apply`].
     pub fn reset(&mut self)
         ensures { self.new ≡ record self.old { client = client.after_reset self.old.client } }
     {
@@ -119,23 +140,25 @@ impl Dhcp {
     /// Closes the client's sockets of a host.
     pub fn close(&mut self, host: &mut IfaceHost)
         ensures sockets { spec.Closes self.old host.old host.new }
-        ensures dhcp { self.new ≡ record self.old { broadcast = None } }
+        ensures dhcp { self.new ≡ record self.old { broadcast = None; kept = None } }
     {
         close_one(host, self.socket);
         close_if(host, &self.broadcast);
+        close_if(host, &self.kept);
         self.broadcast = None;
+        self.kept = None;
     }
 }
 
 /// Closes a socket of a host, if it is open.
-fn close_one(host: &mut IfaceHost, number: u32)
+pub(crate) fn close_one(host: &mut IfaceHost, number: u32)
     ensures { spec.ClosesOne number host.old host.new }
 {
     let _ = host.close(number);
 }
 
 /// The same, if there is one.
-fn close_if(host: &mut IfaceHost, number: &Option<u32>)
+pub(crate) fn close_if(host: &mut IfaceHost, number: &Option<u32>)
     ensures { spec.ClosesIf number.now host.old host.new }
 {
     if let Some(number) = number {

@@ -5,6 +5,7 @@
 pub mod apply;
 pub mod dhcp;
 pub mod hear;
+pub mod place;
 pub mod poll;
 pub mod send;
 

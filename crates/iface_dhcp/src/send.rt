@@ -3,10 +3,11 @@ ghost use Rattle.std.specs.Prelude.{◌≡◌, OnErr, IfOk, true};
 ghost use Rattle.dhcp_client.specs.Details.Datagrams as datagrams;
 ghost use Rattle.dhcp_client.specs.Details.Packets as packets;
 ghost use Rattle.iface_dhcp.specs.Send as spec;
+ghost use Rattle.ip_address.specs.Ipv4.{is_broadcast};
 
-use crate::dhcp::Dhcp;
+use crate::dhcp::{Dhcp, close_one};
 use dhcp_client::{DhcpMessage, DhcpRoom, server_of};
-use iface_host::{IfaceHost, Room, Rooms};
+use iface_host::{IfaceHost, Refusal, Room, Rooms};
 use ip_wire::{IpProtocol, IpVersion};
 
 /// What the raw socket holds: one message with its headers, and nothing that came.
@@ -23,43 +24,58 @@ const ROOMS: Rooms = Rooms {
 
 impl Dhcp {
     /// Queues a message: at a raw socket, which is opened for it, if it goes to all servers, else at the client's UDP socket.
-    /// One for which there is no room counts as lost.
+    /// One for which there is no room counts as lost, and the reason is kept.
     pub(crate) fn send(&mut self, host: &mut IfaceHost, message: &DhcpMessage)
         ensures { spec.Sends message.now self.old self.new host.old host.new }
     {
+        self.lost = self.send_by(host, message);
+    }
+
+    /// Queues a message, and returns why it is lost, if it is.
+    fn send_by(&mut self, host: &mut IfaceHost, message: &DhcpMessage) -> Option<Refusal>
+        ensures { spec.SendsBy (is_broadcast message.now.dst) message.now result self.old self.new host.old host.new }
+    {
         if message.dst.is_broadcast() {
-            self.send_to_all(host, message);
+            self.send_to_all(host, message)
         } else {
-            send_to_server(host, self.socket, message);
+            send_to_server(host, self.socket, message)
         }
     }
 
-    /// Queues a message at the raw socket, which is opened if it isn't open.
-    fn send_to_all(&mut self, host: &mut IfaceHost, message: &DhcpMessage)
-        ensures { spec.SendsToAll message.now self.old self.new host.old host.new }
+    /// Queues a message at the raw socket, which is opened if it isn't open, and returns why it is lost, if it is.
+    fn send_to_all(&mut self, host: &mut IfaceHost, message: &DhcpMessage) -> Option<Refusal>
+        ensures { spec.SendsToAll message.now result self.old self.new host.old host.new }
     {
         if let Some(number) = self.broadcast {
-            send_packet(host, number, message);
-            return;
+            return send_packet(host, number, message);
         }
-        if let Ok(number) = host.open_raw(IpVersion::Ipv4, IpProtocol::Udp, ROOMS) {
-            self.broadcast = Some(number);
-            send_packet(host, number, message);
+        self.leave_place(host);
+        match host.open_raw(IpVersion::Ipv4, IpProtocol::Udp, ROOMS) {
+            Ok(number) => {
+                self.broadcast = Some(number);
+                send_packet(host, number, message)
+            }
+            Err(refusal) => {
+                self.keep_place(host);
+                Some(refusal)
+            }
         }
     }
 
-    /// Closes the raw socket, if it is open and nothing waits there.
+    /// Closes the raw socket, if it is open and nothing waits there, and keeps its place.
     pub(crate) fn close_sent(&mut self, host: &mut IfaceHost)
         ensures { spec.ClosesSent self.old self.new host.old host.new }
     {
         let Some(number) = self.broadcast else {
+            self.keep_place(host);
             return;
         };
         if is_waiting(host, number) {
             return;
         }
-        let _ = host.close(number);
+        close_one(host, number);
         self.broadcast = None;
+        self.keep_place(host);
     }
 }
 
@@ -73,22 +89,23 @@ fn is_waiting(host: &IfaceHost, number: u32) -> bool
     }
 }
 
-/// Queues a message at a UDP socket, for port 67 of its destination.
+/// Queues a message at a UDP socket, for port 67 of its destination, and returns why it is lost, if it is.
 #[inline(never)]
-fn send_to_server(host: &mut IfaceHost, socket: u32, message: &DhcpMessage)
-    ensures { spec.SendsToServer socket message.now host.old host.new }
+fn send_to_server(host: &mut IfaceHost, socket: u32, message: &DhcpMessage) -> Option<Refusal>
+    ensures { spec.SendsToServer socket message.now result host.old host.new }
 {
     let mut room = DhcpRoom::new();
     room.build_message(message);
-    let _ = host.send_udp(socket, server_of(message), room.message.as_slice());
+    host.send_udp(socket, server_of(message), room.message.as_slice())
+        .err()
 }
 
-/// Queues a message at a raw socket, as a packet.
+/// Queues a message at a raw socket, as a packet, and returns why it is lost, if it is.
 #[inline(never)]
-fn send_packet(host: &mut IfaceHost, number: u32, message: &DhcpMessage)
-    ensures { spec.SendsPacket number message.now host.old host.new }
+fn send_packet(host: &mut IfaceHost, number: u32, message: &DhcpMessage) -> Option<Refusal>
+    ensures { spec.SendsPacket number message.now result host.old host.new }
 {
     let mut room = DhcpRoom::new();
     room.build_packet(message);
-    let _ = host.send_raw(number, room.packet.as_slice());
+    host.send_raw(number, room.packet.as_slice()).err()
 }

@@ -11,10 +11,9 @@ use Rattle.iface_host.specs.Refusals.{moment_refusal}
 use Rattle.iface_host.specs.Sockets.{Opens, udp}
 use Rattle.iface_host.specs.TableRefusals as table
 use Rattle.iface_host.specs.declared.host.IfaceHost.{IfaceHost}
-use Rattle.iface_host.specs.declared.opening.Rooms.{Rooms}
 use Rattle.iface_host.specs.declared.refusal.Refusal.{Refusal}
 use Rattle.iface_host.specs.declared.refusal.Refusal.TheVariants.{TableFull}
-use Rattle.iface_dns.specs.Dns.{with_resolver, with_socket}
+use Rattle.iface_dns.specs.Dns.{rooms, with_resolver, with_socket}
 use Rattle.iface_dns.specs.Texts.{AnswersText}
 use Rattle.iface_dns.specs.declared.dns.Dns.{Dns}
 use Rattle.iface_dns.specs.declared.start.StartRefusal as refusal
@@ -22,10 +21,6 @@ use Rattle.iface_dns.specs.declared.start.StartRefusal.TheVariants.{Refused, Bad
 
 abbrev pub StartRefusal : Type 0
 StartRefusal = refusal.StartRefusal
-
--- room for four answers that came, or two of the greatest length, and for one question
-abbrev pub rooms : Rooms
-rooms = record { received = record { packets = 4; octets = 1024 }; to_send = record { packets = 1; octets = 271 } }
 
 abbrev pub local : Dns → IpListenEndpoint
 local d = record { addr = None; port = next_port d.resolver }

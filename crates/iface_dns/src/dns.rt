@@ -4,7 +4,6 @@ ghost use Rattle.std.specs.List.{list_all};
 ghost use Rattle.std.specs.Result.{IsErrOf};
 ghost use Rattle.dns_client.specs.DnsResolver.Resolver as resolver;
 ghost use Rattle.iface_dns.specs.Dns as spec;
-ghost use Rattle.ip_address.specs.Ip.{is_unicast};
 ghost use Rattle.iface_host.specs.declared.refusal.Refusal.{Refusal};
 
 use crate::open_sockets::OpenSockets;
@@ -26,7 +25,8 @@ pub struct Dns {
 
 impl Dns {
     /// A client without queries, for so many at once, that asks these servers. The key is to be secret and random, as
-    /// [`Resolver::new`] says. `NotUnicast` if a server's address isn't unicast, else `NoMemory` if memory is refused.
+    /// [`Resolver::new`] says. `NotUnicast` if no other host can have a server's address, as a group's, a loopback one or one of
+    /// 240.0.0.0/4, else `NoMemory` if memory is refused.
     pub fn new(
         alloc: Global,
         servers: &[IpAddress],
@@ -37,7 +37,7 @@ impl Dns {
         ensures why { (e : Refusal) → spec.servers_refusal servers.now ≡ Some e → IsErrOf result e }
         ensures memory { spec.servers_refusal servers.now ≡ None → IfErr result (λ e. e ≡ Refusal.NoMemory) }
     {
-        if !are_unicast(servers) {
+        if !are_servers(servers) {
             return Err(Refusal::NotUnicast);
         }
         let dns = Dns {
@@ -50,15 +50,15 @@ impl Dns {
         }
     }
 
-    /// Sets the servers, as [`Resolver::set_servers`] does. `NotUnicast` if a server's address isn't unicast, else `NoMemory` if
-    /// memory is refused; then nothing changes.
+    /// Sets the servers, as [`Resolver::set_servers`] does. `NotUnicast` if no other host can have a server's address, else
+    /// `NoMemory` if memory is refused; then nothing changes.
     pub fn set_servers(&mut self, alloc: Global, servers: &[IpAddress]) -> Result<(), Refusal>
         ensures set { OnOk result (self.new ≡ spec.with_servers servers.now self.old) }
         ensures why { (e : Refusal) → spec.servers_refusal servers.now ≡ Some e → IsErrOf result e }
         ensures memory { spec.servers_refusal servers.now ≡ None → IfErr result (λ e. e ≡ Refusal.NoMemory) }
         ensures refused { OnErr result (self.new ≡ self.old) }
     {
-        if !are_unicast(servers) {
+        if !are_servers(servers) {
             return Err(Refusal::NotUnicast);
         }
         Ok(self.resolver.set_servers(alloc, servers)?)
@@ -118,15 +118,28 @@ impl Dns {
     }
 }
 
-/// Whether the address of each of these servers is unicast.
-fn are_unicast(servers: &[IpAddress]) -> bool
-    ensures { result ≡ list_all is_unicast servers.now }
+/// Whether another host can have the address of each of these servers.
+fn are_servers(servers: &[IpAddress]) -> bool
+    ensures { result ≡ list_all spec.is_server servers.now }
 {
-    servers.iter().all(|server| server.is_unicast())
+    servers.iter().all(|server| is_server(server))
+}
+
+/// Whether another host can have an address.
+fn is_server(address: &IpAddress) -> bool
+    ensures { result ≡ spec.is_server address.now }
+{
+    match address {
+        IpAddress::Ipv4(address) => {
+            let first = address.bits >> 24;
+            first > 0 && first < 224 && first != 127
+        }
+        IpAddress::Ipv6(address) => address.is_unicast() && !address.is_loopback(),
+    }
 }
 
 /// Closes a socket of a host, if it is open.
-fn close_one(host: &mut IfaceHost, number: u32)
+pub(crate) fn close_one(host: &mut IfaceHost, number: u32)
     ensures { spec.ClosesOne number host.old host.new }
 {
     let _ = host.close(number);

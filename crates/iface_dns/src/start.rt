@@ -21,7 +21,7 @@ use sockets::IpListenEndpoint;
 use std::net::IpAddr;
 
 /// What a query's socket holds: some answers that came, and one question.
-const ROOMS: Rooms = Rooms {
+pub(crate) const ROOMS: Rooms = Rooms {
     received: Room {
         packets: 4,
         octets: RECEIVED_LEN,

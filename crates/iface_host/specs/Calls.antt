@@ -1,14 +1,14 @@
 -- What the calls of a host do to the machine's host: addresses, groups and routes.
-use Rattle.std.specs.Prelude.{ℕ, ℤ, ◌≡◌, ◌==◌, ◌&&◌, Bool, false, List, [], ◌∷◌, ◌++◌, Ok, Option, None}
-use Rattle.std.specs.List.{position_or_len, remove}
+use Rattle.std.specs.Prelude.{ℕ, ℤ, ◌≡◌, ◌==◌, ◌&&◌, ◌||◌, Bool, false, List, [], ◌∷◌, ◌++◌, Ok, Option, None}
+use Rattle.std.specs.List.{list_any, position_or_len, remove}
 use Rattle.ip_address.specs.declared.cidr.IpCidr.{IpCidr}
 use Rattle.ip_address.specs.declared.cidr.IpCidr.TheVariants as cidr
 use Rattle.ip_address.specs.declared.ip.IpAddress.{IpAddress}
 use Rattle.ip_address.specs.declared.ip.IpAddress.TheVariants as address
 use Rattle.iface_tables.specs.declared.groups.Group.{Group}
 use Rattle.iface_tables.specs.declared.route.Route.{Route}
-use Rattle.iface_tables.specs.Route.{ipv4_gateway, ipv6_gateway, is_ipv4_gateway, is_ipv6_gateway, with_default}
-use Rattle.host_machine.specs.Context.Host.{Host as Machine, no_sockets}
+use Rattle.iface_tables.specs.Route.{ipv4_gateway, ipv6_gateway, is_ipv4_gateway, is_ipv6_gateway, matches, with_default}
+use Rattle.host_machine.specs.Context.Host.{Host as Machine, in_same_network, no_sockets}
 use Rattle.host_machine.specs.Multicast.Joins as machine
 use Rattle.host_machine.specs.Context.Addresses as addresses
 use Rattle.host_machine.specs.Interface.Step.{UpdatesIpAddrs}
@@ -36,6 +36,13 @@ groups_of host = (host_with host.interface.value no_sockets).groups
 
 abbrev pub routes_of : IfaceHost → List Route
 routes_of host = (host_with host.interface.value no_sockets).routes
+
+-- a network of the host, or a route that hasn't ended, has an address
+abbrev pub is_routed : ℤ → List Route → IpAddress → Bool
+is_routed t routes a = list_any (λ r. matches r a t) routes
+
+abbrev pub has_route : ℤ → IfaceHost → IpAddress → Bool
+has_route t host a = in_same_network (addresses_of host) a || is_routed t (routes_of host) a
 
 -- for how many addresses, groups and routes it has room
 abbrev pub addr_room_of : IfaceHost → ℕ

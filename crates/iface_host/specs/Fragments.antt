@@ -1,5 +1,5 @@
 -- Room for datagrams in fragments: which of them gives way to another one, by who sent it, and how long it has waited.
-use Rattle.std.specs.Prelude.{ℕ, zero, suc, ℤ, pos, ◌+ℤ◌, ◌≡◌, ◌-◌, ◌&&◌, ◌||◌, not, nat_lt, int_lt, min, Bool, true, false, List, length, Option, Some, None, IfSome, if◌then◌else◌}
+use Rattle.std.specs.Prelude.{ℕ, zero, suc, ℤ, pos, ◌+ℤ◌, ◌≡◌, ◌-◌, ◌&&◌, ◌||◌, not, nat_lt, int_lt, min, Bool, true, false, List, length, Option, Some, None, IfSome, if◌then◌else◌, refl}
 use Rattle.std.specs.Ordering.{int_cmp, is_le}
 use Rattle.std.specs.FinMap as map
 use Rattle.ip_address.specs.declared.ip.IpAddress.TheVariants.{Ipv4}
@@ -108,6 +108,29 @@ place_of_stranger t host room y =
     if nat_lt y.strangers (room - y.strangers)
     then (if nat_lt y.known (room - y.strangers) then Free else in_place_of_old t host y)
     else if_old t host y.first_stranger Refused
+
+-- Examples, of sixteen slots, and what must not be.
+
+-- so many hold slots, and in these that which ends first is
+abbrev held : (known strangers : ℕ) → (first_known first_stranger : Option ℕ) → Tally
+held known strangers first_known first_stranger =
+    record { known = known; strangers = strangers; first_known = first_known; first_stranger = first_stranger }
+
+-- a free slot is taken
+pub a_free_one : (t : ℤ) (host : IfaceHost) → place_of_known t host 16 (held 5 8 (Some 0) (Some 5)) ≡ Free
+a_free_one t host = refl
+
+-- of a full table somebody known takes a stranger's, however young that is; not one of somebody known
+pub not_of_somebody_known : (t : ℤ) (host : IfaceHost) → place_of_known t host 16 (held 5 11 (Some 0) (Some 7)) ≡ InPlaceOf 7
+not_of_somebody_known t host = refl
+
+-- while strangers hold eight, another one's goes in place of an old one of these, or isn't taken: not to one of the seven free slots
+pub not_the_ninth : (t : ℤ) (host : IfaceHost) → place_of_stranger t host 16 (held 1 8 (Some 0) (Some 5)) ≡ if_old t host (Some 5) Refused
+not_the_ninth t host = refl
+
+-- the eighth is, beside five that are known
+pub the_eighth : (t : ℤ) (host : IfaceHost) → place_of_stranger t host 16 (held 5 7 (Some 0) (Some 9)) ≡ Free
+the_eighth t host = refl
 
 abbrev pub place_for : ℤ → IfaceHost → FragKey → Place
 place_for t host key =

@@ -33,6 +33,8 @@ pub enum Refusal {
     NoRoom,
     /// Fragments are to wait no time, or longer than a day.
     BadTimeout,
+    /// No network of the host and no route has the destination.
+    NoRoute,
 }
 
 impl From<AllocError> for Refusal {

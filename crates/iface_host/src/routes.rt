@@ -1,12 +1,12 @@
 //! The routes of a host.
 ghost use Rattle.std.specs.Prelude.{◌≡◌, ◌++◌, ◌∷◌, [], ◌≤◌, ◌↔◌, IfOk, IsErr, OnOk, OnErr, length, slice_get};
 ghost use Rattle.std.specs.Result.{result_err};
-ghost use Rattle.host_machine.specs.Context.Host.{SocketSet, no_sockets};
-ghost use Rattle.iface_tables.specs.Route.{ipv4_gateway, ipv6_gateway, is_ipv4_gateway};
+ghost use Rattle.host_machine.specs.Context.Host.{SocketSet, in_same_network, no_sockets};
+ghost use Rattle.iface_tables.specs.Route.{ipv4_gateway, ipv6_gateway, is_ipv4_gateway, is_live};
 ghost use Rattle.iface_tables.specs.Route.{is_ipv6_gateway, old_or_full, with_default};
 ghost use Rattle.interface.specs.Stands.{Becomes, host_with};
 ghost use Rattle.std.specs.List.{position_or_len, remove};
-ghost use Rattle.iface_host.specs.Calls.{is_to, AddsRoute, RemovesRoute, SetsDefault, routes_of};
+ghost use Rattle.iface_host.specs.Calls.{addresses_of, has_route, is_routed, is_to, AddsRoute, RemovesRoute, SetsDefault, routes_of};
 ghost use Rattle.iface_host.specs.Stands.{Follows, Stays};
 ghost use Rattle.iface_host.specs.TableRefusals.{default_route_refusal, end_refusal};
 ghost use Rattle.iface_host.specs.TableRefusals.{route_refusal, route_removal_refusal};
@@ -48,6 +48,27 @@ impl IfaceHost {
         route_in(self.interface.routes().as_slice(), index)
     }
 
+    /// Whether a network of the host, or a route that hasn't ended at a moment, has an address (RFC 1122 3.3.1).
+    pub fn has_route(&self, address: &IpAddress, now: Instant) -> bool
+        ensures { result ≡ has_route now self.now address.now }
+    {
+        self.is_near(address) || self.is_routed(address, now)
+    }
+
+    /// Whether a network of the host has an address.
+    fn is_near(&self, address: &IpAddress) -> bool
+        ensures { result ≡ in_same_network (addresses_of self.now) address.now }
+    {
+        is_on_link(self.interface.ip_addrs(), address)
+    }
+
+    /// Whether a route that hasn't ended at a moment has an address.
+    fn is_routed(&self, address: &IpAddress, now: Instant) -> bool
+        ensures { result ≡ is_routed now (routes_of self.now) address.now }
+    {
+        is_routed(self.interface.routes().as_slice(), address, now)
+    }
+
     /// Puts a route to a network by a router after all others. It is used up to an end in microseconds, that moment
     /// included, or for good. `BadMoment` if the end is out of range, else `TableFull` if there is no room for another.
     pub fn add_route(
@@ -86,6 +107,32 @@ impl IfaceHost {
         }
         take_route(&mut self.interface, index);
         Ok(())
+    }
+}
+
+/// Whether one of these networks has an address.
+fn is_on_link(networks: &[IpCidr], address: &IpAddress) -> bool
+    ensures { result ≡ in_same_network networks.now address.now }
+{
+    networks
+        .iter()
+        .any(|network| network.contains_addr(address))
+}
+
+/// Whether one of these routes has an address, and hasn't ended at a moment.
+fn is_routed(routes: &[Route], address: &IpAddress, now: Instant) -> bool
+    ensures { result ≡ is_routed now routes.now address.now }
+{
+    routes.iter().any(|route| route.cidr.contains_addr(address) && is_live(route, now))
+}
+
+/// Whether a route hasn't ended at a moment; its end is included.
+fn is_live(route: &Route, now: Instant) -> bool
+    ensures { result ≡ is_live route.now now }
+{
+    match route.expires_at {
+        Some(end) => now <= end,
+        None => true,
     }
 }
 

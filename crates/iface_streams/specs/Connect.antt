@@ -12,12 +12,12 @@ use Rattle.tcp_host.specs.Handles.{accepting, is_listener, listener_closed, list
 use Rattle.tcp_host.specs.Host as streams
 use Rattle.tcp_host.specs.Host.{IsNextPlace}
 use Rattle.tcp_host.specs.declared.calls.Handle.{Handle}
-use Rattle.iface_host.specs.Calls.{source_for}
+use Rattle.iface_host.specs.Calls.{has_route, source_for}
 use Rattle.iface_host.specs.Refusals.{moment_refusal}
 use Rattle.iface_host.specs.TableRefusals.{first_reason}
 use Rattle.iface_host.specs.declared.host.IfaceHost.{IfaceHost}
 use Rattle.iface_host.specs.declared.refusal.Refusal.{Refusal}
-use Rattle.iface_host.specs.declared.refusal.Refusal.TheVariants.{BadAddress, BadPort, Empty, NotThere}
+use Rattle.iface_host.specs.declared.refusal.Refusal.TheVariants.{BadAddress, BadPort, Empty, NoRoute, NotThere}
 use Rattle.iface_streams.specs.declared.streams.Streams.{Streams}
 
 -- the same with other connections
@@ -75,12 +75,17 @@ abbrev pub pair_refusal : Option IpAddress → IpAddress → Option Refusal
 pair_refusal None remote = Some NotThere
 pair_refusal (Some local) remote = if is_pair local remote then None else Some BadAddress
 
--- a connection that a program asks for: the moment is out of range, a port is 0, there is no own address, or an address is no
--- host's
+-- no network and no route of a host has an address
+abbrev pub route_refusal : ℤ → IpAddress → IfaceHost → Option Refusal
+route_refusal now remote host = if has_route now host remote then None else Some NoRoute
+
+-- a connection that a program asks for: the moment is out of range, a port is 0, there is no own address, an address is no host's, or
+-- there is no route
 abbrev pub connect_refusal : ℤ → IpListenEndpoint → IpEndpoint → IfaceHost → Option Refusal
 connect_refusal now local remote host =
     first_reason (moment_refusal now)
-    (if (local.port == 0) || (remote.port == 0) then Some BadPort else pair_refusal (source_of host local.addr remote.addr) remote.addr)
+    (if (local.port == 0) || (remote.port == 0) then Some BadPort
+    else first_reason (pair_refusal (source_of host local.addr remote.addr) remote.addr) (route_refusal now remote.addr host))
 
 -- its ends, and the moment
 pub record AreEnds (now : ℤ) (local : IpListenEndpoint) (remote : IpEndpoint) (host : IfaceHost) (micros : ℕ) (ends : Endpoints) : Type 0 where

@@ -1,15 +1,20 @@
 -- How connections are made: what of the settings can't be, and what follows from them.
-use Rattle.std.specs.Prelude.{ℕ, ◌-◌, ◌/◌, ◌&&◌, ◌||◌, nat_le, min, Bool, true, false}
+use Rattle.std.specs.Prelude.{ℕ, ◌-◌, ◌/◌, ◌==◌, ◌&&◌, ◌||◌, not, nat_le, min, Bool, true, false, List}
+use Rattle.std.specs.List.{list_any}
 use Rattle.std.specs.Int.Count.{count_leading_zeros}
 use Rattle.iface_host.specs.declared.opening.Rooms.{Rooms}
 use Rattle.tcp_host.specs.declared.config.Config.{Config}
 use Rattle.iface_streams.specs.declared.settings.StreamSettings.{StreamSettings}
 
--- there are from 1 to 2^30 connections, with at most as many octets each way, over IPv4 or IPv6 or both
+-- a secret has been set: not all of its octets are 0
+abbrev pub has_secret : List ℕ → Bool
+has_secret key = list_any (λ (octet : ℕ). not (octet == 0)) key
+
+-- there are from 1 to 2^30 connections, with at most as many octets each way, over IPv4 or IPv6 or both; and both secrets have been set
 abbrev pub is_proper : StreamSettings → Bool
 is_proper s =
     nat_le 1 s.places && nat_le s.places 1073741824 && nat_le s.send_room 1073741824 && nat_le s.receive_room 1073741824
-    && (s.ipv4 || s.ipv6)
+    && (s.ipv4 || s.ipv6) && has_secret s.number_key && (not (s.table_key.k0 == 0) || not (s.table_key.k1 == 0))
 
 -- two sockets for each family
 abbrev pub sockets_of : (ipv4 ipv6 : Bool) → ℕ

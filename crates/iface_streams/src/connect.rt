@@ -12,6 +12,7 @@ use crate::streams::Streams;
 use iface_host::streams::micros_of;
 use iface_host::{IfaceHost, Refusal};
 use ip_wire::IpAddress;
+use net_base::time::Instant;
 use sockets::{IpEndpoint, IpListenEndpoint};
 use std::alloc::Global;
 use tcp_host::calls::{ConnectError, Handle};
@@ -82,7 +83,7 @@ impl Streams {
     /// Opens a connection at a moment, from a local port and from an own address of a host, or from the one that packets to the
     /// destination are sent from. The first that applies: `BadMoment` if the moment is out of range; `BadPort` if a port is 0;
     /// `NotThere` if the host has no own address for the destination; `BadAddress` if one of the two isn't unicast, or they are
-    /// of two families; `InUse` if a connection has these ends, also in TIME-WAIT; `TableFull` if each place has a connection,
+    /// of two families; `NoRoute` if no network and no route of the host has the destination; `InUse` if a connection has these ends, also in TIME-WAIT; `TableFull` if each place has a connection,
     /// but for those in TIME-WAIT that were released, of which the one whose time ends first gives its place. Then nothing
     /// changes.
     pub fn connect(
@@ -136,6 +137,9 @@ fn ends_at(
     };
     if !is_pair(&address, &remote.addr) {
         return Err(Refusal::BadAddress);
+    }
+    if !host.has_route(&remote.addr, Instant::from_micros(now)) {
+        return Err(Refusal::NoRoute);
     }
     let ends = Endpoints {
         local_addr: address,

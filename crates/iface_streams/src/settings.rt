@@ -38,7 +38,7 @@ pub struct StreamSettings {
 }
 
 impl StreamSettings {
-    /// Whether connections can be made by them.
+    /// Whether connections can be made by them. A secret of zeros was forgotten.
     pub fn is_proper(&self) -> bool
         ensures { result ≡ spec.is_proper self.now }
     {
@@ -47,6 +47,8 @@ impl StreamSettings {
             && self.send_room <= MOST
             && self.receive_room <= MOST
             && (self.ipv4 || self.ipv6)
+            && has_secret(&self.number_key)
+            && (self.table_key.k0 != 0 || self.table_key.k1 != 0)
     }
 
     /// How many sockets of a host they take: two for each family.
@@ -79,6 +81,13 @@ impl StreamSettings {
             table_key: self.table_key,
         }
     }
+}
+
+/// Whether a secret has been set: not all of its octets are 0.
+fn has_secret(key: &[u8]) -> bool
+    ensures { result ≡ spec.has_secret key.now }
+{
+    key.iter().any(|octet| *octet != 0)
 }
 
 /// So many octets less those of headers, at most 65,535.

@@ -110,13 +110,14 @@ impl Drop for Dhcp {
 }
 
 impl Dhcp {
-    /// Makes a client for a host, and opens its UDP socket of port 68. The seed is of the numbers by which its messages are
+    /// Makes a client for a host, which takes two places for sockets: for its UDP socket of port 68, and for a raw one while a message
+    /// to all servers waits to be sent. The seed is of the numbers by which its messages are
     /// known: another for each host and each start. `known` is an address that the host had before, which it asks for
     /// first.
     ///
     /// # Errors
-    /// [`Error::NotThere`] on a medium without hardware addresses, [`Error::TableFull`] if all of
-    /// [`Settings::sockets`](super::Settings::sockets) are open, [`Error::NoMemory`].
+    /// [`Error::NotThere`] on a medium without hardware addresses, [`Error::TableFull`] if fewer
+    /// than two of [`Settings::sockets`](super::Settings::sockets) are free, [`Error::NoMemory`].
     pub fn new(host: &mut Host, seed: u64, known: Option<Ipv4Address>) -> Result<Dhcp, Error> {
         let mut client = Dhcp { raw: sys::iface_dhcp::NONE };
         let known = known.map_or(NO_ADDRESS, |known| to_c(&known.into()));
@@ -126,7 +127,7 @@ impl Dhcp {
 
     /// Does what is due: it takes what came to port 68, queues the message that is to be sent now, and tells what has become
     /// of the lease since the last call. A message for which there is no room or no memory counts as lost, and is sent again
-    /// later. Two sockets have to be free for it: its own, and a raw one while a message to all servers waits to be sent.
+    /// later; [`lost`](Dhcp::lost) tells why.
     ///
     /// # Errors
     /// [`Error::NoSocket`] if the host hasn't the client's socket.
@@ -149,6 +150,15 @@ impl Dhcp {
         until_from_c(at)
     }
 
+    /// Why the message that was due last is lost, if it is: [`Error::NoMemory`] for the raw socket, [`Error::QueueFull`] while the message
+    /// before waits, [`Error::TableFull`] where other sockets took the place while memory was refused.
+    pub fn lost(&mut self) -> Option<Error> {
+        let mut why = 0;
+        // It is refused only without a client.
+        let _ = call!(self.iface_dhcp_lost(&mut why));
+        answer(why).err()
+    }
+
     /// The lease that it has, if it has one.
     pub fn lease(&mut self) -> Option<Lease> {
         let mut lease = Lease::NONE;
@@ -167,8 +177,9 @@ impl Dhcp {
         call!(self.iface_dhcp_apply(&mut host.raw))
     }
 
-    /// Gives up the lease, if there is one, and begins anew, as after a link went down. The next [`poll`](Dhcp::poll) tells of
-    /// a lease that is gone.
+    /// Is called once a link came up: gives up the lease, if there is one, and asks for its address again (RFC 2131 3.2). Where the
+    /// link leads to another network the server refuses it, and the client asks for offers. The next [`poll`](Dhcp::poll) tells of a
+    /// lease that is gone.
     pub fn reset(&mut self) {
         // It is refused only without a client.
         let _ = call!(self.iface_dhcp_reset());

@@ -334,7 +334,7 @@ impl Streams {
     /// [`Host::tcp_open`].
     ///
     /// # Errors
-    /// [`Error::BadArgument`] if a number is out of range, or there is neither family; [`Error::TableFull`] if the host
+    /// [`Error::BadArgument`] if a number is out of range, there is neither family, or a secret is all zeros; [`Error::TableFull`] if the host
     /// has no places for the sockets; [`Error::NoMemory`].
     pub fn new(host: &mut Host, settings: &StreamSettings, secrets: &Secrets) -> Result<Streams, Error> {
         let mut streams = Streams { raw: sys::iface_streams::NONE };
@@ -405,8 +405,8 @@ impl Streams {
     ///
     /// # Errors
     /// [`Error::BadPort`], of the peer too; [`Error::NotThere`] if there is no own address of this family;
-    /// [`Error::BadAddress`] if one isn't unicast, or they are of two families; [`Error::InUse`] if a connection has these
-    /// ends; [`Error::TableFull`] if each place has a connection, and none that was released is in TIME-WAIT.
+    /// [`Error::BadAddress`] if one isn't unicast, or they are of two families; [`Error::NoRoute`] if no network and no route of the
+    /// host has the peer; [`Error::InUse`] if a connection has these ends; [`Error::TableFull`] if each place has a connection, and none that was released is in TIME-WAIT.
     pub fn connect(
         &mut self,
         host: &mut Host,

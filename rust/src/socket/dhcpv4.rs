@@ -132,7 +132,8 @@ impl<'a> Socket<'a> {
         is_news.then(|| self.config.map_or(Event::Deconfigured, Event::Configured))
     }
 
-    /// Gives up the lease, if there is one, and begins anew, as after a link went down. Nothing is released to the server.
+    /// Is called once a link came up: gives up the lease, if there is one, and asks for its address again (RFC 2131 3.2), where
+    /// smoltcp's client asks for offers. Without a lease it begins anew. Nothing is released to the server.
     pub fn reset(&mut self) {
         if let Some(Client { dhcp: Some(dhcp), .. }) = &mut self.client {
             dhcp.reset();

@@ -138,6 +138,47 @@ fn refused(rt: HostRuntime) {
     assert!(rt; loses_the_lease(&mut bound(100)));
 }
 
+/// Whether a request asks all servers for the address that the client had (RFC 2131 4.3.2, table 4: INIT-REBOOT).
+fn is_for_old(message: Option<DhcpMessage>) -> bool {
+    match message {
+        Some(message) => {
+            message.dst == EVERYBODY
+                && message.repr.message_type == DhcpMessageType::Request
+                && message.repr.client_ip == Ipv4Address::UNSPECIFIED
+                && message.repr.options.requested_ip == Some(ADDRESS)
+                && message.repr.options.server_identifier.is_none()
+        }
+        None => false,
+    }
+}
+
+/// RFC 2131 3.2: once a link came up the address is asked for again, and again if it came up once more. Any server may agree; one that
+/// knows of another network refuses, and then the client asks for offers.
+fn asks_again(client: &mut DhcpClient) -> bool {
+    client.reset();
+    let is_gone = client.lease().is_none() && client.take_event() == Some(DhcpEvent::Deconfigured);
+    let first = client.next_message(10 * SECOND, 9);
+    client.reset();
+    let second = client.next_message(13 * SECOND, 11);
+    client.receive(&ack(11, OTHER, 100));
+    let by_other = is_leased(client.lease(), OTHER, [63, 100, 113]);
+    client.reset();
+    let third = client.next_message(20 * SECOND, 13);
+    client.receive(&nak(13, SERVER));
+    let anew = client.next_message(23 * SECOND, 15);
+    is_gone
+        && is_for_old(first)
+        && is_for_old(second)
+        && by_other
+        && is_for_old(third)
+        && anew.map(|message| message.repr.message_type) == Some(DhcpMessageType::Discover)
+}
+
+#[test]
+fn reset(rt: HostRuntime) {
+    assert!(rt; asks_again(&mut bound(100)));
+}
+
 /// RFC 2131 3.3: a lease without end, which the program gives up.
 fn is_endless(client: &mut DhcpClient) -> bool {
     let is_endless = client.poll_at().is_none()

@@ -110,7 +110,7 @@ impl From<Error> for ListenError {
 pub enum ConnectError {
     /// It is open.
     InvalidState,
-    /// A port is 0, an address isn't unicast, the two are of different versions, or there is no own one.
+    /// A port is 0, an address isn't unicast, the two are of different versions, there is no own one, or no route to the peer.
     Unaddressable,
     /// A connection has these ends.
     InUse,
@@ -137,7 +137,7 @@ impl core::error::Error for ConnectError {}
 impl From<Error> for ConnectError {
     fn from(error: Error) -> ConnectError {
         match error {
-            Error::BadPort | Error::BadAddress | Error::NotThere => ConnectError::Unaddressable,
+            Error::BadPort | Error::BadAddress | Error::NotThere | Error::NoRoute => ConnectError::Unaddressable,
             Error::InUse => ConnectError::InUse,
             Error::NoSecrets => ConnectError::NoSecrets,
             _ => ConnectError::Exhausted,

@@ -1,4 +1,10 @@
 use Rattle.iface_dhcp.proofs.dhcp.Dhcp.close.Goals as goal
 
 pub returns-clause-sockets : goal.returns-clause-sockets
-returns-clause-sockets c = record { between = c.close_one.new.host; udp = c.close_one.ensures; raw = c.close_if.ensures }
+returns-clause-sockets c = record {
+  between = c.close_one.new.host;
+  udp = c.close_one.ensures;
+  after = c.close_if.new.host;
+  raw = c.close_if.ensures;
+  place = c.close_if-2.ensures;
+}
