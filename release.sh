@@ -33,6 +33,25 @@ pack() {
         gzip -n >"$folder/$1.tar.gz"
 }
 
+# README.md's two first commands for C, in a folder that has the unpacked archive and nothing else. The second one needs root and a
+# TAP device.
+first_commands() {
+    (cd "$place" && sh -c "$(command_of 'cc -o tap_host')")
+    if [ "$(id -u)" = 0 ] && [ -e /dev/net/tun ]; then
+        (cd "$place" && sh -c "$(command_of 'sudo examples/ping_it.sh ./tap_host' | sed 's/^sudo //')")
+    else
+        echo 'release: no root, or no /dev/net/tun: ping_it.sh was not run'
+    fi
+    rm -f "$place/tap_host"
+}
+
+# WORDS: the command of README.md that begins so.
+command_of() {
+    found=$(sed -n "s|^    \($1.*\)|\1|p" README.md | sed 's/ *#.*//')
+    [ -n "$found" ] || refuse "README.md has no command '$1'"
+    echo "$found"
+}
+
 # Builds the example `discover` of the crate over the archive's library, where there is cargo.
 discover() {
     FUMITORYGATE_LIB_DIR="$place/lib" cargo build -q --release --offline --manifest-path rust/Cargo.toml --example discover
@@ -71,7 +90,8 @@ archive() {
     mkdir "$place/examples" "$place/bin"
     cp c/examples/*.[ch] c/examples/*.sh c/heap.c c/small.sh c/small_peer.py "$place/examples/"
     python3 docs/carry.py archive "$place"
-    for program in ping arping; do
+    cp LICENSE "$place/"
+    for program in ping arping sweep http_hello gateway; do
         "$compiler" -O2 -o "$place/bin/$program" "c/examples/$program.c" -I"$place/include" "$place/lib/libiface.a"
     done
     [ "$target" != "$own_target" ] || discover
@@ -82,6 +102,8 @@ archive() {
     for library in libiface.a libiface_c.a; do c/proof.sh check "$place/lib/$library"; done
     python3 docs/carry.py --check "$place"
     [ "$build" != build ] || try_simulate
+    [ "$build" != build ] || first_commands
+    CC=$compiler c/cmake.sh "$place" "$run"
     # shellcheck disable=SC2046
     "$compiler" -o "$work/udp_echo" "$place/examples/udp_echo.c" \
         $(PKG_CONFIG_PATH="$place/lib/pkgconfig" pkg-config --cflags --libs iface)

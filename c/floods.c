@@ -1,6 +1,6 @@
 /* What the peers of a host get while a stranger sends so many frames a second: without a guard and with room for 64 neighbours,
  * without one and with room for 128, and with the guard as iface_config_init makes it. With the guard no share is less than without
- * one and room for 64, but for two in a hundred. Prints the lines of the tables in docs/SECURITY.md.
+ * one and room for 64, but for two in a hundred. Prints the lines of the tables in docs/floods.txt.
  *
  *   floods        at thirteen rates, from a frame in five seconds to a thousand a second
  *   floods few    at three of them, for a slow machine

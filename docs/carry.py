@@ -30,7 +30,7 @@ def places(layout):
     """Each page and picture of the repository, with its place in the folder."""
     others = pathlib.PurePath("docs" if layout == "crate" else "share/doc/iface")
     found = {}
-    for path in [*pages.PAGES, *sorted((TOP / "docs").glob("*.svg"))]:
+    for path in [*pages.PAGES, *sorted((TOP / "docs").glob("*.svg")), TOP / "docs" / "floods.txt"]:
         name = path.relative_to(TOP).as_posix()
         own = OWN_PLACES[layout].get(name, str(others / NAMES.get(name, path.name)))
         if own is not None:

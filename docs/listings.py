@@ -1,10 +1,12 @@
 #!/usr/bin/env python3
-"""Compiles and runs the listings of CLIENT.md, and the client of TCP.md, as who copies this repository's crates has them.
+"""Compiles and runs the listings of CLIENT.md, and the client of TCP.md, as who copies this repository's crates has them. Those of
+C.md stand in examples, which `make -C c` compiles; and those of rust/README.md are compiled by `cargo test --doc`.
 
 usage: listings.py           makes an empty folder with the crates and the lines of crates.txt that CLIENT.md says, and the program
                              docs/listings, in which each listing stands; runs it by `rt try`, which proves nothing; and is its
                              peer: what it sends has to be what crates/udp_echo sends. It takes a minute of a processor
-       listings.py --check   names each listing that stands neither in that program nor in a crate; pages.py does it, too
+       listings.py --check   names each listing that stands neither in that program nor in a crate, and each of C.md that stands in no
+                             example; pages.py does it, too
 """
 import functools
 import pathlib
@@ -68,6 +70,23 @@ def unknown(text):
             best = max(sources().values(), key=lambda code: sum(part in code for part in parts))
             first = next(part for part in parts if part not in best)
             yield f"the listing at line {number} stands in no program: {first[:60]}"
+
+
+def unknown_in_c(text):
+    """Names each listing of a page that is code of C and stands neither in an example nor in the header."""
+    files = [*TOP.glob("c/examples/*.[ch]"), TOP / "c" / "iface.h"]
+    code = [packed_c(file.read_text(encoding="utf-8")) for file in files]
+    for block in re.findall(r"(?:^    .*\n|^\n)+", text, re.M):
+        words = re.sub(r"^    ", "", block, flags=re.M).strip("\n")
+        # Of declarations each may stand there as the head of its function.
+        parts = [packed_c(words)] if "\n}" in f"\n{words}" else [packed_c(line).removesuffix(";") for line in words.splitlines()]
+        if re.search(r"[;{}]\s*(/\*.*)?$", words) and not any(all(part in one for part in parts) for one in code):
+            yield f"a listing of C stands in no example: {words.splitlines()[0][:60]}"
+
+
+def packed_c(code):
+    """Code of C without blanks and comments."""
+    return re.sub(r"\s+", "", re.sub(r"/\*.*?\*/", "", code, flags=re.S))
 
 
 # ---- the program ----
@@ -151,6 +170,7 @@ def main(arguments):
         text = (TOP / "docs" / page).read_text(encoding="utf-8")
         count += len(list(listings(text)))
         problems += [f"docs/{page}: {problem}" for problem in unknown(text)]
+    problems += [f"docs/C.md: {problem}" for problem in unknown_in_c((TOP / "docs" / "C.md").read_text(encoding="utf-8"))]
     print("\n".join([*problems, f"{count} listings, {len(problems)} problems"]))
     return bool(problems) or (not arguments and not run())
 

@@ -4,7 +4,8 @@ that tables and lines aren't too long, that the examples of CONTRIBUTING.md stan
 that calls of C that they name are in iface.h, that numbers of crates are those of crates.txt, that who copies crates by
 CLIENT.md has all that their lines name, that THEOREM.md has each law, and no other, and tells how many there are, that what
 promises stand on is counted right, that numbers are those of what they count (figures.py), that no page has more long
-sentences than it had (sentences.py), and that each listing of CLIENT.md and TCP.md stands in a program (listings.py). Of
+sentences than it had (sentences.py), that each listing of CLIENT.md, TCP.md and C.md stands in a program (listings.py), that
+pictures are as they are drawn (plots.py), and that all pages together have at most MOST_WORDS. Of
 crates.txt it tests that each crate names those that its line has, and that there aren't too many paths down; and of
 definitions, that those on which no promise stands are in a folder of their own (promises.py).
 
@@ -19,6 +20,7 @@ import sys
 import figures
 import files_behind
 import listings
+import plots
 import promises
 import reference
 import sentences
@@ -31,6 +33,9 @@ OF_ANY_LENGTH = {"API.md"}
 
 # how many paths down the crates of crates.txt may have: the toolchain goes along each of them before its first proof
 MOST_PATHS = 500_000
+# how many words all pages may have together, without the bars of tables, and without the table of names that API.md has made
+MOST_WORDS = 60_000
+MADE = re.compile(r"<!-- made by names.py -->.*?<!-- to here -->", re.S)
 # sections of which each name has to stand somewhere in the code, but for those that stand for any
 PLACEHOLDERS = {"WORDS", "IsX", "x_in"}
 ADDING = re.compile(r"^## (Adding .*?)\n(.*?)(?=^## )", re.M | re.S)
@@ -216,6 +221,18 @@ def test_law_counts(text):
             yield f"{found.group(0) if found else words}: there are {count}"
 
 
+def words_of(text):
+    """How many words a page has."""
+    return len(re.findall(WORD, MADE.sub("", text)))
+
+
+def test_words(texts):
+    """Says so where all pages together have too many words."""
+    words = sum(map(words_of, texts.values()))
+    if words > MOST_WORDS:
+        yield f"{words:,} words in all pages, of at most {MOST_WORDS:,}"
+
+
 def test_laws(text):
     """Names each law that THEOREM.md lacks, and each that it has and that stands nowhere."""
     code = {path: path.read_text(encoding="utf-8") for path in TOP.glob("crates/*/src/**/*.rt")}
@@ -239,7 +256,8 @@ def main(arguments):
     texts = {page: page.read_text(encoding="utf-8") for page in PAGES}
     if arguments == ["--words"]:
         for page, text in texts.items():
-            print(f"{len(re.findall(WORD, text)):6} {page.relative_to(TOP)}")
+            print(f"{words_of(text):6} {page.relative_to(TOP)}")
+        print(f"{sum(map(words_of, texts.values())):6} in all, of at most {MOST_WORDS}")
         return False
     problems, ends, crates = [], ends_of_paths(), read_crates()
     declared = set(re.findall(r"\biface_\w+", (TOP / "c" / "iface.h").read_text(encoding="utf-8"))) | set(crates)
@@ -252,9 +270,11 @@ def main(arguments):
                        ("CLIENT.md", test_copies), ("MAP.md", test_map)):
         problems += [f"docs/{name}: {problem}" for problem in test(texts[TOP / "docs" / name])]
     problems += [f"crates.txt: {problem}" for problem in (*test_uses(crates), *test_paths(crates))]
-    problems += [*promises.misplaced(promises.promised()), *figures.problems(), *sentences.problems()]
+    problems += test_words(texts)
+    problems += [*promises.misplaced(promises.promised()), *figures.problems(), *sentences.problems(), *plots.problems()]
     for name in listings.PAGES:
         problems += [f"docs/{name}: {problem}" for problem in listings.unknown(texts[TOP / "docs" / name])]
+    problems += [f"docs/C.md: {problem}" for problem in listings.unknown_in_c(texts[TOP / "docs" / "C.md"])]
     print("\n".join(problems + [f"{len(texts)} pages, {len(problems) or 'no'} problems"]))
     return bool(problems)
 

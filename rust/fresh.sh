@@ -92,6 +92,8 @@ try "$packaged" 'the package'
 try "$packaged" "the package under smoltcp's name" smoltcp '"medium-ip", "proto-ipv4", "socket-udp"'
 alone test -q --tests
 alone build -q --examples
+alone build -q --example server # README.md's command
+alone run -q --example loopback
 alone doc -q --no-deps
 
 library=$packaged/lib/$target/libiface.a
