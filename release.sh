@@ -33,14 +33,18 @@ pack() {
         gzip -n >"$folder/$1.tar.gz"
 }
 
-# README.md's two first commands for C, in a folder that has the unpacked archive and nothing else. The second one needs root and a
-# TAP device.
+# README.md's two first commands for C, in a folder that has the unpacked archive and nothing else. The second one needs root, a TAP
+# device, and the tools that ping_it.sh names.
+can_ping() {
+    [ "$(id -u)" = 0 ] && [ -e /dev/net/tun ] && command -v unshare >/dev/null && command -v ip >/dev/null && command -v ping >/dev/null
+}
+
 first_commands() {
     (cd "$place" && sh -c "$(command_of 'cc -o tap_host')")
-    if [ "$(id -u)" = 0 ] && [ -e /dev/net/tun ]; then
+    if can_ping; then
         (cd "$place" && sh -c "$(command_of 'sudo examples/ping_it.sh ./tap_host' | sed 's/^sudo //')")
     else
-        echo 'release: no root, or no /dev/net/tun: ping_it.sh was not run'
+        echo 'release: no root, no /dev/net/tun, or no unshare, ip or ping: ping_it.sh was not run'
     fi
     rm -f "$place/tap_host"
 }
