@@ -1,7 +1,8 @@
 -- What a host asks of a connection, besides its events.
-use Rattle.std.specs.Prelude.{ℕ, Bool, true, false, nat_lt, ◌==◌, ◌&&◌, ◌||◌, not, length, is_none, Option, Some, None, if◌then◌else◌}
+use Rattle.std.specs.Prelude.{ℕ, Bool, true, false, nat_lt, nat_le, ◌==◌, ◌&&◌, ◌||◌, not, length, is_none, Option, Some, None, if◌then◌else◌}
 use Rattle.tcp_machine.specs.Connection.{Connection}
-use Rattle.tcp_machine.specs.States.{may_write, takes_octets, is_synchronized}
+use Rattle.tcp_machine.specs.Positions.{position_near}
+use Rattle.tcp_machine.specs.States.{may_write, takes_octets, is_synchronized, is_opening}
 use Rattle.tcp_machine.specs.Calls.{taken, readable, room_to_write}
 use Rattle.tcp_machine.specs.Outgoing.{is_syn_sent, next_action}
 use Rattle.tcp_machine.specs.Arrivals.{is_syn_received}
@@ -58,3 +59,13 @@ is_otherwise_silent now c =
 
 abbrev pub is_only_challenged : ℕ → Connection → Bool
 is_only_challenged now c = is_answer c.pending && owes_nothing c.reception.owed && is_otherwise_silent now c
+
+-- a segment with this number was sent and isn't acknowledged (RFC 5927 4.1); of a connection that is being opened it is the own SYN
+abbrev pub is_within : Option ℕ → (from to : ℕ) → Bool
+is_within None from to = false
+is_within (Some p) from to = nat_le from p && nat_lt p to
+
+abbrev pub is_unacknowledged : ℕ → Connection → Bool
+is_unacknowledged number c =
+    if is_opening c.state then number == c.local
+    else is_within (position_near c.local c.transmission.sender.una number) c.transmission.sender.una c.transmission.sender.top

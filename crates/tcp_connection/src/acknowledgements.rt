@@ -184,6 +184,7 @@ impl Connection {
             .after_acknowledged(mss, acknowledged, position, nxt - position);
         self.transmission.acknowledge(position, window);
         self.transmission.go_back(nxt);
+        self.transmission.learn_path(position);
     }
 
     /// A segment acknowledges what is acknowledged already; it may be empty, with neither octets nor the end.

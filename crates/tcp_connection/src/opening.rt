@@ -118,7 +118,7 @@ impl Connection {
         let mss = mss_from(default, link, segment.mss);
         self.remote = segment.number;
         self.transmission
-            .take_syn(segment.window, scale_from(segment.scale), mss);
+            .take_syn(segment.window, scale_from(segment.scale), default, mss);
         let own_scale = own_scale_for(self.settings.own_scale, segment.scale);
         self.reception.take_syn(own_scale, segment.sack_permitted);
         self.congestion = Congestion::new(mss);

@@ -407,6 +407,8 @@ impl Connection {
         self.start_resend_timer(now);
         self.tell();
         self.transmission.send(part, nxt);
+        self.transmission
+            .try_path(part.len, part.start + part.len as u64);
     }
 
     /// A probe was sent. It takes no position until it is acknowledged.

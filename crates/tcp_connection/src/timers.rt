@@ -90,6 +90,9 @@ impl Connection {
         ensures { self.new ≡ timers.after_loss_of_all self.old }
     {
         let una = self.transmission.una();
+        if self.is_shortened() {
+            self.transmission.shorten();
+        }
         let mss = self.transmission.mss();
         let flight = self.transmission.flight();
         let top = self.transmission.top();
@@ -104,6 +107,13 @@ impl Connection {
             measured: None,
             ..self.timers
         };
+    }
+
+    /// Whether segments are shortened, since the path may be a black hole for longer ones (RFC 4821 7.7).
+    fn is_shortened(&self) -> bool
+        ensures { result ≡ timers.is_shortened self.now }
+    {
+        !is_opening(self.state) && self.transmission.is_black_hole(self.timers.tries)
     }
 
     /// The peer is probed, or given up if it hasn't answered too often (RFC 9293 3.8.6.1).

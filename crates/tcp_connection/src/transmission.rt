@@ -1,10 +1,11 @@
 //! What a connection sends, and how far it may (RFC 9293 3.3.1).
-ghost use Rattle.std.specs.Prelude.{◌≡◌, ◌+◌, ◌-◌, ◌*◌, ◌≤◌, ◌<◌, ◌^◌, min, max, ◌++◌, length, take, IfOk, None, true, false};
+ghost use Rattle.std.specs.Prelude.{◌≡◌, ◌+◌, ◌-◌, ◌*◌, ◌≤◌, ◌<◌, ◌^◌, min, max, nat_lt, ◌++◌, length, take, IfOk, None, true, false};
 ghost use Rattle.tcp_machine.specs.Sending.{after_position, after_close, after_send, MaySend};
 ghost use Rattle.tcp_machine.specs.Windows.{tells_window, after_window};
 ghost use Rattle.tcp_machine.specs.Acknowledgements.{flight, empty_position, is_believed, is_end_acknowledged, is_duplicate, is_waited_for};
 ghost use Rattle.tcp_machine.specs.Arrivals.{is_of_sent};
 ghost use Rattle.tcp_machine.specs.Opening.{no_transmission};
+ghost use Rattle.tcp_machine.specs.Path as path;
 ghost use Rattle.tcp_machine.specs.Calls.{room_to_write};
 ghost use Rattle.tcp_machine.specs.Timers.{has_unsent};
 ghost use Rattle.tcp_machine.specs.Outgoing.{octets_from, piece_from, is_last};
@@ -14,6 +15,7 @@ ghost use Rattle.tcp_connection.specs.Pieces.{IsPieceOf};
 use sockets::octets::Octets;
 use std::alloc::{AllocError, Global};
 use std::marker::Model;
+use tcp_machine::path::Path;
 
 /// The most octets of a ring: a window of RFC 7323 has less.
 pub const MOST_OCTETS: usize = 1 << 30;
@@ -38,6 +40,7 @@ pub struct Transmission {
     wl2: u64,
     scale: u8,
     mss: u16,
+    path: Path,
 }
 
 /// A piece of what is sent: where it begins, how many octets it has, and whether the end follows them.
@@ -71,6 +74,7 @@ impl Model for Transmission {
       wl2 = t.wl2;
       scale = t.scale;
       mss = t.mss;
+      path = t.path;
     } };
 
     ghost invariant = { λ t. IsWithin (record {
@@ -102,6 +106,7 @@ impl Transmission {
             wl2: 0,
             scale: 0,
             mss,
+            path: Path::new(mss, mss),
         })
     }
 
@@ -122,6 +127,7 @@ impl Transmission {
         self.wl2 = 0;
         self.scale = 0;
         self.mss = mss;
+        self.path = Path::new(mss, mss);
     }
 
     /// How many octets are held: written, and not acknowledged.
@@ -269,14 +275,16 @@ impl Transmission {
         &self.ring.first(offset + len)[offset..]
     }
 
-    /// The peer's SYN tells its window, which isn't scaled, the scale of later ones, and the most octets of a segment to it.
-    pub fn take_syn(&mut self, window: u16, scale: u8, mss: u16)
+    /// The peer's SYN tells its window, which isn't scaled, the scale of later ones, and the most octets of a segment to it. Every path
+    /// carries some of `default`.
+    pub fn take_syn(&mut self, window: u16, scale: u8, default: u16, mss: u16)
         requires { scale ≤ 14 }
         ensures { self.new ≡ record self.old {
           told_edge = 1 + window;
           largest_window = window;
           scale = scale;
           mss = mss;
+          path = path.new_path default mss;
           sender = record self.old.sender { edge = 1 + window };
         } }
     {
@@ -284,6 +292,7 @@ impl Transmission {
         self.largest_window = u64::from(window);
         self.scale = scale;
         self.mss = mss;
+        self.path = Path::new(default, mss);
         self.edge = 1 + u64::from(window);
     }
 
@@ -324,6 +333,63 @@ impl Transmission {
         ensures { self.new ≡ record self.old { nxt = nxt } }
     {
         self.nxt = nxt;
+    }
+
+    /// A segment of so many octets was sent, which ends before a position.
+    pub fn try_path(&mut self, len: usize, end: u64)
+        ensures { self.new ≡ record self.old { path = path.path_sent self.old.mss len end self.old.path } }
+    {
+        self.path.sent(self.mss, len, end);
+    }
+
+    /// All before a position is acknowledged: what that tells of the path.
+    pub fn learn_path(&mut self, position: u64)
+        ensures { self.new ≡ record self.old {
+          mss = path.mss_acknowledged position self.old.mss self.old.path;
+          path = path.path_acknowledged position self.old.path;
+        } }
+    {
+        self.mss = self.path.mss_acknowledged(position, self.mss);
+        self.path.acknowledged(position);
+    }
+
+    /// Whether the path may be a black hole, where what isn't acknowledged was sent again so many times.
+    pub fn is_black_hole(&self, tries: u64) -> bool
+        ensures { result ≡ path.is_black_hole tries self.now.mss self.now.path }
+    {
+        self.path.is_black_hole(tries, self.mss)
+    }
+
+    /// Segments are shortened after time-outs.
+    #[tactic(auto, using(crate::proofs::TransmissionLemmas::una_bounded))]
+    pub fn shorten(&mut self)
+        ensures { self.new ≡ record self.old {
+          mss = self.old.path.least;
+          path = path.path_shortened self.old.sender.una self.old.path;
+        } }
+    {
+        self.mss = self.path.least;
+        self.path.shorten(self.una);
+    }
+
+    /// Whether segments have more octets than a router says that they may have.
+    pub fn is_longer_than(&self, size: u16) -> bool
+        ensures { result ≡ nat_lt (path.size_told size self.now.path) self.now.mss }
+    {
+        self.path.told(size) < self.mss
+    }
+
+    /// Segments are as long as a router says, and all that isn't acknowledged is to be sent again.
+    pub fn tell_path(&mut self, size: u16)
+        ensures { self.new ≡ record self.old {
+          nxt = self.old.sender.una;
+          mss = path.size_told size self.old.path;
+          path = path.path_told size self.old.path;
+        } }
+    {
+        self.mss = self.path.told(size);
+        self.path.tell(size);
+        self.nxt = self.una;
     }
 
     /// The next position to be sent.

@@ -22,7 +22,7 @@ use Rattle.tcp_machine.specs.Outgoing.{Action, action, is_syn_sent}
 use Rattle.tcp_machine.specs.Opening.{after_arrival_in, after_arrival}
 use Rattle.tcp_machine.specs.Calls.{last_position, room_to_write, taken, after_writing, readable, readable_count, read_of, after_reading}
 use Rattle.tcp_laws.specs.Machines.{Sent, Side, unopened, IsPlain, arrived, MayArrive, Act, Opens, Accepts, Writes, Reads, Closes, Aborts}
-use Rattle.tcp_laws.specs.Machines.{Chooses, Gets, Expires, Sends, MayAct, after_sending, after_act, Pair, Move, OfA, OfB}
+use Rattle.tcp_laws.specs.Machines.{Chooses, Fits, Fails, Gets, Expires, Sends, MayAct, after_sending, after_act, Pair, Move, OfA, OfB}
 use Rattle.tcp_laws.specs.Machines.{after_move, AreMoves, after_moves, StreamHolds, MachinesKeep}
 use Rattle.tcp_laws.proofs.Lists.{no_hole}
 use Rattle.tcp_laws.proofs.ReceivingSteps.{false_true, first_of_two, is_at_some, next_expected, expected_top, read_octets, append_taken, at_most_one}
@@ -31,7 +31,7 @@ use Rattle.tcp_laws.proofs.MachineStands.{SentStands, Given, Carries, Owns, Stre
 use Rattle.tcp_laws.proofs.MachineStands.{Good, Idle}
 use Rattle.tcp_laws.proofs.MachineStreams.{top_near, edged, wrote, got}
 use Rattle.tcp_laws.proofs.MachineArrivals.{IsLow, gets_plain, gets_syn, gets_reset, last_of}
-use Rattle.tcp_laws.proofs.MachineTimers.{expires, closes_down, aborts, gets_asking, is_open}
+use Rattle.tcp_laws.proofs.MachineTimers.{expires, closes_down, aborts, told_shorter, fails, gets_asking, is_open}
 use Rattle.tcp_laws.proofs.MachineSends.{IsSent, sends_good}
 
 -- the numbers of a connection in its phase, apart from the streams
@@ -336,6 +336,10 @@ acts e Aborts x y small peers_small may h =
     begun_side e x y (after_act e.i Aborts x) h may (aborts (given e x y) x.connection (goods e x y h may))
 acts e (Chooses settings) x y small peers_small may h =
     begun_side e x y (after_act e.i (Chooses settings) x) h may (chosen_good (given e x y) x.connection settings (goods e x y h may))
+acts e (Fits size) x y small peers_small may h =
+    begun_side e x y (after_act e.i (Fits size) x) h may (told_shorter (given e x y) size x.connection (goods e x y h may))
+acts e Fails x y small peers_small may h =
+    begun_side e x y (after_act e.i Fails x) h may (fails (given e x y) x.connection (goods e x y h may))
 acts e (Gets default link now keeps k options) x y small peers_small may h =
     begun_side e x y (after_act e.i (Gets default link now keeps k options) x) h may.0
     (gets_good e x y h small peers_small default link now keeps k options may.1 (goods e x y h may.0))

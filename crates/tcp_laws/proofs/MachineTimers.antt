@@ -8,7 +8,7 @@ use Rattle.tcp_machine.specs.declared.state.State.TheVariants.{FinWait2, CloseWa
 use Rattle.tcp_machine.specs.declared.timers.Pending.{Pending}
 use Rattle.tcp_machine.specs.declared.timers.Pending.TheVariants.{Reset, Probe, KeepAlive}
 use Rattle.tcp_machine.specs.declared.timers.Ending.{Ending}
-use Rattle.tcp_machine.specs.declared.timers.Ending.TheVariants.{Refused, TimedOut, Aborted}
+use Rattle.tcp_machine.specs.declared.timers.Ending.TheVariants.{Refused, TimedOut, Aborted, Unreachable}
 use Rattle.tcp_machine.specs.Instants.{later, has_passed}
 use Rattle.tcp_machine.specs.Positions.{number_at}
 use Rattle.tcp_machine.specs.Sending.{after_close}
@@ -25,6 +25,8 @@ use Rattle.tcp_machine.specs.Timers.{is_all_acknowledged, after_keep_alive}
 use Rattle.tcp_machine.specs.Timers.{after_time_wait, after_timers}
 use Rattle.tcp_machine.specs.Calls.{with_sender, closes_at_once, after_closing, after_abort}
 use Rattle.tcp_machine.specs.Outgoing.{is_syn_sent}
+use Rattle.tcp_machine.specs.Path.{size_told, path_told}
+use Rattle.tcp_machine.specs.Reports.{is_too_long, after_too_long, after_unreachable}
 use Rattle.tcp_laws.proofs.ReceivingSteps.{false_true, first_of_two}
 use Rattle.tcp_laws.proofs.MachineStands.{Given, Streams, Knows, Asks, IsGone, Good}
 use Rattle.tcp_laws.proofs.MachineStreams.{edged, closed}
@@ -284,6 +286,42 @@ aborts g c (inr (inl h)) =
     (λ _. inr (inr (is_aborted g Aborted c h.0.local h.1)))
 aborts g c (inr (inr h)) =
     inr (inr (either (IsGone g) (is_closed c.state) c (aborted Aborted c) (λ _. h) (λ _. is_aborted g Aborted c h.0.local h.1)))
+
+-- somebody says that segments are too long
+abbrev shorter : ℕ → Connection → Connection
+shorter size c = record c {
+  transmission = record c.transmission {
+    nxt = c.transmission.sender.una;
+    mss = size_told size c.transmission.path;
+    path = path_told size c.transmission.path;
+  };
+  timers = record c.timers { measured = None };
+}
+
+pub told_shorter : (g : Given) (size : ℕ) (c : Connection) → Good g c → Good g (after_too_long size c)
+told_shorter g size c (inl h) =
+    let t = h.1.own.sender.una_top in
+    let k = h.0 in
+    inl (either (Knows g) (is_too_long size c) (shorter size c) c (λ _. (
+      record { local = k.local; remote = k.remote; nxt = t; una = λ _. omega arith; opening = k.opening; asks = k.asks },
+      h.1,
+    )) (λ _. h))
+told_shorter g size c (inr (inl h)) =
+    let t = h.1.own.sender.una_top in
+    let k = h.0 in
+    inr (inl (either (Asks g) (is_too_long size c) (shorter size c) c
+    (λ _. (record { local = k.local; state = k.state; nxt = t; una = k.una }, h.1)) (λ _. h)))
+told_shorter g size c (inr (inr h)) =
+    inr (inr (either (IsGone g) (is_too_long size c) (shorter size c) c
+    (λ _. (record { local = h.0.local; state = h.0.state; pending = h.0.pending; resend_at = h.0.resend_at }, h.1)) (λ _. h)))
+
+-- or that the peer can't be reached
+pub fails : (g : Given) (c : Connection) → Good g c → Good g (after_unreachable c)
+fails g c h = either (Good g) (is_opening c.state) (aborted Unreachable c) c (λ _. by h) (λ _. h) where
+  by : Good g c → Good g (aborted Unreachable c)
+  by (inl h) = inl (knows_aborted g Unreachable c h)
+  by (inr (inl h)) = inr (inr (is_aborted g Unreachable c h.0.local h.1))
+  by (inr (inr h)) = inr (inr (is_aborted g Unreachable c h.0.local h.1))
 
 not_set : (b : Bool) → not b ≡ true → b ≡ false
 not_set true e = sym e

@@ -10,7 +10,7 @@ use Rattle.tcp_machine.specs.declared.timers.Pending.TheVariants.{Challenge, Res
 use Rattle.tcp_machine.specs.declared.timers.Owed.{Owed}
 use Rattle.tcp_machine.specs.declared.timers.Owed.TheVariants.{AtOnce}
 use Rattle.tcp_machine.specs.declared.timers.Ending.{Ending}
-use Rattle.tcp_machine.specs.declared.timers.Ending.TheVariants.{Refused, TimedOut, Aborted}
+use Rattle.tcp_machine.specs.declared.timers.Ending.TheVariants.{Refused, TimedOut, Aborted, Unreachable}
 use Rattle.tcp_machine.specs.Instants.{later, has_passed}
 use Rattle.tcp_machine.specs.Positions.{number_at}
 use Rattle.tcp_machine.specs.Pieces.{Piece}
@@ -37,6 +37,8 @@ use Rattle.tcp_machine.specs.Calls.{with_sender, closes_at_once, after_closing, 
 use Rattle.tcp_machine.specs.Timers.{is_held_back, with_probe_timer, is_given_up, after_loss_of_all, is_unheard, after_user_timeout, gives_up_at}
 use Rattle.tcp_machine.specs.Timers.{after_probe_time, after_resend_timer, most_probes, keep_alive_at, after_question, after_keep_alive}
 use Rattle.tcp_machine.specs.Timers.{after_time_wait, after_timers}
+use Rattle.tcp_machine.specs.Path.{size_told, path_told}
+use Rattle.tcp_machine.specs.Reports.{is_too_long, after_too_long, after_unreachable}
 use Rattle.tcp_laws.proofs.Lists.{length-filled}
 use Rattle.tcp_laws.proofs.ReceivingSteps.{false_true, expected_kept}
 use Rattle.tcp_laws.proofs.MachineArrivals.{either}
@@ -386,6 +388,22 @@ module _ (st : State) (r : Reception) where
       either On (closes_at_once c.state) (ended None c) (if is_none c.transmission.sender.stop then d else c) (λ _. on_ended None c h) (λ _.
       either On (is_none c.transmission.sender.stop) d c
       (λ _. moved c.state c.reception (after_program_closes c.state) (close_keeps c.state) h) (λ _. h))
+
+  pub on_fits : (size : ℕ) (c : Connection) → On c → On (after_too_long size c)
+  on_fits size c h =
+      either On (is_too_long size c)
+      (record c {
+        transmission = record c.transmission {
+          nxt = c.transmission.sender.una;
+          mss = size_told size c.transmission.path;
+          path = path_told size c.transmission.path;
+        };
+        timers = record c.timers { measured = None };
+      })
+      c (λ _. h) (λ _. h)
+
+  pub on_fails : (c : Connection) → On c → On (after_unreachable c)
+  on_fails c h = either On (is_opening c.state) (aborted Unreachable c) c (λ _. on_aborted Unreachable c h) (λ _. h)
 
   pub on_abort : (c : Connection) → On c → On (after_abort c)
   on_abort c h = either On (is_closed c.state) c (aborted Aborted c) (λ _. h) (λ _. on_aborted Aborted c h)

@@ -37,9 +37,11 @@ use Rattle.tcp_machine.specs.Timers.{after_time_wait, after_timers}
 use Rattle.tcp_machine.specs.Outgoing.{Action, SendSyn, SendNext, SendAgain, SendProbe, first_piece, next_piece, has_octets, action_in_opening, is_challenge, is_syn_sent}
 use Rattle.tcp_machine.specs.Outgoing.{is_worth_sending, ack_if, tells_something}
 use Rattle.tcp_machine.specs.Outgoing.{action_pending, is_reset, is_syn_due, action}
+use Rattle.tcp_machine.specs.Path.{size_told, path_told}
+use Rattle.tcp_machine.specs.Reports.{is_too_long, after_too_long}
 use Rattle.tcp_laws.specs.Retransmissions.{HasReason, RetransmissionsWait}
 use Rattle.tcp_laws.proofs.ReceivingSteps.{false_true, first_of_two}
-use Rattle.tcp_laws.proofs.MachineArrivals.{either, last_of}
+use Rattle.tcp_laws.proofs.MachineArrivals.{either, last_of, is_lt}
 use Rattle.tcp_laws.proofs.MachineTimers.{probing, once_more}
 
 -- what is sent
@@ -351,10 +353,33 @@ less_passed : (b : Bool) (n m : ℕ) → (b ≡ false → n ≡ m) → n < m →
 less_passed true n m h l = refl
 less_passed false n m h l = let e = h refl in absurd (omega (arith, e, l))
 
+-- what routers say
+module _ (size : ℕ) (c : Connection) where
+  abbrev told_of : Connection
+  told_of = record c {
+    transmission = record c.transmission {
+      nxt = c.transmission.sender.una;
+      mss = size_told size c.transmission.path;
+      path = path_told size c.transmission.path;
+    };
+    timers = record c.timers { measured = None };
+  }
+
+  shortens : (after_too_long size c).transmission.nxt < c.transmission.nxt → (after_too_long size c).transmission.mss < c.transmission.mss
+  shortens =
+      either (λ d. d.transmission.nxt < c.transmission.nxt → d.transmission.mss < c.transmission.mss) (is_too_long size c) told_of c
+      (λ e _. is_lt (size_told size c.transmission.path) c.transmission.mss (last_of (sends_octets c.state) (nat_lt (size_told size c.transmission.path) c.transmission.mss) e))
+      (λ _ l. absurd (omega (arith, l)))
+
+  owes_told : (after_too_long size c).pending ≡ Resend → c.pending ≡ Resend
+  owes_told = either (λ d. d.pending ≡ Resend → c.pending ≡ Resend) (is_too_long size c) told_of c (λ _ e. e) (λ _ e. e)
+
 pub retransmissions_wait : RetransmissionsWait
 retransmissions_wait = record {
   sent = λ now c p e. owes now c p e;
   arrivals = λ default link now keeps s c. kept_in c default link now keeps s c.state;
   timers = λ now c e. (still c now).0 e;
   back = λ now c l. less_passed (has_passed c.timers.resend_at now) (after_timers now c).transmission.nxt c.transmission.nxt (still c now).1 l;
+  shorter = λ size c. shortens size c;
+  told = λ size c. owes_told size c;
 }

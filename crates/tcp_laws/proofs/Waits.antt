@@ -10,7 +10,7 @@ use Rattle.tcp_machine.specs.declared.timers.Pending.{Pending}
 use Rattle.tcp_machine.specs.declared.timers.Pending.TheVariants.{Empty, Challenge, Resend, Probe, KeepAlive, Reset, SynAgain}
 use Rattle.tcp_machine.specs.declared.timers.Owed.TheVariants.{AtOnce}
 use Rattle.tcp_machine.specs.declared.timers.Ending.{Ending}
-use Rattle.tcp_machine.specs.declared.timers.Ending.TheVariants.{Refused, TimedOut, Aborted}
+use Rattle.tcp_machine.specs.declared.timers.Ending.TheVariants.{Refused, TimedOut, Aborted, Unreachable}
 use Rattle.tcp_machine.specs.Instants.{later, has_passed}
 use Rattle.tcp_machine.specs.Positions.{number_at}
 use Rattle.tcp_machine.specs.Pieces.{Piece, after_piece}
@@ -38,8 +38,10 @@ use Rattle.tcp_machine.specs.Timers.{after_time_wait, after_timers}
 use Rattle.tcp_machine.specs.Outgoing.{Action, SendSyn, SendNext, SendAgain, SendProbe, action_in_opening, is_repeated_syn, is_challenge, is_syn_sent}
 use Rattle.tcp_machine.specs.Outgoing.{next_piece, first_piece, most_again, has_octets, is_worth_sending, ack_if, tells_something}
 use Rattle.tcp_machine.specs.Outgoing.{action_pending, is_reset, is_owed, is_syn_due, action, after_action}
+use Rattle.tcp_machine.specs.Path.{size_told, path_told}
+use Rattle.tcp_machine.specs.Reports.{is_too_long, after_too_long, after_unreachable}
 use Rattle.tcp_machine.specs.Due.{least, owed_at, timer_at, lacks_timer, due_at}
-use Rattle.tcp_laws.specs.Machines.{Side, unopened, Act, Opens, Accepts, Writes, Reads, Closes, Aborts, Chooses, Gets, Expires, Sends}
+use Rattle.tcp_laws.specs.Machines.{Side, unopened, Act, Opens, Accepts, Writes, Reads, Closes, Aborts, Chooses, Fits, Fails, Gets, Expires, Sends}
 use Rattle.tcp_laws.specs.Machines.{arrived, after_sending, after_act}
 use Rattle.tcp_laws.specs.Waiting.{after_acts, after_all, IsUnanswered, NeverStuck}
 use Rattle.tcp_laws.proofs.ReceivingSteps.{false_true, first_of_two}
@@ -651,6 +653,40 @@ timed_closing c h =
 timed_abort : (c : Connection) → IsTimed c → IsTimed (after_abort c)
 timed_abort c h = either IsTimed (is_closed c.state) c (aborted Aborted c) (λ _. h) (λ _. timed_aborted Aborted c h)
 
+-- what others say of it
+not_both_sending : (s : State) → sends_octets s ≡ true → is_opening s ≡ true → ⊥
+not_both_sending Established e f = false_true f
+not_both_sending FinWait1 e f = false_true f
+not_both_sending CloseWait e f = false_true f
+not_both_sending Closing e f = false_true f
+not_both_sending LastAck e f = false_true f
+not_both_sending SynSent e f = false_true e
+not_both_sending SynReceived e f = false_true e
+not_both_sending Closed e f = false_true e
+not_both_sending Listen e f = false_true e
+not_both_sending FinWait2 e f = false_true e
+not_both_sending TimeWait e f = false_true e
+
+timed_fits : (size : ℕ) (c : Connection) → IsTimed c → IsTimed (after_too_long size c)
+timed_fits size c h =
+    let t = c.transmission in
+    either IsTimed (is_too_long size c)
+    (record c {
+      transmission = record t { nxt = t.sender.una; mss = size_told size t.path; path = path_told size t.path };
+      timers = record c.timers { measured = None };
+    })
+    c (λ e. record {
+      begun = h.begun;
+      una = h.una;
+      nxt = h.una;
+      first = h.first;
+      octets = λ _ _. omega arith;
+      syn = λ _ o. absurd (not_both_sending c.state (first_of_two (sends_octets c.state) (nat_lt (size_told size t.path) t.mss) e) o);
+    }) (λ _. h)
+
+timed_fails : (c : Connection) → IsTimed c → IsTimed (after_unreachable c)
+timed_fails c h = either IsTimed (is_opening c.state) (aborted Unreachable c) c (λ _. timed_aborted Unreachable c h) (λ _. h)
+
 -- whatever a side does
 first_numbers : (st : State) → Timed st 1 1 0 None
 first_numbers st = record {
@@ -675,6 +711,8 @@ timed_act iss (Reads count) x h = h
 timed_act iss Closes x h = timed_closing x.connection h
 timed_act iss Aborts x h = timed_abort x.connection h
 timed_act iss (Chooses settings) x h = h
+timed_act iss (Fits size) x h = timed_fits size x.connection h
+timed_act iss Fails x h = timed_fails x.connection h
 timed_act iss (Gets default link now keeps k options) x h =
     timed_in x.connection h default link now keeps (arrived k.segment options) x.connection.state refl
 timed_act iss (Expires now) x h = timed_timers now x.connection h

@@ -26,14 +26,15 @@ use Rattle.tcp_machine.specs.Timers.{after_timers}
 use Rattle.tcp_machine.specs.Outgoing.{Action, SendReset, SendSyn, SendNext, SendAgain, SendProbe, SendKeepAlive, SendAck, is_challenge, action_in_opening, is_syn_sent}
 use Rattle.tcp_machine.specs.Outgoing.{next_piece, first_piece, most_again, has_octets, is_worth_sending, ack_if, tells_something}
 use Rattle.tcp_machine.specs.Outgoing.{action_pending, is_reset, is_syn_due, action, promise_now, reception_told, after_action}
-use Rattle.tcp_laws.specs.Machines.{Sent, sent_as, IsPlain, Side, unopened, Act, Opens, Accepts, Writes, Reads, Closes, Aborts, Chooses}
+use Rattle.tcp_laws.specs.Machines.{Sent, sent_as, IsPlain, Side, unopened, Act, Opens, Accepts, Writes, Reads, Closes, Aborts, Chooses, Fits, Fails}
 use Rattle.tcp_laws.specs.Machines.{Gets, Expires, Sends, arrived, after_sending, after_act}
 use Rattle.tcp_laws.specs.Waiting.{after_acts}
 use Rattle.tcp_laws.specs.Edges.{told_edge, Begins, NoneBegins, WindowsStayTold}
 use Rattle.tcp_laws.proofs.Lists.{in_order_none, in_order_drop, in_order_short}
 use Rattle.tcp_laws.proofs.ReceivingSteps.{false_true, more}
 use Rattle.tcp_laws.proofs.MachineArrivals.{either}
-use Rattle.tcp_laws.proofs.Onward.{Onward, onward_same, on_in, on_timers, on_closing, on_abort}
+use Rattle.tcp_machine.specs.Reports.{after_too_long, after_unreachable}
+use Rattle.tcp_laws.proofs.Onward.{Onward, onward_same, on_in, on_timers, on_closing, on_abort, on_fits, on_fails}
 
 -- what holds of a connection's state and reception, and of the segments that it sent
 pub record Told (st : State) (r : Reception) (log : List Sent) : Type 0 where
@@ -407,6 +408,14 @@ told_act iss Aborts x n h =
     onward c.state (after_abort c).state c.reception (after_abort c).reception x.sent
     (on_abort c.state c.reception c (onward_same c.state c.reception)) h
 told_act iss (Chooses settings) x n h = h
+told_act iss (Fits size) x n h =
+    let c = x.connection in
+    let d = after_too_long size c in
+    onward c.state d.state c.reception d.reception x.sent (on_fits c.state c.reception size c (onward_same c.state c.reception)) h
+told_act iss Fails x n h =
+    let c = x.connection in
+    let d = after_unreachable c in
+    onward c.state d.state c.reception d.reception x.sent (on_fails c.state c.reception c (onward_same c.state c.reception)) h
 told_act iss (Gets default link now keeps k options) x n h =
     let c = x.connection in
     let d = after_arrival default link now keeps (arrived k.segment options) c in
@@ -444,6 +453,8 @@ told_first iss room size settings (Reads count) b = elim b [ ]
 told_first iss room size settings Closes b = elim b [ ]
 told_first iss room size settings Aborts b = elim b [ ]
 told_first iss room size settings (Chooses other) b = elim b [ ]
+told_first iss room size settings (Fits other) b = elim b [ ]
+told_first iss room size settings Fails b = elim b [ ]
 told_first iss room size settings (Gets default link now keeps k options) b = elim b [ ]
 told_first iss room size settings (Expires now) b = elim b [ ]
 told_first iss room size settings (Sends now) b = elim b [ ]

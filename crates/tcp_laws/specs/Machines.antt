@@ -15,6 +15,7 @@ use Rattle.tcp_machine.specs.Arrivals.{has_ended}
 use Rattle.tcp_machine.specs.Opening.{opened, accepted, after_arrival}
 use Rattle.tcp_machine.specs.Calls.{taken, after_writing, readable, read_of, after_reading, after_closing, after_abort}
 use Rattle.tcp_machine.specs.Timers.{after_timers}
+use Rattle.tcp_machine.specs.Reports.{after_too_long, after_unreachable}
 use Rattle.tcp_machine.specs.Outgoing.{Action, SendReset, SendSyn, SendNext, SendAgain, SendProbe, SendKeepAlive, SendAck}
 use Rattle.tcp_machine.specs.Outgoing.{Outgoing, action, segment_for, blocks_told, after_action}
 use Rattle.tcp_machine.specs.Sack.{Block}
@@ -83,8 +84,9 @@ unopened room size settings = record {
 }
 
 -- What a side does. It opens to the peer, or a SYN of the peer's arrives where it listens. The program writes, reads,
--- closes, aborts, and chooses other settings. A segment arrives, and octets beyond a gap of it are kept or left. Timers
--- expire. What the connection offers to send, if anything, is sent
+-- closes, aborts, and chooses other settings. Somebody says that segments may have so many octets, or that the peer can't be
+-- reached. A segment arrives, and octets beyond a gap of it are kept or left. Timers expire. What the connection offers to send, if
+-- anything, is sent
 pub data Act : Type 0 where
   Opens : (now mss : ℕ) → Settings → Act
   Accepts : (now default link : ℕ) → Settings → Sent → Options → Act
@@ -93,6 +95,8 @@ pub data Act : Type 0 where
   Closes : Act
   Aborts : Act
   Chooses : Settings → Act
+  Fits : (size : ℕ) → Act
+  Fails : Act
   Gets : (default link now : ℕ) → (keeps : Bool) → Sent → Options → Act
   Expires : (now : ℕ) → Act
   Sends : (now : ℕ) → Act
@@ -147,6 +151,8 @@ after_act iss (Reads count) x =
 after_act iss Closes x = with_connection (after_closing x.connection) x
 after_act iss Aborts x = with_connection (after_abort x.connection) x
 after_act iss (Chooses settings) x = with_connection (record x.connection { settings = settings }) x
+after_act iss (Fits size) x = with_connection (after_too_long size x.connection) x
+after_act iss Fails x = with_connection (after_unreachable x.connection) x
 after_act iss (Gets default link now keeps k options) x =
     with_connection (after_arrival default link now keeps (arrived k.segment options) x.connection) x
 after_act iss (Expires now) x = with_connection (after_timers now x.connection) x

@@ -8,6 +8,7 @@ use Rattle.tcp_machine.specs.Connection.{Connection}
 use Rattle.tcp_machine.specs.Segments.{Segment}
 use Rattle.tcp_machine.specs.Opening.{after_arrival}
 use Rattle.tcp_machine.specs.Timers.{after_timers}
+use Rattle.tcp_machine.specs.Reports.{after_too_long}
 use Rattle.tcp_machine.specs.Outgoing.{SendAgain, action}
 
 -- it was owed already, two duplicates came before, or a loss is being recovered
@@ -24,3 +25,7 @@ pub record RetransmissionsWait : Type 0 where
   -- timers don't make it owed, and take the next position back only where the time-out has ended
   pub timers : (now : ℕ) (c : Connection) → (after_timers now c).pending ≡ Resend → c.pending ≡ Resend
   pub back : (now : ℕ) (c : Connection) → (after_timers now c).transmission.nxt < c.transmission.nxt → has_passed c.timers.resend_at now ≡ true
+  -- what routers say takes it back only where segments get shorter, and doesn't make it owed
+  pub shorter : (size : ℕ) (c : Connection) → (after_too_long size c).transmission.nxt < c.transmission.nxt →
+      (after_too_long size c).transmission.mss < c.transmission.mss
+  pub told : (size : ℕ) (c : Connection) → (after_too_long size c).pending ≡ Resend → c.pending ≡ Resend

@@ -11,6 +11,7 @@ use Rattle.tcp_machine.specs.Sending.{Sender, after_position}
 use Rattle.tcp_machine.specs.declared.estimator.Estimator.{Estimator}
 use Rattle.tcp_machine.specs.Estimator.{after_sample}
 use Rattle.tcp_machine.specs.Congestion as congestion
+use Rattle.tcp_machine.specs.Path.{mss_acknowledged, path_acknowledged}
 use Rattle.tcp_machine.specs.Connection.{Connection, Transmission}
 use Rattle.tcp_machine.specs.Segments.{Segment, window_in}
 use Rattle.tcp_machine.specs.Windows.{after_window}
@@ -76,7 +77,12 @@ after_progress now a window c =
     let t = c.transmission in
     let e = after_measured c.settings.shortest_timeout now a c.timers.measured c.estimator in
     record c {
-      transmission = record t { sender = after_position a window t.sender; nxt = max t.nxt a };
+      transmission = record t {
+        sender = after_position a window t.sender;
+        nxt = max t.nxt a;
+        mss = mss_acknowledged a t.mss t.path;
+        path = path_acknowledged a t.path;
+      };
       estimator = e;
       timers = timers_after_progress now e.timeout a t.sender c.timers;
       congestion = congestion.after_acknowledged t.mss (a - t.sender.una) a (max t.nxt a - a) c.congestion;

@@ -10,6 +10,7 @@ use Rattle.tcp_machine.specs.declared.timers.Pending.{Pending}
 use Rattle.tcp_machine.specs.declared.timers.Ending.{Ending}
 use Rattle.tcp_machine.specs.declared.estimator.Estimator.{Estimator}
 use Rattle.tcp_machine.specs.declared.congestion.Congestion.{Congestion}
+use Rattle.tcp_machine.specs.declared.path.Path.{Path}
 
 -- how often a segment is sent again before the connection is given up, where no time-out is set
 abbrev pub most_tries : ℕ
@@ -26,9 +27,10 @@ pub record Transmission : Type 0 where
   -- the position and the acknowledgement of the segment that told it: SND.WL1, SND.WL2
   pub wl1 : ℕ
   pub wl2 : ℕ
-  -- by how many bits the peer's windows are scaled, and the most octets of a segment to it
+  -- by how many bits the peer's windows are scaled, the most octets of a segment to it, and what is known of the path
   pub scale : ℕ
   pub mss : ℕ
+  pub path : Path
 
 -- what a connection receives, and what it told of that
 pub record Reception : Type 0 where

@@ -7,3 +7,4 @@ pub mod Transfers
 pub mod Sack
 pub mod Silence
 pub mod Once
+pub mod Paths

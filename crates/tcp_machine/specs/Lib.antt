@@ -6,6 +6,7 @@ pub mod Instants
 pub mod States
 pub mod Estimator
 pub mod Congestion
+pub mod Path
 pub mod Connection
 pub mod Segments
 pub mod Windows
@@ -14,6 +15,7 @@ pub mod Arrivals
 pub mod Opening
 pub mod Calls
 pub mod Timers
+pub mod Reports
 pub mod Outgoing
 pub mod Due
 pub mod Sack

@@ -12,6 +12,7 @@ use Rattle.tcp_machine.specs.Sending.{open_sender}
 use Rattle.tcp_machine.specs.Receiving.{Receiver, open_receiver, is_at}
 use Rattle.tcp_machine.specs.Estimator.{new_estimator}
 use Rattle.tcp_machine.specs.Congestion.{new_congestion}
+use Rattle.tcp_machine.specs.Path.{new_path}
 use Rattle.tcp_machine.specs.Connection.{Connection, Transmission, Reception}
 use Rattle.tcp_machine.specs.Pieces.{Piece}
 use Rattle.tcp_machine.specs.Segments.{Segment, acceptable_piece}
@@ -44,6 +45,7 @@ no_transmission room mss = record {
   wl2 = 0;
   scale = 0;
   mss = mss;
+  path = new_path mss mss;
 }
 
 abbrev pub no_reception : ℕ → Reception
@@ -97,6 +99,7 @@ with_syn default link s c =
         largest_window = s.window;
         scale = scale_from s.options.scale;
         mss = mss;
+        path = new_path default mss;
         sender = record c.transmission.sender { edge = 1 + s.window };
       };
       reception = record c.reception {

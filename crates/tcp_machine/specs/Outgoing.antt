@@ -17,6 +17,7 @@ use Rattle.tcp_machine.specs.States.{is_synchronized, is_opening, sends_octets}
 use Rattle.tcp_machine.specs.Connection.{Connection, Reception}
 use Rattle.tcp_machine.specs.Acknowledgements.{empty_position, since_first}
 use Rattle.tcp_machine.specs.Windows.{next_promise, window_field, is_update_due}
+use Rattle.tcp_machine.specs.Path.{path_sent}
 use Rattle.tcp_machine.specs.declared.sack.SackBlock.{SackBlock}
 use Rattle.tcp_machine.specs.Sack.{Block, blocks_of}
 
@@ -231,7 +232,11 @@ told_to_peer c = record c { reception = reception_told c; pending = Empty }
 
 abbrev pub piece_sent : (now : ℕ) → Piece → (nxt : ℕ) → Connection → Connection
 piece_sent now p nxt c = record (told_to_peer c) {
-  transmission = record c.transmission { sender = after_send p c.transmission.sender; nxt = nxt };
+  transmission = record c.transmission {
+    sender = after_send p c.transmission.sender;
+    nxt = nxt;
+    path = path_sent c.transmission.mss (length p.octets) (after_octets p) c.transmission.path;
+  };
   timers = timers_sent now (after_piece p) (nat_le c.transmission.sender.top p.start) c;
 }
 

@@ -9,6 +9,7 @@ use Rattle.tcp_machine.specs.declared.timers.Ending.TheVariants.{TimedOut}
 use Rattle.tcp_machine.specs.Sending.{Sender}
 use Rattle.tcp_machine.specs.Estimator as estimator
 use Rattle.tcp_machine.specs.Congestion as congestion
+use Rattle.tcp_machine.specs.Path.{is_black_hole, path_shortened}
 use Rattle.tcp_machine.specs.States.{is_synchronized, is_opening, sends_octets}
 use Rattle.tcp_machine.specs.Connection.{Connection, most_tries}
 use Rattle.tcp_machine.specs.Acknowledgements.{with_pending, flight}
@@ -50,13 +51,24 @@ is_given_up c = is_none c.settings.timeout && nat_le most_tries c.timers.tries
 abbrev pub with_next_try : Timers → Timers
 with_next_try t = record t { resend_at = None; tries = min most_tries (t.tries + 1); measured = None }
 
+-- segments are shortened where the path may be a black hole; the own SYN is short
+abbrev pub is_shortened : Connection → Bool
+is_shortened c = not (is_opening c.state) && is_black_hole c.timers.tries c.transmission.mss c.transmission.path
+
+abbrev pub mss_after_loss : Connection → ℕ
+mss_after_loss c = if is_shortened c then c.transmission.path.least else c.transmission.mss
+
 -- All from the first unacknowledged position on is sent again, and the time-out is doubled (RFC 6298 5.4 to 5.6)
 abbrev pub after_loss_of_all : Connection → Connection
 after_loss_of_all c = record c {
-  transmission = record c.transmission { nxt = if is_opening c.state then 0 else c.transmission.sender.una };
+  transmission = record c.transmission {
+    nxt = if is_opening c.state then 0 else c.transmission.sender.una;
+    mss = mss_after_loss c;
+    path = if is_shortened c then path_shortened c.transmission.sender.una c.transmission.path else c.transmission.path;
+  };
   estimator = estimator.after_timeout c.estimator;
   congestion =
-      congestion.after_timeout (c.timers.tries == 0) c.transmission.mss (flight c.transmission) c.transmission.sender.top
+      congestion.after_timeout (c.timers.tries == 0) (mss_after_loss c) (flight c.transmission) c.transmission.sender.top
       c.congestion;
   timers = with_next_try c.timers;
 }

@@ -6,6 +6,7 @@ ghost use Rattle.tcp_machine.specs.Examples.Resets.{HalfOpen, Abort, EmptySegmen
 ghost use Rattle.tcp_machine.specs.Examples.Timeouts.{Estimates, Losses};
 ghost use Rattle.tcp_machine.specs.Examples.Transfers.{InOrder, OutOfOrder, OneCell, Nagle, Retransmission, ClosedWindow, SmallWindow, Wraps, SynOptions};
 ghost use Rattle.tcp_machine.specs.Examples.Sack.{Rfc2018, MoreSack, SackOfRing};
+ghost use Rattle.tcp_machine.specs.Examples.Paths.{PathsTold, BlackHoles, Unreachables};
 ghost use Rattle.tcp_machine.specs.Examples.Silence.{KeepAlive, GivingUp, TimesOut, Recovery};
 
 /// Handshakes (RFC 9293 3.5, figures 6 to 8).
@@ -71,4 +72,11 @@ pub fn selective_acknowledgements()
     ensures examples { Rfc2018 }
     ensures more { MoreSack }
     ensures ring { SackOfRing }
+{}
+
+/// Paths with a smaller MTU, and peers that can't be reached (RFC 9293 3.7.5, 3.9.2.2; RFC 1191, RFC 8201, RFC 4821).
+pub fn paths()
+    ensures told { PathsTold }
+    ensures black_holes { BlackHoles }
+    ensures unreachable { Unreachables }
 {}

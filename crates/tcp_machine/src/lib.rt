@@ -5,6 +5,7 @@
 pub mod congestion;
 pub mod estimator;
 pub mod examples;
+pub mod path;
 pub mod positions;
 pub mod ring;
 pub mod sack;

@@ -71,4 +71,6 @@ pub enum Ending {
     TimedOut,
     /// The program aborted.
     Aborted,
+    /// The peer can't be reached: a router, its host or the own link said so while the connection was being opened.
+    Unreachable,
 }
