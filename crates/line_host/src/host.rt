@@ -16,7 +16,7 @@ use net_base::phy::{ChecksumCapabilities, DeviceCapabilities, Medium};
 use net_base::time::{Duration, Instant};
 use std::alloc::Global;
 use std::io::Write;
-use tcp_host::config::{Config, RELEASE_TIMEOUT};
+use tcp_host::config::{ACCEPTED_KEEP_ALIVE, Config, RELEASE_TIMEOUT};
 use tcp_host::host::TcpHost;
 use tcp_host::sip_hash::SipKey;
 use tcp_machine::settings::Settings;
@@ -271,6 +271,7 @@ fn config_for(room: usize) -> Config
             own_scale: scale_for(room),
             ..SETTINGS
         },
+        accepted_keep_alive: Some(ACCEPTED_KEEP_ALIVE),
         release_timeout: RELEASE_TIMEOUT,
         number_key: [7; 32],
         table_key: SipKey { k0: 7, k1: 69 },

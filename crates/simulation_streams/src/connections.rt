@@ -210,6 +210,7 @@ fn config_of(number: usize) -> Config
         mss_v4: 1460,
         mss_v6: 1440,
         settings: SETTINGS,
+        accepted_keep_alive: None,
         release_timeout: RELEASE_TIMEOUT,
         number_key: [(number % 256) as u8; 32],
         table_key: SipKey {

@@ -212,5 +212,6 @@ fn text_of(ending: Ending) -> &'static str {
         Ending::Refused => "refused",
         Ending::TimedOut => "given up",
         Ending::Aborted => "aborted",
+        Ending::Unreachable => "unreachable",
     }
 }

@@ -1,6 +1,6 @@
 -- Ends of connections that are gone.
 use Rattle.std.proofs.Common.{◌≡◌, ◌≢◌, ◌<◌, ◌≤◌, ◌∙◌, ℕ, Bool, true, false, List, length, refl, sym, ap, arith}
-use Rattle.std.specs.Prelude.{get_or, set, ◌==◌, nat_lt, nat_le, Option, Some, None, if◌then◌else◌}
+use Rattle.std.specs.Prelude.{get_or, set, ◌==◌, nat_lt, nat_le, ◌&&◌, Option, Some, None, if◌then◌else◌}
 use Rattle.std.proofs.lemmas.Bool.Decides.{nat_tests}
 use Rattle.std.proofs.lemmas.List.{get_or-set_same, get_or-set_other, get_or_past, length-set}
 use Rattle.tcp_host.specs.declared.iss.Endpoints.{Endpoints}
@@ -9,13 +9,17 @@ use Rattle.tcp_machine.specs.Connection.{Connection}
 use Rattle.tcp_host.specs.declared.slot.Slot.{Slot}
 use Rattle.tcp_machine.specs.Calls.{after_abort}
 use Rattle.tcp_machine.specs.Instants.{later}
-use Rattle.tcp_machine.specs.States.{is_synchronized}
+use Rattle.tcp_machine.specs.States.{is_synchronized, is_opening}
 use Rattle.tcp_machine.specs.Timers.{after_timers}
 use Rattle.tcp_host.specs.Listener.{after_handshake, has_room}
 use Rattle.tcp_host.specs.declared.slot.Owner.{Owner}
 use Rattle.tcp_host.specs.declared.slot.Owner.TheVariants.{Nobody, HalfOpen, Waiting, Program, Itself}
 use Rattle.tcp_host.specs.Host.{Host, no_slot, slot_at, connection_at, with_connection, with_owner, listener_at, with_listener}
-use Rattle.tcp_host.specs.Turns.{expired, completed_in, completed, advanced_by, advanced, limited_by, before_sending}
+use Rattle.ip_address.specs.declared.ip.IpAddress.{IpAddress}
+use Rattle.tcp_machine.specs.Reports.{after_unreachable}
+use Rattle.tcp_host.specs.declared.reports.Report.TheVariants.{Hard}
+use Rattle.tcp_host.specs.Reports.{noted, reported, is_to, lost_at}
+use Rattle.tcp_host.specs.Turns.{expired, completed_in, completed, advanced_by, advanced, limited_by, limited}
 
 -- ends that are nowhere are nowhere where a place has none
 pub still_nowhere : (e : Endpoints) (ends : List (Option Endpoints)) (place : ℕ) → IsNowhere e ends → IsNowhere e (set ends place None)
@@ -53,11 +57,11 @@ then_nowhere e ends place at distinct p has = by (p == place) refl where
 
 -- what was read of a place is its slot, and its connection alone is changed
 pub connection_set : (h : Host) (place : ℕ) (seen : Slot) (c : Connection) → seen ≡ get_or h.slots place no_slot →
-    record h { slots = set h.slots place (record { connection = c; owner = seen.owner; generation = seen.generation; challenges = seen.challenges; hop_limit = seen.hop_limit }) }
+    record h { slots = set h.slots place (record { connection = c; owner = seen.owner; generation = seen.generation; challenges = seen.challenges; hop_limit = seen.hop_limit; reported = seen.reported }) }
     ≡ with_connection place c h
 connection_set h place seen c e =
     ap (λ (s : Slot). record h {
-      slots = set h.slots place (record { connection = c; owner = s.owner; generation = s.generation; challenges = s.challenges; hop_limit = s.hop_limit });
+      slots = set h.slots place (record { connection = c; owner = s.owner; generation = s.generation; challenges = s.challenges; hop_limit = s.hop_limit; reported = s.reported });
     }) e
 
 -- a turn keeps how many places there are
@@ -102,8 +106,18 @@ limited_slots (HalfOpen index) place now h = refl
 limited_slots (Waiting index) place now h = refl
 limited_slots Program place now h = refl
 
-pub before_sending_slots : (place now : ℕ) (h : Host) → length (before_sending place now h).slots ≡ length h.slots
-before_sending_slots place now h =
+pub limited_all_slots : (place now : ℕ) (h : Host) → length (limited place now (advanced place (expired place now h))).slots ≡ length h.slots
+limited_all_slots place now h =
     let one = expired place now h in
     let two = advanced place one in
     limited_slots (slot_at place two).owner place now two ∙ advanced_slots (slot_at place one).owner place one ∙ expired_slots place now h
+
+-- a peer that is lost keeps how many places there are
+pub lost_slots : (now : ℕ) (address : IpAddress) (place : ℕ) (h : Host) → length (lost_at now address place h).slots ≡ length h.slots
+lost_slots now address place h = by (is_to address (ends_at h.ends place) && is_opening (connection_at place h).state) where
+  by : (b : Bool) → length (if b then reported now Hard place h else h).slots ≡ length h.slots
+  by true =
+      let mid = noted now place h in
+      length-set mid.slots place (record (slot_at place mid) { connection = after_unreachable (connection_at place mid) })
+      ∙ length-set h.slots place (record (slot_at place h) { reported = Some now })
+  by false = refl

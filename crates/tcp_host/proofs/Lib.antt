@@ -3,3 +3,4 @@ pub mod BacklogLemmas
 pub mod SipHashLemmas
 pub mod TableLemmas
 pub mod HostLemmas
+pub mod NewsLemmas

@@ -1,5 +1,5 @@
 -- A segment arrives at a host (RFC 9293 3.10.7): to which connection it goes, or which it begins, or what answers it.
-use Rattle.std.specs.Prelude.{◌≡◌, ◌<◌, ℕ, nat_lt, true, false, List, [], length, Option, Some, None, is_some, if◌then◌else◌, Bool, ◌&&◌}
+use Rattle.std.specs.Prelude.{◌≡◌, ◌<◌, ◌≤◌, ℕ, nat_lt, true, false, List, [], length, Option, Some, None, is_some, if◌then◌else◌, Bool, ◌&&◌}
 use Rattle.net_base.specs.Bucket.{has_token, after_take}
 use Rattle.tcp_machine.specs.Opening.{Arrives, accepted}
 use Rattle.tcp_connection.specs.declared.segment.Segment.{Segment}
@@ -11,17 +11,19 @@ use Rattle.tcp_host.specs.Listener as listener
 use Rattle.tcp_host.specs.Backlog.{first_of, after_evicting, evicted}
 use Rattle.tcp_host.specs.declared.resets.Reset.{Reset}
 use Rattle.tcp_host.specs.declared.slot.Owner.TheVariants.{HalfOpen}
-use Rattle.tcp_host.specs.Host.{Host, slot_at, connection_at, is_let_go, with_connection, with_alarm, vacated, occupied, default_mss, link_mss, settings_for}
+use Rattle.tcp_host.specs.Host.{Host, slot_at, connection_at, is_let_go, with_connection, with_alarm, vacated, occupied, default_mss, link_mss, accepted_settings_for}
 use Rattle.tcp_host.specs.Host.{IsNextPlace, listener_at, with_listener}
+use Rattle.tcp_host.specs.News.{noted, seen_at}
 use Rattle.tcp_host.specs.Table.{IsPlaceOf, IsNowhere}
 use Rattle.tcp_host.specs.Renewal.{is_renewed_by}
 use Rattle.tcp_host.specs.Resets.{reset_for, begins}
 
--- It goes to the connection at a place: that alone changes, as its machine says, and something is due there at once
+-- It goes to the connection at a place: that alone changes, as its machine says, something is due there at once, and its program is to be
+-- told of what it sees
 pub record Delivers (place now : ℕ) (e : Endpoints) (s : Segment) (octets : List ℕ) (old new : Host) : Type 0 where
   pub arrives : Arrives (default_mss e.remote_addr) (link_mss old.config e.remote_addr) now (segment_of s octets)
       (connection_at place old) (connection_at place new)
-  pub all_else : new ≡ with_alarm place 0 (with_connection place (connection_at place new) old)
+  pub all_else : new ≡ noted place now (seen_at place old) (with_alarm place 0 (with_connection place (connection_at place new) old))
 
 -- nobody wants it: a reset is owed, unless too many were sent
 abbrev pub refused : ℕ → Option Reset → Host → Option Reset × Host
@@ -42,7 +44,7 @@ accepted_at place index now e s h =
     occupied place e (HalfOpen index)
     (accepted now (iss h.config.number_key e now) (connection_at place h).transmission.sender.room
     (length (connection_at place h).reception.receiver.cells) (default_mss e.remote_addr) (link_mss h.config e.remote_addr)
-    (settings_for h.config e.remote_addr) (segment_of s [])) h
+    (accepted_settings_for h.config e.remote_addr) (segment_of s [])) h
 
 -- a place is none of a listener's any more
 abbrev pub vacated_if : Option ℕ → Host → Host
@@ -54,7 +56,7 @@ abbrev pub counted : (place index : ℕ) → Host → Host
 counted place index h =
     vacated_if (evicted (listener_at index h).half_open) (with_listener index (listener.after_syn place (listener_at index h)) h)
 
--- where no place is free, the oldest half-open connection of the listener gives its place
+-- the oldest half-open connection of a listener counts no more
 abbrev pub without_oldest : ℕ → Host → Host
 without_oldest index h =
     with_listener index (record (listener_at index h) { half_open = after_evicting (listener_at index h).half_open }) h
@@ -66,15 +68,40 @@ if_within n (Some place) = if nat_lt place n then Some place else None
 abbrev pub oldest_in : ℕ → Host → Option ℕ
 oldest_in index h = if_within (length h.slots) (first_of (listener_at index h).half_open.places)
 
--- A SYN begins a connection (RFC 9293 3.10.7.2), if as few as may be wait for the program, and there is a place: a free one, that
--- of a connection in TIME-WAIT, or that of the listener's oldest half-open connection
+abbrev pub half_open_count : ℕ → Host → ℕ
+half_open_count index h = length (listener_at index h).half_open.places
+
+-- a listener has half-open connections, and none of the first n has more
+pub record HasMost (n : ℕ) (h : Host) (index : ℕ) : Type 0 where
+  pub within : index < n
+  pub some : is_some (oldest_in index h) ≡ true
+  pub most : (k : ℕ) → k < n → is_some (oldest_in k h) ≡ true → half_open_count k h ≤ half_open_count index h
+
+abbrev pub HasNoHalfOpen : ℕ → Host → Type 0
+HasNoHalfOpen n h = (k : ℕ) → k < n → oldest_in k h ≡ None
+
+abbrev pub IsFullest : ℕ → Host → Option ℕ → Type 0
+IsFullest n h None = HasNoHalfOpen n h
+IsFullest n h (Some index) = HasMost n h index
+
+-- Half-open connections hold only places that nobody else needs (RFC 4987 3.2): where no place is free, the oldest one gives its
+-- place, of a listener that has the most of them
+pub data FindsPlace (old : Host) (place : ℕ) (ready : Host) : Type 0 where
+  Free : IsNextPlace old (Some place) → ready ≡ old → FindsPlace old place ready
+  OfHalfOpen : (from : ℕ) → IsNextPlace old None → HasMost (length old.listeners) old from → oldest_in from old ≡ Some place →
+      ready ≡ vacated place (without_oldest from old) → FindsPlace old place ready
+
+-- no place is free, nor held by a connection in TIME-WAIT of which the program let go, nor by one that is half-open
+pub record HasNoPlace (h : Host) : Type 0 where
+  pub none : IsNextPlace h None
+  pub no_half_open : HasNoHalfOpen (length h.listeners) h
+
+-- A SYN begins a connection (RFC 9293 3.10.7.2), if as few as may be wait for the program, and there is a place
 pub data Begins (index now : ℕ) (e : Endpoints) (s : Segment) (old new : Host) : Type 0 where
   TooMany : listener.has_room (listener_at index old) ≡ false → new ≡ old → Begins index now e s old new
-  InFree : (place : ℕ) → listener.has_room (listener_at index old) ≡ true → IsNextPlace old (Some place) →
-      new ≡ accepted_at place index now e s (counted place index old) → Begins index now e s old new
-  InOldest : listener.has_room (listener_at index old) ≡ true → IsNextPlace old None → (oldest_in index old ≡ None → new ≡ old) →
-      ((place : ℕ) → oldest_in index old ≡ Some place →
-      new ≡ accepted_at place index now e s (counted place index (vacated place (without_oldest index old)))) → Begins index now e s old new
+  NoPlace : listener.has_room (listener_at index old) ≡ true → HasNoPlace old → new ≡ old → Begins index now e s old new
+  InPlace : (place : ℕ) (ready : Host) → listener.has_room (listener_at index old) ≡ true → FindsPlace old place ready →
+      new ≡ accepted_at place index now e s (counted place index ready) → Begins index now e s old new
 
 -- A SYN whose connection may follow the one at a place, of which the program let go (RFC 9293 3.6.1)
 abbrev pub is_renewed : (now : ℕ) → Endpoints → Segment → (place : ℕ) → Host → Bool

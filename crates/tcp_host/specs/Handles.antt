@@ -1,5 +1,5 @@
 -- What a program does with its connections (RFC 9293 3.10.1 to 3.10.5).
-use Rattle.std.specs.Prelude.{ℕ, ◌+◌, ◌%◌, ◌^◌, nat_lt, ◌==◌, ◌&&◌, Bool, true, false, [], ◌∷◌, ◌++◌, length, Option, Some, None, if◌then◌else◌, not}
+use Rattle.std.specs.Prelude.{◌≡◌, ℕ, ◌+◌, ◌%◌, ◌^◌, nat_lt, ◌==◌, ◌&&◌, Bool, true, false, [], ◌∷◌, ◌++◌, length, slice_set, Option, Some, None, if◌then◌else◌, not}
 use Rattle.tcp_machine.specs.Connection.{Connection}
 use Rattle.tcp_machine.specs.Opening.{opened}
 use Rattle.tcp_machine.specs.Calls.{after_abort}
@@ -7,20 +7,15 @@ use Rattle.tcp_machine.specs.declared.state.State.{State}
 use Rattle.tcp_machine.specs.declared.state.State.TheVariants.{Closed, Closing, LastAck, TimeWait}
 use Rattle.tcp_host.specs.declared.iss.Endpoints.{Endpoints}
 use Rattle.tcp_host.specs.Iss.{iss}
-use Rattle.tcp_host.specs.declared.slot.Owner.{Owner}
 use Rattle.tcp_host.specs.declared.slot.Owner.TheVariants.{Program, Itself}
 use Rattle.tcp_host.specs.declared.calls.Handle.{Handle}
-use Rattle.tcp_host.specs.Arrivals.{is_proper}
+use Rattle.tcp_host.specs.Arrivals.{FindsPlace, is_proper}
 use Rattle.tcp_host.specs.Challenges.{all_challenges}
-use Rattle.tcp_host.specs.Host.{Host, slot_at, connection_at, with_slot, with_connection, with_owner, with_alarm, default_hop_limit, enrolled, link_mss, settings_for, listener_at, with_listener}
+use Rattle.tcp_host.specs.Host.{Host, is_program, never, slot_at, connection_at, with_slot, with_connection, with_owner, with_alarm, default_hop_limit, enrolled, link_mss, settings_for, listener_at, with_listener}
 use Rattle.ip_address.specs.declared.ip.IpAddress.{IpAddress}
 use Rattle.tcp_host.specs.Backlog.{first_of}
 use Rattle.tcp_host.specs.Listener.{after_accepting, after_closing, first}
 use Rattle.tcp_machine.specs.declared.settings.Settings.{Settings}
-
-abbrev pub is_program : Owner → Bool
-is_program Program = true
-is_program o = false
 
 -- a handle names the connection of its place, if the place wasn't given to another one since, and the program has it
 abbrev pub is_named : Handle → Host → Bool
@@ -44,10 +39,14 @@ ends_by_itself LastAck = true
 ends_by_itself TimeWait = true
 ends_by_itself s = false
 
+abbrev pub untold : (place since : ℕ) → Host → Host
+untold place since h = record h { news = slice_set h.news place since }
+
 abbrev pub released : ℕ → Host → Host
 released place h =
-    with_alarm place 0
-    (with_owner place (Itself None) (if ends_by_itself (connection_at place h).state then h else with_connection place (after_abort (connection_at place h)) h))
+    untold place never
+    (with_alarm place 0
+    (with_owner place (Itself None) (if ends_by_itself (connection_at place h).state then h else with_connection place (after_abort (connection_at place h)) h)))
 
 -- a connection that the program opens at a place
 abbrev pub opened_at : (place now : ℕ) → Endpoints → Host → Host
@@ -60,17 +59,24 @@ opened_at place now e h =
       generation = ((slot_at place h).generation + 1) % 2 ^ 64;
       challenges = all_challenges;
       hop_limit = default_hop_limit;
+      reported = None;
     }) h)
+
+-- at a place that was free or has given way
+pub record Opens (now : ℕ) (e : Endpoints) (place : ℕ) (old new : Host) : Type 0 where
+  pub ready : Host
+  pub found : FindsPlace old place ready
+  pub opened : new ≡ opened_at place now e ready
 
 abbrev pub with_settings : Settings → Connection → Connection
 with_settings settings c = record c { settings = settings }
 
--- the connection of a listener that waits longest becomes the program's
+-- the connection of a listener that waits longest becomes the program's, which is to be told of it
 abbrev pub accepting_at : Option ℕ → Host → Option Handle × Host
 accepting_at None h = (None, h)
 accepting_at (Some place) h =
     if nat_lt place (length h.slots)
-    then (Some (record { place = place; generation = (slot_at place h).generation }), with_owner place Program h) else (None, h)
+    then (Some (record { place = place; generation = (slot_at place h).generation }), untold place 0 (with_owner place Program h)) else (None, h)
 
 abbrev pub accepting_from : ℕ → Host → Option Handle × Host
 accepting_from index h =

@@ -10,7 +10,7 @@ use Rattle.tcp_host.specs.declared.iss.Endpoints.{Endpoints}
 use Rattle.tcp_host.specs.Listener.{Listener, first}
 use Rattle.tcp_host.specs.declared.slot.Slot.{Slot}
 use Rattle.tcp_host.specs.declared.slot.Owner.{Owner}
-use Rattle.tcp_host.specs.declared.slot.Owner.TheVariants.{Nobody, Itself}
+use Rattle.tcp_host.specs.declared.slot.Owner.TheVariants.{Nobody, Program, Itself}
 use Rattle.tcp_host.specs.declared.config.Config.{Config}
 use Rattle.tcp_host.specs.Challenges.{all_challenges}
 use Rattle.tcp_host.specs.Alarms.{IsLeast}
@@ -22,6 +22,8 @@ pub record Host : Type 0 where
   pub ends : List (Option Endpoints)
   pub alarms : List ℕ
   pub taken : List ℕ
+  -- since when the program hasn't been told that the connection changed; never, if it is told
+  pub news : List ℕ
   pub listeners : List Listener
   pub resets : Bucket
   pub config : Config
@@ -55,6 +57,7 @@ no_slot = record {
   generation = 0;
   challenges = all_challenges;
   hop_limit = default_hop_limit;
+  reported = None;
 }
 
 abbrev pub slot_at : ℕ → Host → Slot
@@ -75,6 +78,11 @@ with_owner place o h = with_slot place (record (slot_at place h) { owner = o }) 
 abbrev pub with_alarm : ℕ → ℕ → Host → Host
 with_alarm place instant h = record h { alarms = slice_set h.alarms place instant }
 
+-- a program has the connection
+abbrev pub is_program : Owner → Bool
+is_program Program = true
+is_program o = false
+
 -- its program let go of a connection, which ends by itself
 abbrev pub is_let_go : Owner → Bool
 is_let_go (Itself until) = true
@@ -94,12 +102,13 @@ vacated place h = record h {
   taken = slice_set h.taken place 0;
 }
 
--- a place has these ends, and something is due there at once
+-- a place has these ends, something is due there at once, and nothing is new
 abbrev pub enrolled : ℕ → Endpoints → Host → Host
 enrolled place e h = record h {
   ends = slice_set (slice_set h.ends place None) place (Some e);
   alarms = slice_set h.alarms place 0;
   taken = slice_set h.taken place never;
+  news = slice_set h.news place never;
 }
 
 -- a connection with these ends begins at the place, of the next generation
@@ -112,6 +121,7 @@ occupied place e owner c h =
       generation = ((slot_at place h).generation + 1) % 2 ^ 64;
       challenges = all_challenges;
       hop_limit = default_hop_limit;
+      reported = None;
     }) h)
 
 -- what is said of the family of an address: the MSS of a peer that tells none (RFC 9293 3.7.1), and the most octets of a segment
@@ -125,6 +135,10 @@ link_mss c (Ipv6 a) = c.mss_v6
 
 abbrev pub settings_for : Config → IpAddress → Settings
 settings_for c address = record c.settings { own_mss = link_mss c address }
+
+-- a peer that asked for a connection is asked whether it is still there (RFC 9293 3.8.4)
+abbrev pub accepted_settings_for : Config → IpAddress → Settings
+accepted_settings_for c address = record (settings_for c address) { keep_alive = c.accepted_keep_alive }
 
 -- The place that the next connection gets: a free one, or else the one whose TIME-WAIT ends first. None, only if each has a connection
 -- that gives way to no other one

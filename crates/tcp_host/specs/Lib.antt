@@ -6,10 +6,12 @@ pub mod SipHash
 pub mod Table
 pub mod Listener
 pub mod Host
+pub mod News
 pub mod Resets
 pub mod Renewal
 pub mod Arrivals
 pub mod Turns
 pub mod Handles
+pub mod Reports
 pub mod Examples
 pub mod Details

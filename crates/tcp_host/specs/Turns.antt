@@ -19,6 +19,7 @@ use Rattle.tcp_host.specs.declared.slot.Slot.{Slot}
 use Rattle.tcp_host.specs.declared.slot.Owner.TheVariants.{HalfOpen, Waiting, Program, Itself}
 use Rattle.tcp_host.specs.declared.turns.Turn.{Turn}
 use Rattle.tcp_host.specs.declared.turns.Turn.TheVariants.{Idle, Quiet, Sends}
+use Rattle.tcp_host.specs.News.{noted, seen_at}
 use Rattle.tcp_host.specs.Challenges.{is_challenge_left, slot_after_sending}
 use Rattle.tcp_host.specs.Host.{Host, never, is_let_go, limit_of, slot_at, connection_at, with_slot, with_connection, with_owner, with_alarm, vacated, listener_at, with_listener, link_mss}
 
@@ -105,7 +106,7 @@ abbrev pub is_over : ℕ → Slot → Bool
 is_over now s = has_passed (over_at (limit_of s.owner)) now
 
 abbrev pub before_sending : (place now : ℕ) → Host → Host
-before_sending place now h = limited place now (advanced place (expired place now h))
+before_sending place now h = noted place now (seen_at place h) (limited place now (advanced place (expired place now h)))
 
 abbrev pub left_at : (place now : ℕ) → Host → Host
 left_at place now h = with_alarm place now (with_connection place (after_sending now (connection_at place h)) h)
@@ -164,7 +165,7 @@ is_heard place now h = nat_lt place (length h.slots) && is_peer_heard now (conne
 
 -- the connection at a place is aborted (RFC 9293 3.10.5)
 abbrev pub aborted_at : ℕ → Host → Host
-aborted_at place h = with_alarm place 0 (with_connection place (after_abort (connection_at place h)) h)
+aborted_at place h = noted place 0 (seen_at place h) (with_alarm place 0 (with_connection place (after_abort (connection_at place h)) h))
 
 abbrev pub aborted_if : ℕ → Host → Host
 aborted_if place h = if nat_lt place (length h.slots) then aborted_at place h else h

@@ -191,22 +191,7 @@ impl TcpHost {
         if !self.has_room(index) {
             return;
         }
-        match self.next_place() {
-            Some(place) => self.begin_at(place, index, now, endpoints, segment),
-            None => self.begin_in_oldest(index, now, endpoints, segment),
-        }
-    }
-
-    // The same, where each place has a connection that gives way to no other one.
-    fn begin_in_oldest(&mut self, index: usize, now: u64, endpoints: &Endpoints, segment: &Segment)
-        requires within { index < length self.old.listeners }
-        requires new { IsNowhere endpoints.now self.old.ends }
-        ensures none { spec.oldest_in index self.old ≡ None → self.new ≡ self.old }
-        ensures some { (place : ℕ) → spec.oldest_in index self.old ≡ Some place → self.new
-            ≡ spec.accepted_at place index now endpoints.now segment.now (spec.counted place index (vacated place (spec.without_oldest index self.old))) }
-    {
-        if let Some(place) = self.oldest_in(index) {
-            self.make_room(place, index);
+        if let Some(place) = self.make_place() {
             self.begin_at(place, index, now, endpoints, segment);
         }
     }
@@ -217,30 +202,6 @@ impl TcpHost {
         ensures { result ≡ listener.has_room (listener_at index self.now) }
     {
         self.listeners[index].has_room()
-    }
-
-    // The place of the oldest half-open connection of a listener.
-    fn oldest_in(&self, index: usize) -> Option<usize>
-        requires { index < length self.now.listeners }
-        ensures value { result ≡ spec.oldest_in index self.now }
-        ensures within { IfSome result (λ place. place < length self.now.slots) }
-    {
-        let oldest = self.listeners[index].oldest();
-        match oldest {
-            Some(place) if place < self.slots.len() => Some(place),
-            _ => None,
-        }
-    }
-
-    // The oldest half-open connection of a listener gives its place.
-    fn make_room(&mut self, place: usize, index: usize)
-        requires within { index < length self.old.listeners }
-        requires place { place < length self.old.slots }
-        ensures value { self.new ≡ vacated place (spec.without_oldest index self.old) }
-        ensures nowhere { (e : Endpoints) → IsNowhere e self.old.ends → IsNowhere e self.new.ends }
-    {
-        self.listeners[index].evict();
-        self.vacate(place);
     }
 
     // A connection of a listener begins at a free place.
@@ -290,7 +251,7 @@ impl TcpHost {
         let number = iss(&self.config.number_key, now, endpoints);
         let default = default_mss(&endpoints.remote_addr);
         let link = self.link_mss(&endpoints.remote_addr);
-        let settings = self.settings_for(&endpoints.remote_addr);
+        let settings = self.accepted_settings_for(&endpoints.remote_addr);
         self.slots[place].accept(
             Owner::HalfOpen(index),
             now,
@@ -318,10 +279,12 @@ impl TcpHost {
     {
         let default = default_mss(&endpoints.remote_addr);
         let link = self.link_mss(&endpoints.remote_addr);
+        let before = self.seen_at(place);
         self.slots[place]
             .connection
             .receive(now, default, link, segment, octets);
         self.alarms.set(place, 0);
+        self.note(place, now, before);
     }
 
     /// Nobody wants a segment with so many octets: a reset is owed (RFC 9293 3.10.7.1), unless too many were sent.

@@ -1,5 +1,5 @@
 //! The half-open connections of a listener: a new SYN takes the place of the oldest one (RFC 4987 3.2).
-ghost use Rattle.std.specs.Prelude.{◌≡◌, ◌≤◌, [], IfOk, IfSome, None};
+ghost use Rattle.std.specs.Prelude.{◌≡◌, ◌≤◌, [], IfOk, IfSome, None, length};
 ghost use Rattle.tcp_host.specs.Backlog as spec;
 
 use std::alloc::{AllocError, Global};
@@ -50,6 +50,13 @@ impl Backlog {
         };
         self.places.push_reserved(place);
         oldest
+    }
+
+    /// How many are half-open.
+    pub fn len(&self) -> usize
+        ensures { result ≡ length self.now.places }
+    {
+        self.places.len()
     }
 
     /// The place of the oldest one.

@@ -6,9 +6,12 @@ ghost use Rattle.tcp_host.specs.Table.{IsNowhere, IsPlaceOf};
 ghost use Rattle.tcp_host.specs.Backlog.{first_of};
 ghost use Rattle.tcp_host.specs.Listener.{after_accepting};
 ghost use Rattle.tcp_host.specs.declared.calls.ConnectError.TheVariants.{Unaddressable, InUse, NoPlace};
-ghost use Rattle.tcp_host.specs.Host.{connection_at, slot_at, listener_at, with_listener, IsNextPlace};
+ghost use Rattle.tcp_host.specs.Arrivals.{HasNoPlace};
+ghost use Rattle.tcp_host.specs.Host.{is_program, connection_at, slot_at, listener_at, with_listener};
 ghost use Rattle.tcp_host.specs.Handles as spec;
+ghost use Rattle.tcp_host.specs.Reports.{ending_of};
 
+use crate::alarms::NEVER;
 use crate::arrivals::is_proper;
 use crate::host::TcpHost;
 use crate::iss::{Endpoints, iss};
@@ -36,7 +39,7 @@ pub enum ConnectError {
     /// A connection has these ends.
     #[error("InUse")]
     InUse,
-    /// Each place has a connection that gives way to no other one.
+    /// Each place has a connection that gives way to no other one: none is half-open.
     #[error("NoPlace")]
     NoPlace,
 }
@@ -167,13 +170,14 @@ impl TcpHost {
         }
     }
 
-    /// Why a connection ended before both sides had closed, if it did. None with a wrong handle.
+    /// Why a connection ended before both sides had closed, if it did: `Unreachable` also where it timed out, and since a message said that
+    /// the peer can't be reached nothing had come. None with a wrong handle.
     pub fn ending(&self, handle: Handle) -> Option<Ending>
         ensures wrong { spec.is_named handle self.now ≡ false → result ≡ None }
-        ensures value { spec.is_named handle self.now ≡ true → result ≡ (connection_at handle.place self.now).ending }
+        ensures value { spec.is_named handle self.now ≡ true → result ≡ ending_of (slot_at handle.place self.now) }
     {
         if self.is_named(handle) {
-            self.slots[handle.place].connection.ending()
+            self.slots[handle.place].ending()
         } else {
             None
         }
@@ -284,19 +288,20 @@ impl TcpHost {
         }
         self.slots[place].owner = Owner::Itself(None);
         self.alarms.set(place, 0);
+        self.news.set(place, NEVER);
     }
 
     /// Opens a connection between two ends (RFC 9293 3.10.1, active), at a free place; or at that of the connection whose
-    /// TIME-WAIT ends first, of those of which the program let go. It fails, and nothing changes, if an end isn't a host's or a
-    /// port is 0, if a connection has these ends, also in TIME-WAIT, or if there is no such place.
+    /// TIME-WAIT ends first, of those of which the program let go; or at that of the oldest half-open connection, of a listener
+    /// that has the most of them. It fails, and nothing changes, if an end isn't a host's or a port is 0, if a connection has
+    /// these ends, also in TIME-WAIT, or if there is no such place.
     pub fn connect(&mut self, now: u64, endpoints: &Endpoints) -> Result<Handle, ConnectError>
         ensures unchanged { IsErr result → self.new ≡ self.old }
         ensures unaddressable { result ≡ Err Unaddressable → spec.is_addressable endpoints.now ≡ false }
         ensures addressable { IfOk result (λ _. spec.is_addressable endpoints.now ≡ true) }
         ensures in_use { result ≡ Err InUse → (place : ℕ) × IsPlaceOf endpoints.now self.old.ends place }
-        ensures full { result ≡ Err NoPlace → IsNextPlace self.old None }
-        ensures opened { IfOk result (λ handle. self.new ≡ spec.opened_at handle.place now endpoints.now self.old) }
-        ensures free { IfOk result (λ handle. IsNextPlace self.old (Some handle.place)) }
+        ensures full { result ≡ Err NoPlace → HasNoPlace self.old }
+        ensures opened { IfOk result (λ handle. spec.Opens now endpoints.now handle.place self.old self.new) }
         ensures named { IfOk result (λ handle. spec.is_named handle self.new ≡ true) }
     {
         if !is_addressable(endpoints) {
@@ -305,7 +310,7 @@ impl TcpHost {
         if let Some(_place) = self.find(endpoints) {
             return Err(ConnectError::InUse);
         }
-        let Some(place) = self.next_place() else {
+        let Some(place) = self.make_place() else {
             return Err(ConnectError::NoPlace);
         };
         self.open_at(place, now, endpoints);
@@ -313,7 +318,7 @@ impl TcpHost {
     }
 
     // The handle of the connection at a place.
-    fn handle_of(&self, place: usize) -> Handle
+    pub(crate) fn handle_of(&self, place: usize) -> Handle
         requires { place < length self.now.slots }
         ensures { result ≡ record { place = place; generation = (slot_at place self.now).generation } }
     {
@@ -343,6 +348,7 @@ impl TcpHost {
         match place {
             Some(place) if place < self.slots.len() => {
                 self.slots[place].owner = Owner::Program;
+                self.news.set(place, 0);
                 Some(self.handle_of(place))
             }
             _ => None,
@@ -407,8 +413,8 @@ impl TcpHost {
 }
 
 // Whether the program has a connection.
-fn is_program(owner: Owner) -> bool
-    ensures { result ≡ spec.is_program owner }
+pub(crate) fn is_program(owner: Owner) -> bool
+    ensures { result ≡ is_program owner }
 {
     match owner {
         Owner::Program => true,

@@ -7,6 +7,10 @@ use tcp_machine::settings::Settings;
 /// minutes. For 100 s at least what it sent last is sent again (RFC 9293 3.8.3).
 pub const RELEASE_TIMEOUT: u64 = 120_000_000;
 
+/// How long nothing arrives before the peer of a connection is probed that a listener began, unless a host is made with another
+/// span, in microseconds: two minutes. So one that is gone without a word is given up after twenty.
+pub const ACCEPTED_KEEP_ALIVE: u64 = 120_000_000;
+
 /// What is chosen for a host of connections.
 #[derive(Clone, Copy, Debug)]
 pub struct Config {
@@ -20,6 +24,9 @@ pub struct Config {
     pub mss_v6: u16,
     /// What each connection begins with. The host sets `own_mss` by the family.
     pub settings: Settings,
+    /// How long nothing arrives before the peer of a connection is probed that a listener began, in microseconds (RFC 9293 3.8.4):
+    /// in place of `settings.keep_alive`. With `None` it never is.
+    pub accepted_keep_alive: Option<u64>,
     /// How long a connection may go on of which its program let go, in microseconds: then it is aborted, whatever its peer does.
     pub release_timeout: u64,
     /// The secret of initial numbers (RFC 6528 3).

@@ -33,6 +33,7 @@ pub struct TcpHost {
     pub(crate) table: Table,
     pub(crate) alarms: Alarms,
     pub(crate) taken: Alarms,
+    pub(crate) news: Alarms,
     pub(crate) listeners: Vec<Listener>,
     pub(crate) resets: Bucket,
     pub(crate) config: Config,
@@ -49,13 +50,14 @@ impl Model for TcpHost {
       ends = h.table;
       alarms = h.alarms;
       taken = h.taken;
+      news = h.news;
       listeners = h.listeners.items;
       resets = h.resets;
       config = h.config;
     } };
 
     ghost invariant = { λ h. (length h.table ≡ length h.slots.items) × (length h.alarms ≡ length h.slots.items)
-        × (length h.taken ≡ length h.slots.items) × (1 ≤ length h.slots.items) × (h.config.settings.own_scale ≤ 14)
+        × (length h.taken ≡ length h.slots.items) × (length h.news ≡ length h.slots.items) × (1 ≤ length h.slots.items) × (h.config.settings.own_scale ≤ 14)
         × (h.config.send_room ≤ 2 ^ 30) × (h.config.receive_room ≤ 2 ^ 30) };
 }
 
@@ -70,6 +72,7 @@ impl TcpHost {
         ensures ends { IfOk result (λ h. h.ends ≡ replicate places None) }
         ensures alarms { IfOk result (λ h. h.alarms ≡ replicate places spec.never) }
         ensures taken { IfOk result (λ h. h.taken ≡ replicate places 0) }
+        ensures news { IfOk result (λ h. h.news ≡ replicate places spec.never) }
         ensures listeners { IfOk result (λ h. h.listeners ≡ []) }
         ensures config { IfOk result (λ h. h.config ≡ config.now) }
     {
@@ -86,6 +89,7 @@ impl TcpHost {
                 generation: 0,
                 challenges: CHALLENGES,
                 hop_limit: HOP_LIMIT,
+                reported: None,
             });
         }
         Ok(TcpHost {
@@ -93,6 +97,7 @@ impl TcpHost {
             table: Table::new(alloc, config.table_key, places)?,
             alarms: Alarms::new(alloc, places)?,
             taken: Alarms::filled(alloc, places, 0)?,
+            news: Alarms::new(alloc, places)?,
             listeners: Vec::new(alloc),
             resets: RESETS,
             config: *config,
@@ -118,6 +123,17 @@ impl TcpHost {
         }
     }
 
+    /// What a connection begins with for which a peer of this address asks.
+    pub(crate) fn accepted_settings_for(&self, address: &IpAddress) -> Settings
+        ensures value { result ≡ spec.accepted_settings_for self.now.config address.now }
+        ensures scale { result.own_scale ≤ 14 }
+    {
+        Settings {
+            keep_alive: self.config.accepted_keep_alive,
+            ..self.settings_for(address)
+        }
+    }
+
     /// The most octets of a segment to a peer of this address.
     pub(crate) fn link_mss(&self, address: &IpAddress) -> u16
         ensures { result ≡ spec.link_mss self.now.config address.now }
@@ -128,7 +144,7 @@ impl TcpHost {
         }
     }
 
-    /// The place that the next connection gets: a free one, or else the one whose TIME-WAIT ends first.
+    /// The place that the next connection gets, where no half-open one gives its place: a free one, or else the one whose TIME-WAIT ends first.
     pub(crate) fn next_place(&self) -> Option<usize>
         ensures value { spec.IsNextPlace self.now result }
         ensures within { IfSome result (λ place. place < length self.now.slots) }
@@ -151,6 +167,7 @@ impl TcpHost {
         let _is_new = self.table.insert(place, endpoints);
         self.alarms.set(place, 0);
         self.taken.set(place, NEVER);
+        self.news.set(place, NEVER);
     }
 
     /// A place is free again.

@@ -103,6 +103,13 @@ impl Listener {
         self.half_open.add(place)
     }
 
+    /// How many of its connections are half-open.
+    pub fn half_open_count(&self) -> usize
+        ensures { result ≡ length self.now.half_open.places }
+    {
+        self.half_open.len()
+    }
+
     /// The place of the connection that has been half-open for longest.
     pub fn oldest(&self) -> Option<usize>
         ensures { result ≡ backlog.first_of self.now.half_open.places }

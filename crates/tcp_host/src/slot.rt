@@ -79,6 +79,8 @@ pub struct Slot {
     pub challenges: Bucket,
     /// How many routers its packets may pass.
     pub hop_limit: u8,
+    /// When it was said last that the peer can't be reached, in microseconds, if it was.
+    pub reported: Option<u64>,
 }
 
 impl Slot {
@@ -101,6 +103,7 @@ impl Slot {
           generation = (self.old.generation + 1) % 2 ^ 64;
           challenges = all_challenges;
           hop_limit = default_hop_limit;
+          reported = None;
         } }
     {
         self.connection
@@ -109,6 +112,7 @@ impl Slot {
         self.generation = self.generation.wrapping_add(1);
         self.challenges = CHALLENGES;
         self.hop_limit = HOP_LIMIT;
+        self.reported = None;
     }
 
     /// The program opens a connection.
@@ -121,6 +125,7 @@ impl Slot {
           generation = (self.old.generation + 1) % 2 ^ 64;
           challenges = all_challenges;
           hop_limit = default_hop_limit;
+          reported = None;
         } }
     {
         self.connection.open(now, number, link, settings);
@@ -128,6 +133,7 @@ impl Slot {
         self.generation = self.generation.wrapping_add(1);
         self.challenges = CHALLENGES;
         self.hop_limit = HOP_LIMIT;
+        self.reported = None;
     }
 
     /// Whether the place of a connection of which the program let go is free: its time is over, and that for its reset, too.

@@ -79,9 +79,11 @@ impl TcpHost {
             self.vacate(place);
             return Turn::Quiet;
         }
+        let before = self.seen_at(place);
         self.expire(place, now);
         self.advance(place);
         self.limit(place, now);
+        self.note(place, now, before);
         self.ask(place, now)
     }
 
@@ -337,8 +339,10 @@ impl TcpHost {
         requires { place < length self.old.slots }
         ensures { self.new ≡ spec.aborted_at place self.old }
     {
+        let before = self.seen_at(place);
         self.slots[place].connection.abort();
         self.alarms.set(place, 0);
+        self.note(place, 0, before);
     }
 
     /// When something is due first: `None`, if nothing is due by itself.

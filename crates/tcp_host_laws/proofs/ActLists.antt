@@ -2,7 +2,7 @@
 use Rattle.std.proofs.Common.{◌≡◌, ◌∙◌, ℕ, true, List, [], ◌∷◌, ◌++◌, Option, Some, None, refl, ap}
 use Rattle.tcp_machine.specs.Outgoing.{Action, action}
 use Rattle.tcp_host.specs.Host.{no_settings}
-use Rattle.tcp_laws.specs.Machines.{Side, unopened, Act, Opens, Accepts, Writes, Reads, Closes, Aborts, Chooses, Gets, Expires, Sends}
+use Rattle.tcp_laws.specs.Machines.{Side, unopened, Act, Opens, Accepts, Writes, Reads, Closes, Aborts, Chooses, Fits, Fails, Gets, Expires, Sends}
 use Rattle.tcp_laws.specs.Machines.{after_sending, after_act, Move, OfA, OfB, Pair, after_move, after_moves}
 use Rattle.tcp_host_laws.specs.Lives.{Life, after_acts, side_of, with_act}
 use Rattle.tcp_host_laws.specs.Pairs.{MayMoveAt, AreMovesAt, acts_of_a, acts_of_b}
@@ -59,6 +59,8 @@ act_begun number (Reads count) x is = is
 act_begun number Closes x is = is
 act_begun number Aborts x is = is
 act_begun number (Chooses settings) x is = is
+act_begun number (Fits size) x is = is
+act_begun number Fails x is = is
 act_begun number (Gets default link now keeps k options) x is = is
 act_begun number (Expires now) x is = is
 act_begun number (Sends now) x is = sends_begun now (action now x.connection) x is

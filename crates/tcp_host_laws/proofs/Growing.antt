@@ -15,7 +15,7 @@ use Rattle.tcp_machine.specs.Segments as machine
 use Rattle.tcp_host.specs.declared.iss.Endpoints.{Endpoints}
 use Rattle.tcp_host.specs.Host.{no_settings}
 use Rattle.tcp_sockets.specs.Polls.{State, raw_at}
-use Rattle.tcp_laws.specs.Machines.{Sent, Side, unopened, arrived, Act, Opens, Accepts, Writes, Reads, Closes, Aborts, Chooses, Gets, Expires, Sends}
+use Rattle.tcp_laws.specs.Machines.{Sent, Side, unopened, arrived, Act, Opens, Accepts, Writes, Reads, Closes, Aborts, Chooses, Fits, Fails, Gets, Expires, Sends}
 use Rattle.tcp_laws.specs.Machines.{after_sending, after_act, sent_as}
 use Rattle.tcp_host_laws.specs.Lives.{Life, side_of, Event, Does, Begins, with_act, continued, after_event, after_events, Tells}
 use Rattle.tcp_host_laws.specs.Turns.{Came, MayDo, MayBegin, MayHappen, MayFollow, WasSent, InLife, InNone, Moves, MovesIf, LivesOn}
@@ -54,6 +54,8 @@ sent_kept number (Reads count) x k c = c
 sent_kept number Closes x k c = c
 sent_kept number Aborts x k c = c
 sent_kept number (Chooses settings) x k c = c
+sent_kept number (Fits size) x k c = c
+sent_kept number Fails x k c = c
 sent_kept number (Gets default link now keeps j options) x k c = c
 sent_kept number (Expires now) x k c = c
 sent_kept number (Sends now) x k c = sends_kept now (action now x.connection) x k c
@@ -196,6 +198,8 @@ module _ {L : Type 0} (checked summed : Bool) (own : List IpCidr) (es : List Eve
   may_do e Closes m = m
   may_do e Aborts m = m
   may_do e (Chooses settings) m = m
+  may_do e (Fits size) m = m
+  may_do e Fails m = m
   may_do e (Gets default link now keeps k options) m = came e (arrived k.segment options) m
   may_do e (Expires now) m = m
   may_do e (Sends now) m = m
@@ -208,6 +212,8 @@ module _ {L : Type 0} (checked summed : Bool) (own : List IpCidr) (es : List Eve
   may_begin e Closes m = m
   may_begin e Aborts m = m
   may_begin e (Chooses settings) m = m
+  may_begin e (Fits size) m = m
+  may_begin e Fails m = m
   may_begin e (Gets default link now keeps k options) m = m
   may_begin e (Expires now) m = m
   may_begin e (Sends now) m = m

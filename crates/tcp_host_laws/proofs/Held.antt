@@ -17,14 +17,14 @@ use Rattle.tcp_host.specs.declared.resets.Reset.{Reset}
 use Rattle.tcp_host.specs.declared.slot.Owner.{Owner}
 use Rattle.tcp_host.specs.declared.slot.Owner.TheVariants.{Nobody, Program, Itself}
 use Rattle.tcp_host.specs.declared.slot.Slot.{Slot}
-use Rattle.tcp_host.specs.Arrivals.{Receives, Known, Reopened, Improper, Begun, Unheeded, Answered, Nobody as Unwanted, Begins, TooMany, InFree, InOldest}
-use Rattle.tcp_host.specs.Arrivals.{refused, accepted_at, vacated_if, counted, without_oldest, oldest_in}
+use Rattle.tcp_host.specs.Arrivals.{Receives, Known, Reopened, Improper, Begun, Unheeded, Answered, Nobody as Unwanted, Begins, TooMany, NoPlace, InPlace}
+use Rattle.tcp_host.specs.Arrivals.{refused, accepted_at, vacated_if, counted, without_oldest, FindsPlace, Free, OfHalfOpen}
 use Rattle.tcp_host.specs.Resets.{reset_for}
-use Rattle.tcp_host.specs.Handles.{is_program, is_named, changed, ends_by_itself, released, accepting_at, accepting_from, accepting, is_listener, listener_closed}
-use Rattle.tcp_host.specs.Host.{Host, never, no_slot, is_let_go, slot_at, connection_at, with_slot, with_connection, with_owner, with_alarm, vacated, enrolled}
+use Rattle.tcp_host.specs.Handles.{is_named, changed, ends_by_itself, released, accepting_at, accepting_from, accepting, is_listener, listener_closed, untold}
+use Rattle.tcp_host.specs.Host.{Host, never, no_slot, is_let_go, slot_at, connection_at, with_slot, with_connection, with_owner, with_alarm, vacated, enrolled, is_program}
 use Rattle.tcp_host.specs.Host.{listener_at, with_listener}
 use Rattle.tcp_host_laws.specs.Lives.{Event}
-use Rattle.tcp_host_laws.specs.Calls.{Calls, Connect, Send, Receive, Close, Abort, Choose, Limit, Release, Accept, Listen, CloseListener}
+use Rattle.tcp_host_laws.specs.Calls.{Calls, Connect, Send, Receive, Close, Abort, Choose, Limit, Release, Changed, Accept, Listen, CloseListener, Shorten, Note, Lose}
 use Rattle.tcp_host_laws.specs.Releases.{owner_at}
 use Rattle.tcp_host_laws.proofs.HostSteps.{in_or_past, past_set, kept, accepting_if, accepting_in}
 
@@ -157,7 +157,7 @@ module _ (place : ℕ) (Q : ℕ → Type 0) (zero : Q 0) where
 
     accepted_if : (b : Bool) (p : ℕ) (h : Host) → IsAt until h →
         Then until (accepting_if b p h).1
-    accepted_if true p h at = then_owner p Program h refl at
+    accepted_if true p h at = like (with_owner p Program h) (untold p 0 (with_owner p Program h)) refl refl (then_owner p Program h refl at)
     accepted_if false p h at = inl at
 
     accepted_in : (o : Option ℕ) (h : Host) → IsAt until h → Then until (accepting_at o h).1
@@ -175,17 +175,30 @@ module _ (place : ℕ) (Q : ℕ → Type 0) (zero : Q 0) where
     closed true index h at = inl (record { owner = at.owner; due = at.due })
     closed false index h at = inl at
 
+    -- a place that was free or has given way
+    then_found : (p : ℕ) (h ready : Host) → FindsPlace h p ready → IsAt until h → Then until ready
+    then_found p h ready (Free next is) at = subst (λ (x : Host). Then until x) (sym is) (inl at)
+    then_found p h ready (OfHalfOpen from none most oldest is) at =
+        let one = without_oldest from h in
+        subst (λ (x : Host). Then until x) (sym is) (then_vacated p one (like h one refl refl (inl at)))
+
     pub called : (h : Host) (events : List Event) (new : Host) → Calls h events new → IsAt until h → Then until new
-    called h _ _ (Connect p now e within free) at = then_begun p e _ h refl (inl at)
+    called h _ _ (Connect p now e ready within found) at = then_begun p e _ ready refl (then_found p h ready found at)
     called h _ _ (Send handle octets named) at = inl (at_changed handle.place _ h at)
     called h _ _ (Receive handle count named) at = inl (at_changed handle.place _ h at)
     called h _ _ (Close handle named) at = inl (at_changed handle.place _ h at)
     called h _ _ (Abort handle named) at = inl (at_changed handle.place _ h at)
     called h _ _ (Choose handle settings named) at = inl (at_changed handle.place _ h at)
+    called h _ _ (Shorten place size within) at = inl (at_changed place _ h at)
+    called h _ _ (Note now place within) at = inl (at_slot place (record (slot_at place h) { reported = Some now }) h refl at)
+    called h _ _ (Lose place within) at = inl (at_changed place _ h at)
     called h _ _ (Limit handle hop_limit named) at =
         inl (at_slot handle.place (record (slot_at handle.place h) { hop_limit = hop_limit }) h refl at)
     called h _ _ (Release handle named) at =
-        inl (released_by (ends_by_itself (connection_at handle.place h).state) handle.place h (another handle h named at) at)
+        let x = released_by (ends_by_itself (connection_at handle.place h).state) handle.place h (another handle h named at) at in
+        inl (record { owner = x.owner; due = x.due })
+    called h _ new (Changed told _ tells) at =
+        subst (λ (x : Host). Then until x) (sym tells.rest) (inl (record { owner = at.owner; due = at.due }))
     called h _ _ (Accept index) at = accepted (nat_lt index (length h.listeners)) index h at
     called h _ _ (Listen port address most) at = inl (record { owner = at.owner; due = at.due })
     called h _ _ (CloseListener index) at = closed (is_listener index h) index h at
@@ -211,20 +224,11 @@ module _ (place : ℕ) (Q : ℕ → Type 0) (zero : Q 0) where
       accepts : (p index : ℕ) (mid new : Host) → new ≡ accepted_at p index now e s mid → Then until mid → Then until new
       accepts p index mid new is x = subst (λ (y : Host). Then until y) (sym is) (then_begun p e _ mid refl x)
 
-      oldest_by : (index : ℕ) (o : Option ℕ) (new : Host) → oldest_in index h ≡ o → (oldest_in index h ≡ None → new ≡ h) →
-          ((p : ℕ) → oldest_in index h ≡ Some p →
-          new ≡ accepted_at p index now e s (counted p index (vacated p (without_oldest index h)))) → Then until new
-      oldest_by index None new is none some = stays new (none is)
-      oldest_by index (Some p) new is none some =
-          let one = without_oldest index h in
-          let two = vacated p one in
-          accepts p index (counted p index two) new (some p is)
-          (then_counted p index two (then_vacated p one (like h one refl refl (inl at))))
-
       begins_by : (index : ℕ) (new : Host) → Begins index now e s h new → Then until new
       begins_by index new (TooMany full is) = stays new is
-      begins_by index new (InFree p room free is) = accepts p index (counted p index h) new is (then_counted p index h (inl at))
-      begins_by index new (InOldest room free none some) = oldest_by index (oldest_in index h) new refl none some
+      begins_by index new (NoPlace room none is) = stays new is
+      begins_by index new (InPlace p ready room found is) =
+          accepts p index (counted p index ready) new is (then_counted p index ready (then_found p h ready found at))
 
       refused_by : (o : Option Reset) → Then until (refused now o h).1
       refused_by None = inl at
@@ -236,8 +240,8 @@ module _ (place : ℕ) (Q : ℕ → Type 0) (zero : Q 0) where
       pub received : (answer : Option Reset) (new : Host) → Receives now e s octets h answer new → Then until new
       received answer new (Known p is kept none d) =
           let mid = with_connection p (connection_at p new) h in
-          subst (λ (x : Host). Then until x) (sym d.all_else)
-          (inl (at_alarm p 0 mid (λ e. zero) (at_connection p (connection_at p new) h at)))
+          let x = at_alarm p 0 mid (λ e. zero) (at_connection p (connection_at p new) h at) in
+          subst (λ (y : Host). Then until y) (sym d.all_else) (inl (record { owner = x.owner; due = x.due }))
       received answer new (Reopened p is index reopens none same) =
           let free = vacated p h in
           accepts p index (counted p index free) new same (then_counted p index free (then_vacated p h (inl at)))

@@ -6,7 +6,9 @@ use Rattle.std.proofs.lemmas.Bool.{cases_eq}
 use Rattle.std.proofs.lemmas.Bool.Decides.{nat_tests}
 use Rattle.std.proofs.lemmas.List.{length-set, get_or-set_same, get_or-set_other, get_or_past}
 use Rattle.tcp_machine.specs.Connection.{Connection}
+use Rattle.tcp_host.specs.Reports.{noted as noted_report}
 use Rattle.tcp_host.specs.declared.iss.Endpoints.{Endpoints}
+use Rattle.tcp_host.specs.Arrivals.{FindsPlace, Free, OfHalfOpen, without_oldest}
 use Rattle.tcp_host.specs.Backlog.{first_of}
 use Rattle.tcp_host.specs.Listener.{Listener, after_accepting, after_closing}
 use Rattle.tcp_host.specs.Table.{ends_at}
@@ -14,9 +16,11 @@ use Rattle.tcp_host.specs.declared.slot.Owner.{Owner}
 use Rattle.tcp_host.specs.declared.slot.Owner.TheVariants.{Nobody, Program}
 use Rattle.tcp_host.specs.declared.slot.Slot.{Slot}
 use Rattle.tcp_host.specs.declared.calls.Handle.{Handle}
-use Rattle.tcp_host.specs.Handles.{changed, accepting_at, accepting_from, accepting, is_listener, listener_closed, with_hop_limit}
+use Rattle.tcp_host.specs.Handles.{changed, accepting_at, accepting_from, accepting, is_listener, listener_closed, untold, with_hop_limit}
 use Rattle.tcp_host.specs.Host.{Host, no_slot, slot_at, connection_at, with_slot, with_connection, with_owner, with_alarm, vacated, enrolled}
 use Rattle.tcp_host.specs.Host.{listener_at, with_listener}
+use Rattle.tcp_host.specs.News.{TellsChanged, noted}
+use Rattle.tcp_host.specs.declared.news.Shown.{Shown}
 use Rattle.tcp_host_laws.proofs.LifeLemmas.{Rests, Steps, Starts, rests_then, steps_rests}
 
 -- one of a list
@@ -92,11 +96,27 @@ owner_rests place o h = slot_rests place (record (slot_at place h) { owner = o }
 pub alarm_rests : (place instant : ℕ) (h : Host) → Rests h (with_alarm place instant h)
 alarm_rests place instant h = record { slots = refl; connections = λ q. refl; ends = λ q e is. is }
 
+pub noted_rests : (place now : ℕ) (before : Shown) (h : Host) → Rests h (noted place now before h)
+noted_rests place now before h = record { slots = refl; connections = λ q. refl; ends = λ q e is. is }
+
+pub alarm_noted_rests : (place instant now : ℕ) (before : Shown) (h : Host) → Rests h (noted place now before (with_alarm place instant h))
+alarm_noted_rests place instant now before h = record { slots = refl; connections = λ q. refl; ends = λ q e is. is }
+
+pub untold_rests : (place since : ℕ) (h : Host) → Rests h (untold place since h)
+untold_rests place since h = record { slots = refl; connections = λ q. refl; ends = λ q e is. is }
+
+pub told_rests : (old new : Host) (told : Option Handle) → TellsChanged old told new → Rests old new
+told_rests old new told t =
+    subst (λ (h : Host). Rests old h) (sym t.rest) (record { slots = refl; connections = λ q. refl; ends = λ q e is. is })
+
 pub listener_rests : (index : ℕ) (l : Listener) (h : Host) → Rests h (with_listener index l h)
 listener_rests index l h = record { slots = refl; connections = λ q. refl; ends = λ q e is. is }
 
 pub hops_rest : (place hop_limit : ℕ) (h : Host) → Rests h (with_hop_limit place hop_limit h)
 hops_rest place hop_limit h = slot_rests place (record (slot_at place h) { hop_limit = hop_limit }) h refl
+
+pub report_rests : (now place : ℕ) (h : Host) → Rests h (noted_report now place h)
+report_rests now place h = slot_rests place (record (slot_at place h) { reported = Some now }) h refl
 
 pub vacated_rests : (place : ℕ) (h : Host) → Rests h (vacated place h)
 vacated_rests place h = record {
@@ -104,6 +124,13 @@ vacated_rests place h = record {
   connections = kept (λ (x : Slot). x.connection) h.slots place (record (slot_at place h) { owner = Nobody }) refl;
   ends = without h.ends place;
 }
+
+-- a place that was free or has given way
+pub found_rests : (old : Host) (place : ℕ) (ready : Host) → FindsPlace old place ready → Rests old ready
+found_rests old place ready (Free next is) = subst (λ (h : Host). Rests old h) (sym is) (same old)
+found_rests old place ready (OfHalfOpen from none most oldest is) =
+    let one = without_oldest from old in
+    subst (λ (h : Host). Rests old h) (sym is) (rests_then old one (vacated place one) (listener_rests from _ old) (vacated_rests place one))
 
 -- one connection becomes another one
 pub slot_steps : (place : ℕ) (s : Slot) (h : Host) → Steps place s.connection h (with_slot place s h)
@@ -137,10 +164,12 @@ slot_starts place e s h =
 -- what a listener does
 abbrev pub accepting_if : Bool → ℕ → Host → Option Handle × Host
 accepting_if b place h =
-    if b then (Some (record { place = place; generation = (slot_at place h).generation }), with_owner place Program h) else (None, h)
+    if b then (Some (record { place = place; generation = (slot_at place h).generation }), untold place 0 (with_owner place Program h)) else (None, h)
 
 accepting_by : (b : Bool) (place : ℕ) (h : Host) → Rests h (accepting_if b place h).1
-accepting_by true place h = owner_rests place Program h
+accepting_by true place h =
+    let one = with_owner place Program h in
+    rests_then h one (untold place 0 one) (owner_rests place Program h) (untold_rests place 0 one)
 accepting_by false place h = same h
 
 accepting_place : (o : Option ℕ) (h : Host) → Rests h (accepting_at o h).1

@@ -20,14 +20,15 @@ use Rattle.tcp_host.specs.declared.turns.Turn.TheVariants.{Idle, Quiet, Sends}
 use Rattle.tcp_host.specs.Challenges.{is_challenge_left, slot_after_sending}
 use Rattle.tcp_host.specs.Host.{Host, slot_at, connection_at, with_slot, with_connection, with_owner, with_alarm, vacated, listener_at, with_listener}
 use Rattle.tcp_host.specs.Turns.{expired, completed_in, completed, advanced_by, ended_in, finished_by, due_after, gives_way, taken_until, waiting_until}
-use Rattle.tcp_host.specs.Turns.{rested, limited_by, is_over, advanced, before_sending}
+use Rattle.tcp_host.specs.Turns.{rested, limited, limited_by, is_over, advanced, before_sending}
 use Rattle.tcp_host.specs.Turns.{left_at, turn_by, turn_asked, sent_at, sent_if, postponed, aborted_at, aborted_if, TakesTurn}
 use Rattle.tcp_laws.specs.Machines.{Act, Expires, Aborts}
 use Rattle.tcp_laws.specs.Machines as machines
 use Rattle.tcp_host_laws.specs.Lives.{Life, Does, after_events, Tells}
 use Rattle.tcp_host_laws.specs.Turns.{MayFollow}
 use Rattle.tcp_host_laws.proofs.LifeLemmas.{after_of, side_with, IsLater, Rests, Steps, rests_then, rests_steps, steps_rests, tells_step}
-use Rattle.tcp_host_laws.proofs.HostSteps.{same, owner_rests, alarm_rests, listener_rests, vacated_rests, slot_steps, connection_steps, without}
+use Rattle.tcp_host_laws.proofs.HostSteps.{same, owner_rests, alarm_rests, listener_rests, vacated_rests, slot_steps, connection_steps, without, noted_rests, alarm_noted_rests}
+use Rattle.tcp_host.specs.News.{seen_at}
 use Rattle.tcp_host_laws.proofs.Growing.{after_both, follow_both}
 use Rattle.tcp_host_laws.proofs.Receiving.{Follows, rests}
 
@@ -116,7 +117,7 @@ module _ {L : Type 0} (checked : Bool) (own : List IpCidr) (sockets : Sockets L)
         let c = after_abort (connection_at place old) in
         let mid = with_connection place c old in
         stepped ls old (aborted_at place old) place Aborts t (λ number x. refl) (may_abort ls place)
-        (steps_rests place c old mid (aborted_at place old) (connection_steps place c old) (alarm_rests place 0 mid))
+        (steps_rests place c old mid (aborted_at place old) (connection_steps place c old) (alarm_noted_rests place 0 0 (seen_at place old) mid))
     by false = rests checked own sockets ls old t old (same old)
 
   pub sent_steps : (place now : ℕ) (h : Host) → Steps place (after_of 0 (machines.Sends now) (connection_at place h)) h (sent_at place now h)
@@ -210,8 +211,11 @@ module _ {L : Type 0} (checked : Bool) (own : List IpCidr) (sockets : Sockets L)
       let two = advanced place one in
       let a = expires place now ls old t in
       let b = follows_then ls old one two a (advances_by (slot_at place one).owner place (after_events a.events ls) one a.tells) in
-      follows_then ls old two (before_sending place now old) b
-      (limits_by (slot_at place two).owner place now (after_events b.events ls) two b.tells)
+      let three = limited place now two in
+      let c = follows_then ls old two three b (limits_by (slot_at place two).owner place now (after_events b.events ls) two b.tells) in
+      follows_then ls old three (before_sending place now old) c
+      (rests checked own sockets (after_events c.events ls) three c.tells (before_sending place now old)
+      (noted_rests place now (seen_at place old) three))
 
   -- a turn
   asked_by : (o : Option outgoing.Action) (place now : ℕ) (ls : List Life) (old : Host) → Tells ls old →

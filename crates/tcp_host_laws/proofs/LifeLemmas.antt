@@ -10,7 +10,7 @@ use Rattle.tcp_machine.specs.Outgoing.{Action, action}
 use Rattle.tcp_host.specs.declared.iss.Endpoints.{Endpoints}
 use Rattle.tcp_host.specs.Table.{ends_at}
 use Rattle.tcp_host.specs.Host.{Host, no_settings, connection_at}
-use Rattle.tcp_laws.specs.Machines.{Side, unopened, Act, Opens, Accepts, Writes, Reads, Closes, Aborts, Chooses, Gets, Expires, Sends}
+use Rattle.tcp_laws.specs.Machines.{Side, unopened, Act, Opens, Accepts, Writes, Reads, Closes, Aborts, Chooses, Fits, Fails, Gets, Expires, Sends}
 use Rattle.tcp_laws.specs.Machines.{after_sending, after_act}
 use Rattle.tcp_host_laws.specs.Lives.{Life, after_acts, side_of, newest, with_act, continued, begun, IsLifeOf, Tells}
 
@@ -34,6 +34,8 @@ same_after number (Reads count) x = refl
 same_after number Closes x = refl
 same_after number Aborts x = refl
 same_after number (Chooses settings) x = refl
+same_after number (Fits size) x = refl
+same_after number Fails x = refl
 same_after number (Gets default link now keeps k options) x = refl
 same_after number (Expires now) x = refl
 same_after number (Sends now) x = sends_same now (action now x.connection) x

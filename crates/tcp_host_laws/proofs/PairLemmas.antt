@@ -6,7 +6,7 @@ use Rattle.tcp_machine.specs.Segments as machine
 use Rattle.tcp_machine.specs.Opening.{accepted, after_arrival}
 use Rattle.tcp_host.specs.Host.{no_settings}
 use Rattle.tcp_laws.specs.Machines.{Sent, Side, unopened, arrived, Act, Opens, Accepts, Writes, Reads, Closes}
-use Rattle.tcp_laws.specs.Machines.{Aborts, Chooses, Gets, Expires, Sends, MayAct, with_connection, after_act, Move, OfA, OfB, MayMove}
+use Rattle.tcp_laws.specs.Machines.{Aborts, Chooses, Fits, Fails, Gets, Expires, Sends, MayAct, with_connection, after_act, Move, OfA, OfB, MayMove}
 use Rattle.tcp_laws.specs.Machines.{Pair, after_move, AreMoves, after_moves, StreamHolds}
 use Rattle.tcp_laws.proofs.MachineRuns.{machines_keep}
 use Rattle.tcp_host_laws.specs.Lives.{after_acts, side_of}
@@ -70,6 +70,8 @@ replaces number (Reads count) mine peers may recent = itself number (Reads count
 replaces number Closes mine peers may recent = itself number Closes mine peers may
 replaces number Aborts mine peers may recent = itself number Aborts mine peers may
 replaces number (Chooses settings) mine peers may recent = itself number (Chooses settings) mine peers may
+replaces number (Fits size) mine peers may recent = itself number (Fits size) mine peers may
+replaces number Fails mine peers may recent = itself number Fails mine peers may
 replaces number (Gets default link now keeps k options) mine peers may recent =
     gets number default link now keeps k options mine peers may.0 may.1 recent
 replaces number (Expires now) mine peers may recent = itself number (Expires now) mine peers may

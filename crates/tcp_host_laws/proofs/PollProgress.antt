@@ -8,7 +8,7 @@ use Rattle.socket_set.specs.SocketSet.{Sockets}
 use Rattle.tcp_machine.specs.Segments as machine
 use Rattle.tcp_host.specs.declared.iss.Endpoints.{Endpoints}
 use Rattle.tcp_host.specs.Host.{no_settings}
-use Rattle.tcp_laws.specs.Machines.{Side, unopened, arrived, Act, Opens, Accepts, Writes, Reads, Closes, Aborts, Chooses, Gets, Expires, Sends}
+use Rattle.tcp_laws.specs.Machines.{Side, unopened, arrived, Act, Opens, Accepts, Writes, Reads, Closes, Aborts, Chooses, Fits, Fails, Gets, Expires, Sends}
 use Rattle.tcp_host_laws.specs.Lives.{Life, side_of, Event, Does, Begins, newest, with_act, continued, begun, after_event, after_events}
 use Rattle.tcp_host_laws.specs.Turns.{Came, MayDo, MayBegin, IsBeginning, MayHappen, MayFollow}
 use Rattle.tcp_host_laws.specs.Pairs.{StandsFor, MayCome, OfPeer, OfAnyone, MayDoAt}
@@ -50,6 +50,8 @@ module _ {L : Type 0} (checked : Bool) (own : List IpCidr) (sockets : Sockets L)
   begins_begun e place number room size Closes m = absurd m
   begins_begun e place number room size Aborts m = absurd m
   begins_begun e place number room size (Chooses settings) m = absurd m
+  begins_begun e place number room size (Fits octets) m = absurd m
+  begins_begun e place number room size Fails m = absurd m
   begins_begun e place number room size (Gets default link now keeps k options) m = absurd m
   begins_begun e place number room size (Expires now) m = absurd m
   begins_begun e place number room size (Sends now) m = absurd m
@@ -74,6 +76,8 @@ module _ {L : Type 0} (checked : Bool) (own : List IpCidr) (sockets : Sockets L)
     may_do Closes mine is m = absurd m
     may_do Aborts mine is m = is
     may_do (Chooses settings) mine is m = absurd m
+    may_do (Fits octets) mine is m = absurd m
+    may_do Fails mine is m = absurd m
     may_do (Gets default link now keeps k options) mine is m = (is, comes (arrived k.segment options) m)
     may_do (Expires now) mine is m = is
     may_do (Sends now) mine is m = is
@@ -91,6 +95,8 @@ module _ {L : Type 0} (checked : Bool) (own : List IpCidr) (sockets : Sockets L)
     may_begin Closes room size m = absurd m
     may_begin Aborts room size m = absurd m
     may_begin (Chooses settings) room size m = absurd m
+    may_begin (Fits octets) room size m = absurd m
+    may_begin Fails room size m = absurd m
     may_begin (Gets default link now keeps k options) room size m = absurd m
     may_begin (Expires now) room size m = absurd m
     may_begin (Sends now) room size m = absurd m

@@ -29,7 +29,7 @@ use Rattle.tcp_sockets.specs.Sending.{version_of, is_packet}
 use Rattle.tcp_sockets.proofs.AgainLemmas.{segments_are_read_again}
 use Rattle.tcp_sockets.proofs.ResetLemmas.{resets_are_read_again}
 use Rattle.tcp_laws.specs.Machines.{Sent, Side, unopened, sent_as, arrived}
-use Rattle.tcp_laws.specs.Machines.{Act, Opens, Accepts, Writes, Reads, Closes, Aborts, Chooses, Gets, Expires, Sends, after_sending, after_act}
+use Rattle.tcp_laws.specs.Machines.{Act, Opens, Accepts, Writes, Reads, Closes, Aborts, Chooses, Fits as Shortens, Fails, Gets, Expires, Sends, after_sending, after_act}
 use Rattle.tcp_host_laws.specs.Lives.{Life, after_acts, side_of}
 use Rattle.tcp_host_laws.specs.Turns.{WasSent, InLife, InNone, IsSegmentOf}
 use Rattle.tcp_host_laws.specs.Readings.{OfLife, OfAnyone, IsReadAsSent, WhatWasSentIsRead}
@@ -105,6 +105,8 @@ act_sendable number (Reads count) x all = all
 act_sendable number Closes x all = all
 act_sendable number Aborts x all = all
 act_sendable number (Chooses settings) x all = all
+act_sendable number (Shortens size) x all = all
+act_sendable number Fails x all = all
 act_sendable number (Gets default link now keeps j options) x all = all
 act_sendable number (Expires now) x all = all
 act_sendable number (Sends now) x all = after_sending_sendable now (action now x.connection) x all

@@ -29,16 +29,17 @@ use Rattle.tcp_host.specs.Iss.{iss}
 use Rattle.tcp_host.specs.declared.resets.Reset.{Reset}
 use Rattle.tcp_host.specs.Renewal.{is_renewed_by}
 use Rattle.tcp_host.specs.Resets.{reset_for, begins}
-use Rattle.tcp_host.specs.Host.{Host, slot_at, connection_at, is_let_go, with_alarm, with_connection, vacated, default_mss, link_mss, settings_for, listener_at, with_listener}
-use Rattle.tcp_host.specs.Arrivals.{Delivers, Receives, Known, Reopened, Improper, Begun, Unheeded, Answered, Nobody, Begins, TooMany, InFree, InOldest}
-use Rattle.tcp_host.specs.Arrivals.{refused, accepted_at, vacated_if, counted, without_oldest, oldest_in}
+use Rattle.tcp_host.specs.Host.{Host, slot_at, connection_at, is_let_go, with_alarm, with_connection, vacated, default_mss, link_mss, accepted_settings_for, listener_at, with_listener}
+use Rattle.tcp_host.specs.Arrivals.{Delivers, Receives, Known, Reopened, Improper, Begun, Unheeded, Answered, Nobody, Begins, TooMany, NoPlace, InPlace}
+use Rattle.tcp_host.specs.News.{noted, seen_at}
+use Rattle.tcp_host.specs.Arrivals.{refused, accepted_at, vacated_if, counted}
 use Rattle.tcp_sockets.specs.Arrivals.{HasSegment, is_for_host}
 use Rattle.tcp_laws.specs.Machines.{Sent, Accepts, Gets}
 use Rattle.tcp_host_laws.specs.Lives.{Life, side_of, Event, Does, newest, begun, after_events, IsLifeOf, Tells}
 use Rattle.tcp_host_laws.specs.Lives as lives
 use Rattle.tcp_host_laws.specs.Turns.{Came, MayFollow}
 use Rattle.tcp_host_laws.proofs.LifeLemmas.{after_of, Rests, Steps, Starts, rests_then, rests_starts, steps_rests, tells_rest, tells_step, tells_start}
-use Rattle.tcp_host_laws.proofs.HostSteps.{in_or_past, same, alarm_rests, listener_rests, vacated_rests, connection_steps, slot_starts}
+use Rattle.tcp_host_laws.proofs.HostSteps.{in_or_past, same, found_rests, alarm_noted_rests, listener_rests, vacated_rests, connection_steps, slot_starts}
 
 -- what happens at a host, without its program
 pub record Follows {L : Type 0} (checked : Bool) (own : List IpCidr) (sockets : Sockets L) (ls : List Life) (old new : Host) : Type 0 where
@@ -102,7 +103,8 @@ module _ {L : Type 0} (checked : Bool) (own : List IpCidr) (sockets : Sockets L)
         let c = connection_at place new in
         let mid = with_connection place c old in
         let steps : Steps place c old new = subst (λ (h : Host). Steps place c old h) (sym d.all_else)
-        (steps_rests place c old mid (with_alarm place 0 mid) (connection_steps place c old) (alarm_rests place 0 mid)) in
+        (steps_rests place c old mid (noted place now (seen_at place old) (with_alarm place 0 mid)) (connection_steps place c old)
+        (alarm_noted_rests place 0 now (seen_at place old) mid)) in
         let is : Steps place (after_of 0 act (connection_at place old)) old new = subst (λ (x : Connection). Steps place x old new) d.arrives.is steps in
         record {
           events = Does place act ∷ [];
@@ -135,7 +137,7 @@ module _ {L : Type 0} (checked : Bool) (own : List IpCidr) (sockets : Sockets L)
     accepts place index mid new begin r is =
         let default = default_mss e.remote_addr in
         let link = link_mss mid.config e.remote_addr in
-        let settings = settings_for mid.config e.remote_addr in
+        let settings = accepted_settings_for mid.config e.remote_addr in
         let number = iss mid.config.number_key e now in
         let c = connection_at place mid in
         let room = c.transmission.sender.room in
@@ -157,22 +159,12 @@ module _ {L : Type 0} (checked : Bool) (own : List IpCidr) (sockets : Sockets L)
           slots = three.slots;
         }
 
-    oldest_by : (index : ℕ) (o : Option ℕ) (new : Host) → begins s ≡ true → oldest_in index old ≡ o → (oldest_in index old ≡ None → new ≡ old) →
-        ((place : ℕ) → oldest_in index old ≡ Some place →
-        new ≡ accepted_at place index now e s (counted place index (vacated place (without_oldest index old)))) → Follows checked own sockets ls old new
-    oldest_by index None new begin is none some = stays new (none is)
-    oldest_by index (Some place) new begin is none some =
-        let one = without_oldest index old in
-        let two = vacated place one in
-        accepts place index (counted place index two) new begin
-        (rests_then old one (counted place index two) (listener_rests index _ old)
-        (rests_then one two (counted place index two) (vacated_rests place one) (counted_rests place index two)))
-        (some place is)
-
     begin_follows : (index : ℕ) (new : Host) → begins s ≡ true → Begins index now e s old new → Follows checked own sockets ls old new
     begin_follows index new begin (TooMany full is) = stays new is
-    begin_follows index new begin (InFree place room free is) = accepts place index (counted place index old) new begin (counted_rests place index old) is
-    begin_follows index new begin (InOldest room free none some) = oldest_by index (oldest_in index old) new begin refl none some
+    begin_follows index new begin (NoPlace room none is) = stays new is
+    begin_follows index new begin (InPlace place ready room found is) =
+        accepts place index (counted place index ready) new begin
+        (rests_then old ready (counted place index ready) (found_rests old place ready found) (counted_rests place index ready)) is
 
     -- or nobody wants it
     refused_rests : (o : Option Reset) → Rests old (refused now o old).1

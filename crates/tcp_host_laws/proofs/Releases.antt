@@ -28,8 +28,9 @@ use Rattle.tcp_host.specs.declared.slot.Owner.TheVariants.{Nobody, HalfOpen, Wai
 use Rattle.tcp_host.specs.declared.slot.Slot.{Slot}
 use Rattle.tcp_host.specs.declared.turns.Turn.{Turn}
 use Rattle.tcp_host.specs.declared.turns.Turn.TheVariants.{Idle, Quiet}
-use Rattle.tcp_host.specs.Handles.{is_program, is_named, ends_by_itself, released}
-use Rattle.tcp_host.specs.Host.{Host, never, no_slot, is_let_go, limit_of, slot_at, connection_at, with_slot, with_connection, with_owner, with_alarm, vacated, listener_at, with_listener}
+use Rattle.tcp_host.specs.Handles.{is_named, ends_by_itself, released}
+use Rattle.tcp_host.specs.News.{noted, seen_at}
+use Rattle.tcp_host.specs.Host.{Host, is_program, never, no_slot, is_let_go, limit_of, slot_at, connection_at, with_slot, with_connection, with_owner, with_alarm, vacated, listener_at, with_listener}
 use Rattle.tcp_host.specs.Turns.{TakesTurn, over_at, is_over, expired, completed_in, completed, advanced_by, advanced, limited_by, limited, before_sending}
 use Rattle.tcp_host.specs.Turns.{turn_by, turn_asked, turn_at, left_at, ended_in, finished_by, rested, again_at, not_after, due_after, gives_way, taken_until, waiting_until}
 use Rattle.tcp_host.specs.Turns.{sent_at, sent_if, postponed, aborted_at, aborted_if, time_for_a_reset}
@@ -181,7 +182,8 @@ module _ (place : ℕ) (Q : ℕ → Type 0) (down : (a b : ℕ) → a ≤ b → 
         let one = expired p now h in
         let two = advanced p one in
         let a = o_connection h (after_timers now (connection_at p h)) at in
-        o_limited (slot_at p two).owner now two (o_advanced (slot_at p one).owner one a)
+        let x = o_limited (slot_at p two).owner now two (o_advanced (slot_at p one).owner one a) in
+        record { owner = x.owner; due = x.due }
 
     o_turned : (early late : Bool) (now : ℕ) (h : Host) → At until h → At until (turned early late p now h).1
     o_turned true late now h at = at
@@ -249,7 +251,8 @@ module _ (place : ℕ) (Q : ℕ → Type 0) (down : (a b : ℕ) → a ≤ b → 
         let c = after_timers now (connection_at place h) in
         let one = expired place now h in
         let a = advances one (at_connection place Q zero (Some until) place c h at) in
-        asks (before_sending place now h) (limits (advanced place one) a)
+        let x = limits (advanced place one) a in
+        asks (before_sending place now h) (record { owner = x.owner; due = x.due })
 
   -- the first one after its program let go
   first_turn : (now : ℕ) (h : Host) → get_or h.alarms place 0 ≤ now → Q now → Q (limit now h) → At None h → Stays (Some (limit now h)) (turn_at place now h).1
@@ -261,13 +264,15 @@ module _ (place : ℕ) (Q : ℕ → Type 0) (down : (a b : ℕ) → a ≤ b → 
       let two : advanced place one ≡ one = ap (λ (o : Owner). advanced_by o place one) a.owner in
       let last = with_owner place (Itself (Some (limit now h))) one in
       let three : limited place now one ≡ last = ap (λ (o : Owner). limited_by o place now one) a.owner in
-      let before : before_sending place now h ≡ last = ap (λ (x : Host). limited place now x) two ∙ three in
-      let b : At (Some (limit now h)) last =
+      let told = noted place now (seen_at place h) last in
+      let before : before_sending place now h ≡ told =
+      ap (λ (x : Host). noted place now (seen_at place h) x) (ap (λ (x : Host). limited place now x) two ∙ three) in
+      let b : At (Some (limit now h)) told =
       record { owner = slot_owner place (record (slot_at place one) { owner = Itself (Some (limit now h)) }) one within; due = a.due } in
       subst (λ (x : Host). Stays (Some (limit now h)) x)
       (sym (goes_on (nat_lt now (get_or h.alarms place 0)) (is_over now (slot_at place h)) place now h (is_due now (get_or h.alarms place 0) due) late
       ∙ ap (λ (x : Host). (turn_asked place now x).1) before))
-      (asks (limit now h) now q r last b)
+      (asks (limit now h) now q r told b)
 
   -- all that is done
   abbrev Meets : Deed → Type 0
@@ -288,7 +293,8 @@ module _ (place : ℕ) (Q : ℕ → Type 0) (down : (a b : ℕ) → a ≤ b → 
   aborted_by : (b : Bool) (until : Option ℕ) (p : ℕ) (h : Host) → At until h → At until (if b then aborted_at p h else h)
   aborted_by true until p h at =
       let c = after_abort (connection_at p h) in
-      at_alarm place Q zero until p 0 (with_connection p c h) (λ e. zero) (at_connection place Q zero until p c h at)
+      let x = at_alarm place Q zero until p 0 (with_connection p c h) (λ e. zero) (at_connection place Q zero until p c h at) in
+      record { owner = x.owner; due = x.due }
   aborted_by false until p h at = at
 
   turned_to : (now : ℕ) (old new : Host) (turn : Turn) (taken : TakesTurn now old turn new) (p : ℕ) → taken.place ≡ p →
@@ -531,7 +537,8 @@ module _ (place now until : ℕ) where
       let three : limited place now one ≡ last =
       ap (λ (o : Owner). limited_by o place now one) one_is
       ∙ ap (λ (b : Bool). if b then with_connection place c one else one) (has_come now until come) in
-      let before : before_sending place now h ≡ last = ap (λ (x : Host). limited place now x) two ∙ three in
+      let before : before_sending place now h ≡ noted place now (seen_at place h) last =
+      ap (λ (x : Host). noted place now (seen_at place h) x) (ap (λ (x : Host). limited place now x) two ∙ three) in
       let t = record (slot_at place one) { connection = c } in
       subst (λ (x : Host). IsOut x) (sym before) (record {
         within = subst (λ (n : ℕ). place < n) (sym (length-set one.slots place t)) one_within;

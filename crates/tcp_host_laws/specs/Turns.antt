@@ -14,7 +14,7 @@ use Rattle.tcp_sockets.specs.Arrivals.{HasSegment, arrived_in}
 use Rattle.tcp_sockets.specs.Packets.{Segment, reset_between, packet_text}
 use Rattle.tcp_sockets.specs.Sending.{is_packet}
 use Rattle.tcp_sockets.specs.Polls.{State, raw_at}
-use Rattle.tcp_laws.specs.Machines.{Sent, arrived, Act, Opens, Accepts, Writes, Reads, Closes, Aborts, Chooses, Gets, Expires, Sends}
+use Rattle.tcp_laws.specs.Machines.{Sent, arrived, Act, Opens, Accepts, Writes, Reads, Closes, Aborts, Chooses, Fits, Fails, Gets, Expires, Sends}
 use Rattle.tcp_host_laws.specs.Lives.{Life, side_of, Event, Does, Begins, newest, after_event, after_events, Tells}
 
 -- A segment between these ends, the remote one being where it came from, stands in a packet for the host that waits at
@@ -41,6 +41,8 @@ MayDo checked own sockets e (Reads count) = ⊥
 MayDo checked own sockets e Closes = ⊥
 MayDo checked own sockets e Aborts = Unit {0}
 MayDo checked own sockets e (Chooses settings) = ⊥
+MayDo checked own sockets e (Fits size) = ⊥
+MayDo checked own sockets e Fails = ⊥
 MayDo checked own sockets e (Gets default link now keeps k options) =
     Came checked own sockets e (arrived k.segment options)
 MayDo checked own sockets e (Expires now) = Unit {0}

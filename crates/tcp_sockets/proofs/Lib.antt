@@ -7,3 +7,4 @@ pub mod LawLemmas
 pub mod PollLemmas
 pub mod QueueLemmas
 pub mod TurnLemmas
+pub mod StrandedLemmas

@@ -1,9 +1,10 @@
 -- Segments in packets: which ones a host of connections takes (RFC 9293 3.9.2.3, RFC 1122 4.2.3.10).
-use Rattle.std.specs.Prelude.{◌≡◌, ℕ, ◌<◌, ◌^◌, ◌==◌, ◌&&◌, not, Bool, true, false, List, length, Option, Some, None}
+use Rattle.std.specs.Prelude.{◌≡◌, ℕ, ◌/◌, ◌<◌, ◌^◌, ◌==◌, ◌&&◌, not, Bool, true, false, List, length, Option, Some, None, if◌then◌else◌}
 use Rattle.std.specs.List.{list_any}
 use Rattle.std.specs.Option.{SomeIff, option_map}
 use Rattle.ip_address.specs.Cidr.{address_of, broadcast_of}
 use Rattle.ip_address.specs.Ip.{is_unicast}
+use Rattle.ip_address.specs.Ipv6 as ipv6
 use Rattle.ip_address.specs.Protocol.{number_of}
 use Rattle.ip_address.specs.declared.ip.IpAddress.{IpAddress}
 use Rattle.ip_address.specs.declared.ip.IpAddress.TheVariants as address
@@ -51,9 +52,18 @@ is_broadcast_of (address.Ipv6 a) (cidr.Ipv6 c) = false
 abbrev pub is_broadcast : List IpCidr → IpAddress → Bool
 is_broadcast own a = list_any (λ c. is_broadcast_of a c) own
 
+-- A loopback address, of 127/8 or ::1, stands in no packet that came by a link (RFC 1122 3.2.1.3, RFC 4291 2.5.3): a host has packets
+-- from one only from itself, and to another one
+abbrev pub is_loopback : IpAddress → Bool
+is_loopback (address.Ipv4 a) = a.bits / 16777216 == 127
+is_loopback (address.Ipv6 a) = ipv6.is_loopback a
+
+abbrev pub may_come : (src dst : IpAddress) → Bool
+may_come src dst = if is_loopback src then is_loopback dst else not (is_loopback dst)
+
 -- a packet between two addresses goes from one host to this one
 abbrev pub is_for_host : List IpCidr → (src dst : IpAddress) → Bool
-is_for_host own src dst = is_own own dst && is_unicast dst && is_unicast src && not (is_broadcast own src)
+is_for_host own src dst = is_own own dst && is_unicast dst && is_unicast src && not (is_broadcast own src) && may_come src dst
 
 -- a packet with a segment for this host; its checksum is right, if it is verified
 pub record HasSegment (checked : Bool) (own : List IpCidr) (p : Sent) : Type 0 where

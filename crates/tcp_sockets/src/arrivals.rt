@@ -27,6 +27,7 @@ pub struct Arrival<'p> {
 /// - the octets aren't a packet of this version of IP, or it isn't one of TCP;
 /// - its destination isn't one of the host's addresses, or isn't unicast;
 /// - its source isn't unicast, or is the broadcast address of a network of the host;
+/// - its source is a loopback address, of 127/8 or ::1, and its destination isn't one, or the other way round;
 /// - what it carries isn't a segment; with `checked`, the segment's checksum is wrong.
 pub fn arrival_in<'p>(
     octets: &'p [u8],
@@ -69,7 +70,32 @@ fn arrival_of<'p>(packet: &Packet<'p>, own: &[IpCidr], checked: bool) -> Option<
 fn is_for_host(src: &IpAddress, dst: &IpAddress, own: &[IpCidr]) -> bool
     ensures { result ≡ spec.is_for_host own.now src.now dst.now }
 {
-    is_own(dst, own) && dst.is_unicast() && src.is_unicast() && !is_broadcast(src, own)
+    is_own(dst, own)
+        && dst.is_unicast()
+        && src.is_unicast()
+        && !is_broadcast(src, own)
+        && may_come(src, dst)
+}
+
+// Whether a packet between two addresses may come by a link, or both are loopback addresses.
+fn may_come(src: &IpAddress, dst: &IpAddress) -> bool
+    ensures { result ≡ spec.may_come src.now dst.now }
+{
+    if is_loopback(src) {
+        is_loopback(dst)
+    } else {
+        !is_loopback(dst)
+    }
+}
+
+/// Whether an address is one of 127/8, or ::1: no packet that came by a link is from or to one (RFC 1122 3.2.1.3, RFC 4291 2.5.3).
+pub fn is_loopback(address: &IpAddress) -> bool
+    ensures { result ≡ spec.is_loopback address.now }
+{
+    match address {
+        IpAddress::Ipv4(address) => address.bits / 0x0100_0000 == 127,
+        IpAddress::Ipv6(address) => address.is_loopback(),
+    }
 }
 
 /// Whether an address is one of a host's.

@@ -15,7 +15,7 @@ returns c =
       c.iss-number.ensures,
       c.default_mss-default.ensures,
       c.link_mss-link.ensures,
-      c.settings_for-settings.ensures.value,
+      c.accepted_settings_for-settings.ensures.value,
       slot,
       ← v,
     )
