@@ -1,3 +1,6 @@
+mod ErrorCalls
+mod ErrorExamples
+mod ErrorLaws
 mod FragmentRoom
 mod FrameCalls
 mod LeasedCalls

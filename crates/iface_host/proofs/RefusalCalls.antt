@@ -7,6 +7,8 @@ use Rattle.std.proofs.lemmas.List.{length-append}
 use Rattle.std.proofs.lemmas.Bool.{le-leb, leb-true, lt-ltb, ltb-true}
 use Rattle.ip_address.specs.Ip.{is_multicast}
 use Rattle.ip_address.specs.declared.cidr.IpCidr.{IpCidr}
+use Rattle.ip_address.specs.declared.cidr.Ipv4Cidr.{Ipv4Cidr}
+use Rattle.ip_address.specs.declared.ipv4.Ipv4Address.{Ipv4Address}
 use Rattle.ip_address.specs.declared.ip.IpAddress.{IpAddress}
 use Rattle.iface_tables.specs.Groups.{is_refused}
 use Rattle.iface_tables.specs.declared.groups.Group.{Group}
@@ -32,9 +34,9 @@ use Rattle.host_machine.specs.declared.results.MulticastError.TheVariants.{Group
 use Rattle.host_machine.specs.declared.results.TimeoutError.{TimeoutError}
 use Rattle.interface.specs.Stands as interface
 use Rattle.interface.specs.declared.interface.Interface.{Interface}
-use Rattle.iface_host.specs.Calls.{addr_room_of, addresses_of, is_same, is_to, route_room_of, routes_of}
+use Rattle.iface_host.specs.Calls.{addr_room_of, addresses_of, is_same, is_to, is_way, route_room_of, routes_of}
 use Rattle.iface_host.specs.TableRefusals.{address_refusal, addresses_refusal, join_refusal, leave_refusal, list_refusal, removal_refusal}
-use Rattle.iface_host.specs.TableRefusals.{end_refusal, route_refusal, route_removal_refusal}
+use Rattle.iface_host.specs.TableRefusals.{end_refusal, route_refusal, route_removal_refusal, way_removal_refusal}
 use Rattle.iface_host.specs.declared.host.IfaceHost.{IfaceHost}
 use Rattle.iface_host.specs.declared.refusal.Refusal.{Refusal}
 use Rattle.iface_host.specs.declared.refusal.Refusal.TheVariants.{BadAddress, NotThere, NotUnicast, TableFull}
@@ -190,6 +192,14 @@ route_none host own cidr i is at le = rw (← is, ← at, behind i (length own) 
 pub route_there : (host : IfaceHost) (own : List Route) (cidr : IpCidr) (i : ℕ) → own ≡ routes_of host →
     i ≡ position_or_len (is_to cidr) own → i < length own → None ≡ route_removal_refusal host cidr
 route_there host own cidr i is at lt = rw (← is, ← at, there i (length own) lt) refl
+
+pub way_none : (host : IfaceHost) (own : List Route) (network : Ipv4Cidr) (router : Ipv4Address) (i : ℕ) → own ≡ routes_of host →
+    i ≡ position_or_len (is_way network router) own → length own ≤ i → Some NotThere ≡ way_removal_refusal host network router
+way_none host own network router i is at le = rw (← is, ← at, behind i (length own) le) refl
+
+pub way_there : (host : IfaceHost) (own : List Route) (network : Ipv4Cidr) (router : Ipv4Address) (i : ℕ) → own ≡ routes_of host →
+    i ≡ position_or_len (is_way network router) own → i < length own → None ≡ way_removal_refusal host network router
+way_there host own network router i is at lt = rw (← is, ← at, there i (length own) lt) refl
 
 -- a time that is at most a day isn't refused
 pub waits_within : (i i' : Interface) (timeout : ℕ) (e : TimeoutError) → IsThere i → timeout ≤ 86_400_000_000 → (s : SocketSet) →

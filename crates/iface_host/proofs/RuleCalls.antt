@@ -3,6 +3,8 @@ use Rattle.std.proofs.Common.{◌≡◌, ◌≤◌, arith, length, ℕ, Bool, tr
 use Rattle.std.specs.Box.{with_value}
 use Rattle.std.specs.Prelude.{OnErr, OnOk}
 use Rattle.ip_address.specs.declared.cidr.IpCidr.{IpCidr}
+use Rattle.ip_address.specs.declared.cidr.Ipv4Cidr.{Ipv4Cidr}
+use Rattle.ip_address.specs.declared.ipv4.Ipv4Address.{Ipv4Address}
 use Rattle.ip_address.specs.declared.ip.IpAddress.{IpAddress}
 use Rattle.iface_tables.specs.declared.route.Route.{Route}
 use Rattle.iface_tables.specs.declared.route.RouteTableFull.{RouteTableFull}
@@ -25,7 +27,7 @@ use Rattle.interface.proofs.SettingCalls.{routes_become}
 use Rattle.interface.specs.declared.interface.Interface.{Interface}
 use Rattle.iface_host.specs.declared.host.IfaceHost.{IfaceHost}
 use Rattle.iface_host.specs.declared.refusal.Refusal.{Refusal}
-use Rattle.iface_host.specs.Calls.{RemovesRoute, is_to}
+use Rattle.iface_host.specs.Calls.{RemovesRoute, RemovesRouteBy, is_to, is_way}
 use Rattle.iface_host.specs.Stands.{Follows, StandsFor, Stays}
 use Rattle.std.specs.List.{position_or_len, remove}
 
@@ -217,6 +219,20 @@ removed old i network index at b = record {
     host = record H { routes = remove H.routes index };
     follows = ap (λ (n : ℕ). record H { routes = remove H.routes n })
         (at ∙ ap (λ (K : Machine). position_or_len (is_to network) K.routes) (sym h.same));
+    stands = b old.sockets H h;
+  };
+  rest = refl;
+}
+
+pub removed_by : (old : IfaceHost) (i : Interface) (network : Ipv4Cidr) (router : Ipv4Address) (index : ℕ) →
+    index ≡ position_or_len (is_way network router) (host_with old.interface.value no_sockets).routes →
+    Becomes old.interface.value i (λ H. record H { routes = remove H.routes index }) →
+    Follows (RemovesRouteBy network router) old (with_interface old i)
+removed_by old i network router index at b = record {
+  led = λ H h. record {
+    host = record H { routes = remove H.routes index };
+    follows = ap (λ (n : ℕ). record H { routes = remove H.routes n })
+        (at ∙ ap (λ (K : Machine). position_or_len (is_way network router) K.routes) (sym h.same));
     stands = b old.sockets H h;
   };
   rest = refl;

@@ -3,7 +3,9 @@ use Rattle.std.specs.Prelude.{ℕ, ℤ, ◌≡◌, ◌==◌, ◌&&◌, ◌||◌,
 use Rattle.std.specs.List.{list_any, position_or_len, remove}
 use Rattle.ip_address.specs.declared.cidr.IpCidr.{IpCidr}
 use Rattle.ip_address.specs.declared.cidr.IpCidr.TheVariants as cidr
+use Rattle.ip_address.specs.declared.cidr.Ipv4Cidr.{Ipv4Cidr}
 use Rattle.ip_address.specs.declared.ip.IpAddress.{IpAddress}
+use Rattle.ip_address.specs.declared.ipv4.Ipv4Address.{Ipv4Address}
 use Rattle.ip_address.specs.declared.ip.IpAddress.TheVariants as address
 use Rattle.iface_tables.specs.declared.groups.Group.{Group}
 use Rattle.iface_tables.specs.declared.route.Route.{Route}
@@ -95,3 +97,14 @@ is_to network route = is_same network route.cidr
 
 abbrev pub RemovesRoute : IpCidr → Machine → Machine → Type 0
 RemovesRoute network H H' = H' ≡ record H { routes = remove H.routes (position_or_len (is_to network) H.routes) }
+
+-- a route to a network of IPv4 by a router
+abbrev pub is_via : Ipv4Address → IpAddress → Bool
+is_via router (address.Ipv4 a) = a.bits == router.bits
+is_via router (address.Ipv6 a) = false
+
+abbrev pub is_way : Ipv4Cidr → Ipv4Address → Route → Bool
+is_way network router route = is_same (cidr.Ipv4 network) route.cidr && is_via router route.via_router
+
+abbrev pub RemovesRouteBy : Ipv4Cidr → Ipv4Address → Machine → Machine → Type 0
+RemovesRouteBy network router H H' = H' ≡ record H { routes = remove H.routes (position_or_len (is_way network router) H.routes) }

@@ -13,6 +13,10 @@ pub mod Refusals
 pub mod TableRefusals
 pub mod Segments
 pub mod Counters
+pub mod Errors
+pub mod ErrorExamples
+pub mod ErrorLaws
+pub mod LastErrors
 pub mod Frames
 pub mod Fragments
 pub mod FragmentLaws

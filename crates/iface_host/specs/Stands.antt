@@ -1,5 +1,5 @@
 -- Which host of the machine a host stands for.
-use Rattle.std.specs.Prelude.{◌≡◌, ◌≤◌, ◌<◌, ℕ, ◌+◌, ◌*◌, ◌==◌, min, false, replicate, None, if◌then◌else◌}
+use Rattle.std.specs.Prelude.{◌≡◌, ◌≤◌, ◌<◌, ℕ, ◌+◌, ◌*◌, ◌==◌, min, false, [], replicate, None, if◌then◌else◌}
 use Rattle.std.specs.Borrow.{Bor}
 use Rattle.egress_schedule.specs.Plan.{first_plan}
 use Rattle.net_base.specs.Checksum.{ip_mtu_of}
@@ -69,7 +69,7 @@ abbrev pub watch_for : Settings → Watch
 watch_for s = watch_on s.hardware_addr s.watch
 
 -- it was just made: it stands for the machine's first host; its places are free, its numbers name none, no frame waits,
--- and no socket does; nothing changed, nothing was counted, and its guard is that of the settings
+-- and no socket does; nothing changed, nothing was counted, its guard is that of the settings, and no error was told
 pub record IsFirst (s : Settings) (host : IfaceHost) : Type 0 where
   pub stands : StandsFor host (first_machine s host.sockets)
   pub some_time : 0 < s.reassembly_timeout
@@ -82,6 +82,7 @@ pub record IsFirst (s : Settings) (host : IfaceHost) : Type 0 where
   pub changed : host.changed ≡ false
   pub frames : host.frames ≡ no_frames
   pub watch : host.watch ≡ watch_for s
+  pub errors : host.errors ≡ []
 
 -- nothing but the interface changed, and by a rule: from each host that it stood for, the rule leads to
 -- one that it stands for

@@ -7,7 +7,9 @@ use Rattle.net_base.specs.Checksum.{ip_mtu_of}
 use Rattle.ip_address.specs.Hardware.{is_unicast}
 use Rattle.ip_address.specs.Ip.{is_broadcast, is_multicast}
 use Rattle.ip_address.specs.declared.cidr.IpCidr.{IpCidr}
+use Rattle.ip_address.specs.declared.cidr.Ipv4Cidr.{Ipv4Cidr}
 use Rattle.ip_address.specs.declared.ip.IpAddress.{IpAddress}
+use Rattle.ip_address.specs.declared.ipv4.Ipv4Address.{Ipv4Address}
 use Rattle.ip_address.specs.declared.ip.IpAddress.TheVariants.{Ipv4, Ipv6}
 use Rattle.sockets.specs.declared.endpoint.IpListenEndpoint.{IpListenEndpoint}
 use Rattle.iface_tables.specs.Route as routes
@@ -15,7 +17,7 @@ use Rattle.iface_tables.specs.Route.{is_ipv4_gateway, is_ipv6_gateway}
 use Rattle.iface_tables.specs.Groups as groups
 use Rattle.socket_set.specs.SocketSet.{has_free}
 use Rattle.host_machine.specs.Context.Host.{are_assignable}
-use Rattle.iface_host.specs.Calls.{addr_room_of, addresses_of, group_room_of, groups_of, route_room_of, is_same, is_to, routes_of, source_for}
+use Rattle.iface_host.specs.Calls.{addr_room_of, addresses_of, group_room_of, groups_of, route_room_of, is_same, is_to, is_way, routes_of, source_for}
 use Rattle.iface_host.specs.Names.{first_unused}
 use Rattle.iface_host.specs.Refusals.{moment_refusal}
 use Rattle.iface_host.specs.Stands.{capabilities_of}
@@ -106,6 +108,10 @@ source_refusal host remote = if is_some (source_for host remote) then None else 
 abbrev pub route_removal_refusal : IfaceHost → IpCidr → Option Refusal
 route_removal_refusal host network =
     if nat_lt (position_or_len (is_to network) (routes_of host)) (length (routes_of host)) then None else Some NotThere
+
+abbrev pub way_removal_refusal : IfaceHost → Ipv4Cidr → Ipv4Address → Option Refusal
+way_removal_refusal host network router =
+    if nat_lt (position_or_len (is_way network router) (routes_of host)) (length (routes_of host)) then None else Some NotThere
 
 -- a number may name a socket: it has 32 bits
 abbrev pub is_number : Option ℕ → Bool

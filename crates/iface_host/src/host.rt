@@ -14,6 +14,7 @@ ghost use Rattle.iface_host.specs.TableRefusals.{settings_refusal, timeout_refus
 use crate::counters::FrameCounts;
 use crate::frames::moment;
 use crate::guarded::watch_for;
+use crate::last_errors::LastErrors;
 use crate::names::Names;
 use crate::outbox::Outbox;
 use crate::refusal::Refusal;
@@ -85,8 +86,8 @@ pub struct Settings {
 }
 
 /// A host: an interface, its sockets, the numbers that name these, and the frames that wait to be handed over. Besides,
-/// whether its sockets may have changed since that was asked, how many frames it took and handed over, and its guard. The
-/// interface has a box of its own, since it is large.
+/// whether its sockets may have changed since that was asked, how many frames it took and handed over, its guard, and the
+/// last errors about its packets. The interface has a box of its own, since it is large.
 #[derive(Drop)]
 pub struct IfaceHost {
     pub(crate) alloc: Global,
@@ -99,6 +100,7 @@ pub struct IfaceHost {
     pub(crate) changed: bool,
     pub(crate) frames: FrameCounts,
     pub(crate) watch: Watch,
+    pub(crate) errors: LastErrors,
 }
 
 impl IfaceHost {
@@ -146,6 +148,7 @@ impl IfaceHost {
                 changed: false,
                 frames: FrameCounts::NONE,
                 watch: watch_for(settings),
+                errors: LastErrors::new(),
             },
         );
         match host {

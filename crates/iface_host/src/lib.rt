@@ -7,11 +7,13 @@
 
 pub mod addresses;
 pub mod counters;
+pub mod errors;
 pub mod fragments;
 pub mod frames;
 pub mod guarded;
 pub mod hop_limits;
 pub mod host;
+pub mod last_errors;
 pub mod leased;
 pub mod names;
 pub mod neighbors;
@@ -28,6 +30,7 @@ pub mod streams;
 pub mod waiting;
 
 pub use counters::{Counters, FrameCounts};
+pub use errors::{ErrorCause, PacketError};
 pub use host::{IfaceHost, Settings};
 pub use host_machine::Capacities;
 pub use leased::Leased;

@@ -3,7 +3,7 @@ ghost use Rattle.std.specs.Prelude.{◌≡◌, ◌≤◌, [], ◌∷◌, ◌++�
 ghost use Rattle.std.specs.Prelude.{take, drop, MatchOption, OnOk, OnErr, Some};
 ghost use Rattle.iface_host.specs.Outbox.{with_refusal_counted, empty, with_room, HandsFirst};
 
-use net_base::phy::{DeviceCapabilities, FRAME_BUFFER_SIZE};
+use net_base::phy::{DeviceCapabilities, FRAME_BUFFER_SIZE, Medium};
 use std::alloc::{AllocError, Global};
 use std::collections::VecDeque;
 use std::marker::Model;
@@ -113,6 +113,14 @@ impl Outbox {
         ensures { result ≡ self.now.capabilities }
     {
         self.capabilities
+    }
+
+    /// Whether frames have headers of Ethernet.
+    #[inline(always)]
+    pub(crate) fn medium(&self) -> Medium
+        ensures { result ≡ self.now.capabilities.medium }
+    {
+        self.capabilities.medium
     }
 
     /// How many transmit tokens were refused.

@@ -6,10 +6,10 @@ ghost use Rattle.iface_tables.specs.Route.{ipv4_gateway, ipv6_gateway, is_ipv4_g
 ghost use Rattle.iface_tables.specs.Route.{is_ipv6_gateway, old_or_full, with_default};
 ghost use Rattle.interface.specs.Stands.{Becomes, host_with};
 ghost use Rattle.std.specs.List.{position_or_len, remove};
-ghost use Rattle.iface_host.specs.Calls.{addresses_of, has_route, is_routed, is_to, AddsRoute, RemovesRoute, SetsDefault, routes_of};
+ghost use Rattle.iface_host.specs.Calls.{addresses_of, has_route, is_routed, is_to, is_via, is_way, AddsRoute, RemovesRoute, RemovesRouteBy, SetsDefault, routes_of};
 ghost use Rattle.iface_host.specs.Stands.{Follows, Stays};
 ghost use Rattle.iface_host.specs.TableRefusals.{default_route_refusal, end_refusal};
-ghost use Rattle.iface_host.specs.TableRefusals.{route_refusal, route_removal_refusal};
+ghost use Rattle.iface_host.specs.TableRefusals.{route_refusal, route_removal_refusal, way_removal_refusal};
 
 use crate::addresses::is_same_cidr;
 use crate::frames::moment;
@@ -17,7 +17,7 @@ use crate::host::IfaceHost;
 use crate::refusal::Refusal;
 use iface_tables::route::{Route, RouteTableFull};
 use interface::Interface;
-use ip_wire::{IpAddress, IpCidr, Ipv4Address, Ipv6Address};
+use ip_wire::{IpAddress, IpCidr, Ipv4Address, Ipv4Cidr, Ipv6Address};
 use net_base::time::Instant;
 
 impl IfaceHost {
@@ -107,6 +107,50 @@ impl IfaceHost {
         }
         take_route(&mut self.interface, index);
         Ok(())
+    }
+
+    /// Takes out the first route to a network of IPv4 by a router. `NotThere` if there is none.
+    pub fn remove_route_by(&mut self, network: Ipv4Cidr, router: Ipv4Address) -> Result<(), Refusal>
+        ensures removed { OnOk result (Follows (RemovesRouteBy network router) self.old self.new) }
+        ensures why { result_err result ≡ way_removal_refusal self.old network router }
+        ensures refused { OnErr result (Stays self.old self.new) }
+    {
+        let routes = self.interface.routes().as_slice();
+        let index = index_of_way(routes, &network, &router);
+        if index >= routes.len() {
+            return Err(Refusal::NotThere);
+        }
+        take_route(&mut self.interface, index);
+        Ok(())
+    }
+}
+
+/// Where the first route to a network by a router stands, or the length.
+fn index_of_way(list: &[Route], network: &Ipv4Cidr, router: &Ipv4Address) -> usize
+    ensures { result ≡ position_or_len (is_way network.now router.now) list.now }
+{
+    for (i, route) in list.iter().enumerate() {
+        if is_way(network, router, route) {
+            return i;
+        }
+    }
+    list.len()
+}
+
+/// Whether a route is to a network by a router.
+fn is_way(network: &Ipv4Cidr, router: &Ipv4Address, route: &Route) -> bool
+    ensures { result ≡ is_way network.now router.now route.now }
+{
+    is_same_cidr(&IpCidr::Ipv4(*network), &route.cidr) && is_via(router, &route.via_router)
+}
+
+/// Whether an address is that of a router.
+fn is_via(router: &Ipv4Address, address: &IpAddress) -> bool
+    ensures { result ≡ is_via router.now address.now }
+{
+    match address {
+        IpAddress::Ipv4(address) => address.bits == router.bits,
+        IpAddress::Ipv6(_) => false,
     }
 }
 

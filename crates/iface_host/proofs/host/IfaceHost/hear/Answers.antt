@@ -1,6 +1,6 @@
-use Rattle.std.proofs.Common.{◌≡◌, ◌∙◌, sym, subst, true, false, rules}
+use Rattle.std.proofs.Common.{◌≡◌, ◌∙◌, ap, sym, subst, true, false, rules}
 use Rattle.iface_host.specs.Fragments.{MakesRoom}
-use Rattle.iface_host.specs.Guarded.{is_admitted}
+use Rattle.iface_host.specs.Guarded.{TakesGuarded, is_admitted, is_ordinary_to}
 use Rattle.iface_host.proofs.FrameCalls.{ordinary, admitted, refused, dropped}
 use Rattle.iface_host.proofs.host.IfaceHost.hear.Goals as goal
 
@@ -24,7 +24,7 @@ returns-then-not-makes_room c =
 
 pub take_guarded-requires-clause-special : goal.take_guarded-requires-clause-special
 take_guarded-requires-clause-special c =
-    c.makes_room.ensures.ordinary ∙ c.admits.ensures.ordinary ∙ sym c.is_ordinary.ensures ∙ c.if-is_ordinary.false
+    ap (is_ordinary_to c.args.frame.now) c.note_error.ensures ∙ c.makes_room.ensures.ordinary ∙ c.admits.ensures.ordinary ∙ sym c.is_ordinary.ensures ∙ c.if-is_ordinary.false
 
 pub returns : goal.returns
 returns c =
@@ -32,4 +32,5 @@ returns c =
     admitted c.args.now c.args.frame.now c.take_guarded.result c.args.out.now c.take_guarded.new.out c.args.self.now
     c.admits.new.self c.take_guarded.new.self is c.admits.ensures.rest c.makes_room.new.self
     (subst (λ b. MakesRoom c.args.now c.args.frame.now b c.admits.new.self c.makes_room.new.self) c.if-not-makes_room.false c.makes_room.ensures.room)
-    c.take_guarded.ensures
+    (subst (λ h. TakesGuarded c.args.now c.args.frame.now c.take_guarded.result c.args.out.now c.take_guarded.new.out h c.take_guarded.new.self)
+    c.note_error.ensures c.take_guarded.ensures)

@@ -26,4 +26,5 @@ returns-in-Ok-host-clause-made c = rw c.in-Ok-host.ensures.ok (record {
   changed = refl;
   frames = refl;
   watch = c.watch_for.ensures;
+  errors = c.new-4.ensures;
 })
