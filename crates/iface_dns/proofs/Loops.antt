@@ -8,6 +8,8 @@ use Rattle.ip_address.specs.declared.ip.IpAddress.{IpAddress}
 use Rattle.iface_host.specs.declared.host.IfaceHost.{IfaceHost}
 use Rattle.iface_dns.specs.Dns as dns
 use Rattle.iface_dns.specs.Dns.{ClosesAt, ClosesFrom}
+use Rattle.iface_dns.specs.Errors as errors
+use Rattle.iface_dns.specs.Errors.{TakesError, TakesErrors}
 use Rattle.iface_dns.specs.Hear as hear
 use Rattle.iface_dns.specs.Hear.{Hears, HearsAll, failed, handed}
 use Rattle.iface_dns.specs.Poll as poll
@@ -72,3 +74,11 @@ closed_one count at d between d' old mid new lt first rest =
 
 pub closed_all : (count at : ℕ) (d : Dns) (host : IfaceHost) → count ≤ at → ClosesFrom (count - at) at d d host host
 closed_all count at d host le = subst (λ (k : ℕ). ClosesFrom k at d d host host) (none_left count at le) dns.NoMore
+
+pub took_one : (port place count at : ℕ) (r between r' : Queries) (old mid new : IfaceHost) → at < count → TakesError port place r between old mid →
+    TakesErrors port place (count - (at + 1)) between r' mid new → TakesErrors port place (count - at) r r' old new
+took_one port place count at r between r' old mid new lt first rest =
+    subst (λ (k : ℕ). TakesErrors port place k r r' old new) (one_less count at lt) (errors.OneMore first rest)
+
+pub took_all : (port place count at : ℕ) (r : Queries) (host : IfaceHost) → count ≤ at → TakesErrors port place (count - at) r r host host
+took_all port place count at r host le = subst (λ (k : ℕ). TakesErrors port place k r r host host) (none_left count at le) errors.NoMore

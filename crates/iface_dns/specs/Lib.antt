@@ -1,5 +1,6 @@
 pub mod Dns
 pub mod Hear
+pub mod Errors
 pub mod Ask
 pub mod Poll
 pub mod Start

@@ -8,6 +8,7 @@ use Rattle.dns_client.specs.declared.dns_resolver.resolver.NoSuchQuery.{NoSuchQu
 use Rattle.iface_host.specs.declared.host.IfaceHost.{IfaceHost}
 use Rattle.iface_dns.specs.Ask.{Asks}
 use Rattle.iface_dns.specs.Dns.{ClosesAt}
+use Rattle.iface_dns.specs.Errors.{HearsErrorsAt}
 use Rattle.iface_dns.specs.Hear.{HearsAt}
 use Rattle.iface_dns.specs.declared.dns.Dns.{Dns}
 
@@ -27,14 +28,17 @@ ClosesUnless false place d d' old new = ClosesAt place d d' old new
 abbrev pub ClosesDone : ℕ → Dns → Dns → IfaceHost → IfaceHost → Type 0
 ClosesDone place d = ClosesUnless (waits_at d.resolver place) place d
 
--- a place: what came to its socket is heard, what is due is done, and its socket is closed if it has a result
+-- a place: what came to its socket is heard, and errors about its messages, what is due is done, and its socket is closed if it has a result
 pub record PollsAt (now place : ℕ) (d d' : Dns) (old new : IfaceHost) : Type 0 where
   pub heard : Dns
+  pub told : Dns
   pub asked : Dns
   pub after_hearing : IfaceHost
+  pub after_telling : IfaceHost
   pub after_asking : IfaceHost
   pub hears : HearsAt place d heard old after_hearing
-  pub asks : Asks now place heard asked after_hearing after_asking
+  pub tells : HearsErrorsAt place heard told after_hearing after_telling
+  pub asks : Asks now place told asked after_telling after_asking
   pub closes : ClosesDone place asked d' after_asking new
 
 -- so many places from one on, one after another

@@ -4,6 +4,7 @@
 
 pub mod ask;
 pub mod dns;
+pub mod errors;
 pub mod hear;
 pub mod open_sockets;
 pub mod poll;

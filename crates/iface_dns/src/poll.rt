@@ -11,8 +11,9 @@ use iface_host::streams::micros_of;
 use iface_host::{IfaceHost, Refusal};
 
 impl Dns {
-    /// Does what is due at a moment, for one query after another: hands it what came to its socket, queues the message that it sends
-    /// now, if there is one, and closes its socket, if it doesn't wait any more. `BadMoment` if the moment is out of range; then
+    /// Does what is due at a moment, for one query after another: hands it what came to its socket, tells it that its server's port
+    /// is closed, if a message of ICMP says so, queues the message that it sends now, if there is one, and closes its socket, if it
+    /// doesn't wait any more. `BadMoment` if the moment is out of range; then
     /// nothing changes.
     ///
     /// A message that can't be queued counts as lost. A query whose socket the host doesn't have hears nothing, and times out.
@@ -42,6 +43,7 @@ impl Dns {
         ensures { spec.PollsAt now place self.old self.new host.old host.new }
     {
         self.hear(host, place);
+        self.hear_errors(host, place);
         self.ask(host, now, place);
         self.close_done(host, place);
     }

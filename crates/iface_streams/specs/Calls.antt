@@ -9,7 +9,8 @@ use Rattle.tcp_machine.specs.declared.settings.Settings.{Settings}
 use Rattle.tcp_machine.specs.declared.state.State.{State}
 use Rattle.tcp_machine.specs.declared.timers.Ending.{Ending}
 use Rattle.tcp_host.specs.Handles.{changed, changed_by, is_named, released, with_hop_limit, with_settings}
-use Rattle.tcp_host.specs.Host.{connection_at}
+use Rattle.tcp_host.specs.Host.{connection_at, slot_at}
+use Rattle.tcp_host.specs.Reports.{ending_of}
 use Rattle.tcp_host.specs.declared.calls.Handle.{Handle}
 use Rattle.iface_host.specs.declared.refusal.Refusal.{Refusal}
 use Rattle.iface_host.specs.declared.refusal.Refusal.TheVariants.{NoSocket, NotThere}
@@ -59,7 +60,7 @@ abbrev pub IsState : Handle → State → Streams → Type 0
 IsState handle state s = state ≡ (connection_of handle s).state
 
 abbrev pub IsEnding : Handle → Option Ending → Streams → Type 0
-IsEnding handle ending s = ending ≡ (connection_of handle s).ending
+IsEnding handle ending s = ending ≡ ending_of (slot_at handle.place s.connections)
 
 -- its two ends, if it has them
 abbrev pub unended : Option Endpoints → Option Refusal

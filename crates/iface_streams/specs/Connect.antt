@@ -8,9 +8,9 @@ use Rattle.sockets.specs.declared.endpoint.IpListenEndpoint.{IpListenEndpoint}
 use Rattle.tcp_host.specs.Table.{IsNowhere, IsPlaceOf}
 use Rattle.tcp_host.specs.declared.iss.Endpoints.{Endpoints}
 use Rattle.tcp_host.specs.Handles as handles
-use Rattle.tcp_host.specs.Handles.{accepting, is_listener, listener_closed, listening, opened_at}
+use Rattle.tcp_host.specs.Handles.{Opens, accepting, is_listener, listener_closed, listening}
 use Rattle.tcp_host.specs.Host as streams
-use Rattle.tcp_host.specs.Host.{IsNextPlace}
+use Rattle.tcp_host.specs.News.{TellsChanged}
 use Rattle.tcp_host.specs.declared.calls.Handle.{Handle}
 use Rattle.iface_host.specs.Calls.{has_route, source_for}
 use Rattle.iface_host.specs.Refusals.{moment_refusal}
@@ -46,6 +46,13 @@ accepted_as (Some handle) = Ok handle
 pub record Accepts (listener : ℕ) (result : Result Handle Refusal) (old new : Streams) : Type 0 where
   pub handle : Option Handle
   pub accepted : (handle, new.connections) ≡ accepting listener old.connections
+  pub told : result ≡ accepted_as handle
+  pub rest : new ≡ with_connections old new.connections
+
+-- one that has changed, if any has
+pub record TellsOfChange (result : Result Handle Refusal) (old new : Streams) : Type 0 where
+  pub handle : Option Handle
+  pub tells : TellsChanged old.connections handle new.connections
   pub told : result ≡ accepted_as handle
   pub rest : new ≡ with_connections old new.connections
 
@@ -96,15 +103,15 @@ pub record AreEnds (now : ℤ) (local : IpListenEndpoint) (remote : IpEndpoint) 
   pub remote_port : ends.remote_port ≡ remote.port
   pub are_hosts : handles.is_addressable ends ≡ true
 
--- no connection had these ends, a place was free, and a connection is opened there
+-- no connection had these ends, a place was free or has given way, and a connection is opened there
 pub record Connects (now : ℤ) (local : IpListenEndpoint) (remote : IpEndpoint) (host : IfaceHost) (handle : Handle)
     (old new : Streams) : Type 0 where
   pub micros : ℕ
   pub ends : Endpoints
   pub are_ends : AreEnds now local remote host micros ends
   pub nowhere : IsNowhere ends old.connections.ends
-  pub free : IsNextPlace old.connections (Some handle.place)
-  pub opened : new ≡ with_connections old (opened_at handle.place micros ends old.connections)
+  pub opened : Opens micros ends handle.place old.connections new.connections
+  pub rest : new ≡ with_connections old new.connections
   pub named : handles.is_named handle new.connections ≡ true
 
 -- a connection has these ends

@@ -2,4 +2,5 @@ pub mod Settings
 pub mod Streams
 pub mod Poll
 pub mod Connect
+pub mod Reports
 pub mod Calls

@@ -49,6 +49,7 @@ config_for s ip_mtu = record {
   mss_v4 = octets_less ip_mtu 40;
   mss_v6 = octets_less ip_mtu 60;
   settings = record s.connection { own_scale = scale_for s.receive_room };
+  accepted_keep_alive = s.accepted_keep_alive;
   release_timeout = s.release_timeout;
   number_key = s.number_key;
   table_key = s.table_key;

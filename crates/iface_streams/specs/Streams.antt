@@ -74,6 +74,7 @@ pub record IsNew (s : StreamSettings) (made : Streams) (old new : IfaceHost) : T
   pub v6 : OpensIf (pair_for Ipv6 s.ipv6 s) made.v6 between new
   pub connections : AreFirst (setting.config_for s old.ip_mtu) s.places made.connections
   pub carrier : made.carrier ≡ carrier_of old.outbox.capabilities.checksum.tcp made
+  pub given_up : made.given_up ≡ 0
 
 -- what a call of the host does unless it is refused, when it leaves the host as it is
 abbrev pub Unless : Option Refusal → (IfaceHost → IfaceHost → Type 0) → IfaceHost → IfaceHost → Type 0

@@ -6,7 +6,7 @@ ghost use Rattle.iface_host.specs.declared.refusal.Refusal.TheVariants.{Empty, N
 ghost use Rattle.iface_streams.specs.Connect as spec;
 ghost use Rattle.iface_streams.specs.declared.connect.ConnectRefusal.TheVariants.{InUse, Refused};
 ghost use Rattle.tcp_host.specs.Table.{IsPlaceOf};
-ghost use Rattle.tcp_host.specs.Host.{IsNextPlace};
+ghost use Rattle.tcp_host.specs.Arrivals.{HasNoPlace};
 
 use crate::streams::Streams;
 use iface_host::streams::micros_of;
@@ -65,6 +65,18 @@ impl Streams {
         }
     }
 
+    /// Takes a connection of the program at which something changed, by segments and timers, since it was told of it last: octets
+    /// became readable, room to write came back, or the state is another one, also where the connection ended. One that was accepted
+    /// counts as changed. Each is told once until it changes again, and those that changed first come first. `Empty` if none has.
+    pub fn changed(&mut self) -> Result<Handle, Refusal>
+        ensures changes { spec.TellsOfChange result self.old self.new }
+    {
+        match self.connections.next_changed() {
+            Some(handle) => Ok(handle),
+            None => Err(Refusal::Empty),
+        }
+    }
+
     /// Closes a listener: no SYN begins a connection of it any more. A handshake that is under way ends in a reset once it is
     /// complete, and connections that wait can still be accepted (RFC 9293 3.10.4). Its number is given to no other listener.
     /// `NotThere` if no listener has this number; then nothing changes.
@@ -83,9 +95,8 @@ impl Streams {
     /// Opens a connection at a moment, from a local port and from an own address of a host, or from the one that packets to the
     /// destination are sent from. The first that applies: `BadMoment` if the moment is out of range; `BadPort` if a port is 0;
     /// `NotThere` if the host has no own address for the destination; `BadAddress` if one of the two isn't unicast, or they are
-    /// of two families; `NoRoute` if no network and no route of the host has the destination; `InUse` if a connection has these ends, also in TIME-WAIT; `TableFull` if each place has a connection,
-    /// but for those in TIME-WAIT that were released, of which the one whose time ends first gives its place. Then nothing
-    /// changes.
+    /// of two families; `NoRoute` if no network and no route of the host has the destination; `InUse` if a connection has these ends, also in TIME-WAIT; `TableFull` if each place has a connection
+    /// that gives way to no other one: half-open ones do, and those in TIME-WAIT that were released. Then nothing changes.
     pub fn connect(
         &mut self,
         host: &IfaceHost,
@@ -97,7 +108,7 @@ impl Streams {
         ensures why { (e : Refusal) → spec.connect_refusal now local remote host.now ≡ Some e → result ≡ Err (Refused e) }
         ensures in_use { result ≡ Err InUse → spec.IsInUse local remote host.now self.old }
         ensures full { (e : Refusal) → result ≡ Err (Refused e) → spec.connect_refusal now local remote host.now ≡ None →
-            (e ≡ TableFull) × IsNextPlace self.old.connections None }
+            (e ≡ TableFull) × HasNoPlace self.old.connections }
         ensures refused { IsErr result → self.new ≡ self.old }
     {
         let (micros, ends) = match ends_at(host, now, local, remote) {

@@ -8,6 +8,7 @@ pub mod calls;
 pub mod connect;
 pub mod options;
 pub mod poll;
+pub mod reports;
 pub mod settings;
 pub mod streams;
 

@@ -29,6 +29,9 @@ pub struct StreamSettings {
     pub far_octets: usize,
     /// What each begins with. Its MSS and window scale are set by the link and by the room.
     pub connection: Settings,
+    /// How long nothing arrives before the peer of a connection is probed that a listener began, in microseconds, in place of
+    /// `connection.keep_alive`. With `None` it never is.
+    pub accepted_keep_alive: Option<u64>,
     /// How long a connection may go on that was released, in microseconds.
     pub release_timeout: u64,
     /// The secret of initial numbers (RFC 6528 3).
@@ -76,6 +79,7 @@ impl StreamSettings {
                 own_scale: scale_for(self.receive_room),
                 ..self.connection
             },
+            accepted_keep_alive: self.accepted_keep_alive,
             release_timeout: self.release_timeout,
             number_key: self.number_key,
             table_key: self.table_key,

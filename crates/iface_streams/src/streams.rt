@@ -27,6 +27,8 @@ pub struct Streams {
     pub v4: Option<StreamPair>,
     /// The same of IPv6.
     pub v6: Option<StreamPair>,
+    /// How many packets the host had given up when that was asked last.
+    pub given_up: u64,
 }
 
 /// The raw sockets of a family before they are opened.
@@ -94,6 +96,7 @@ fn unopened(
     requires { setting.is_proper settings.now ≡ true }
     ensures made { IfOk result (λ streams. spec.AreFirst (setting.config_for settings.now host.now.ip_mtu)
         settings.now.places streams.value.connections) }
+    ensures given_up { IfOk result (λ streams. streams.value.given_up ≡ 0) }
     ensures memory { IfErr result (λ e. e ≡ Refusal.NoMemory) }
 {
     let config = settings.config(host.ip_mtu());
@@ -102,6 +105,7 @@ fn unopened(
         carrier: TcpSockets::new(None, None, host.tcp_checksum()),
         v4: None,
         v6: None,
+        given_up: 0,
     };
     match Box::new(alloc, streams) {
         Ok(made) => Ok(made),

@@ -21,10 +21,12 @@ returns-clause-made c =
     let v6 : c.carry.new.self.v6 ≡ c.in_ok-streams-3.field-0 = search rules in
     let same : c.carry.new.self.connections ≡ c.in_ok-streams.streams.value.connections = search rules in
     let carried : c.carry.new.self.carrier ≡ carrier_of c.args.host.now.outbox.capabilities.checksum.tcp c.carry.new.self = search rules in
+    let zero : c.carry.new.self.given_up ≡ 0 = search rules in
     record {
       between = c.open.new.host;
       v4 = rw v4 (rw c.in_ok-v4.ensures.made at c.in_ok-streams-2.ensures.opened);
       v6 = rw v6 (rw c.in_ok-v6.ensures.made at c.in_ok-streams-3.ensures.opened);
       connections = rw same c.in_ok-streams.ensures.made;
       carrier = carried;
+      given_up = zero;
     }
