@@ -18,7 +18,7 @@ use Rattle.dhcp_client.specs.declared.lease.DhcpLease.{DhcpLease}
 use Rattle.dhcp_client.specs.declared.lease.LeaseTimes.{LeaseTimes}
 use Rattle.dhcp_client.specs.Answers.{after_answer, after_type, requesting, leased}
 use Rattle.dhcp_client.specs.Answers.{is_answer, is_asked, is_by, is_discovering}
-use Rattle.dhcp_client.specs.Lease.{is_usable, lease_by, lease_of, spans_of, times_of}
+use Rattle.dhcp_client.specs.Lease.{is_usable, lease_by, lease_of, mtu_of, spans_of, times_of}
 use Rattle.dhcp_client.specs.Addresses.{is_mask, is_networks, is_other, mask_of, other_in, others_in, without_gaps}
 use Rattle.dhcp_client.specs.Client.{lease, lease_in, address_in, first_phase, after_reset, after_restart, after_giving_up, must_give_up, is_to_send}
 use Rattle.dhcp_client.specs.Messages.{after_sending, message, message_in, numbered, is_discover, asked_server, is_rebinding}
@@ -163,6 +163,7 @@ made at m server d = record {
   subnet_mask = mask_of m.options.subnet_mask;
   router = other_in m.your_ip m.options.router;
   dns_servers = others_in m.your_ip m.options.dns_servers;
+  mtu = mtu_of m.options.mtu;
   server = server;
   times = times_of at d m.options;
 }

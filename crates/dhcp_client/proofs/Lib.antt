@@ -1,6 +1,7 @@
 pub mod MessageAgain
 pub mod OptionsAgain
 pub mod Reading
+mod RouteReading
 pub mod Texts
 pub mod Ends
 pub mod Leases

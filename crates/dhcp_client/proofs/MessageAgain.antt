@@ -13,7 +13,8 @@ use Rattle.dhcp_client.specs.declared.options.DhcpOptions.{DhcpOptions}
 use Rattle.dhcp_client.specs.Options.{options_after, are_whole, joined, in_room, octet_in, address_data, seconds_data, size_data}
 use Rattle.dhcp_client.specs.Options.{identifier_data, list_data, address_in, seconds_in, size_in, identifier_in, listed_at, list_in, AreOptions}
 use Rattle.dhcp_client.specs.Details.Message.{number_of, type_of, operation_of, is_for_ethernet, overload_in, has_whole_options, joined_in, data_in, type_number}
-use Rattle.dhcp_client.specs.Details.Message.{IsTypeNumber, options_in, fields_text, header_text, options_text, text, IsMessage, ReadAgain}
+use Rattle.dhcp_client.specs.Details.Message.{IsTypeNumber, options_in, router_in, fields_text, header_text, options_text, text, IsMessage, ReadAgain}
+use Rattle.dhcp_client.specs.Details.Routes.{are_routes, default_in}
 use Rattle.dhcp_client.proofs.OptionsAgain.{lookup, AreCodes, found, all_whole}
 use Rattle.dhcp_client.proofs.OptionsAgain.{address_again, router_again, seconds_again, size_again, identifier_again, list_again}
 
@@ -38,8 +39,8 @@ flag_again true = refl
 flag_again false = refl
 
 -- the options of a message by their codes
-abbrev parts_of : DhcpRepr → List ℕ → List (ℕ × List ℕ)
-parts_of r parameters =
+abbrev parts_of : DhcpRepr → List ℕ → List ℕ → List (ℕ × List ℕ)
+parts_of r parameters host_name =
     (53, number_of r.message_type ∷ [])
     ∷ (61, identifier_data r.options.client_identifier)
     ∷ (50, address_data r.options.requested_ip)
@@ -51,11 +52,13 @@ parts_of r parameters =
     ∷ (1, address_data r.options.subnet_mask)
     ∷ (3, address_data r.options.router)
     ∷ (6, list_data r.options.dns_servers)
+    ∷ (26, size_data r.options.mtu)
+    ∷ (12, host_name)
     ∷ (55, parameters)
     ∷ []
 
-codes : (r : DhcpRepr) (parameters : List ℕ) → AreCodes (parts_of r parameters)
-codes r parameters = (
+codes : (r : DhcpRepr) (parameters host_name : List ℕ) → AreCodes (parts_of r parameters host_name)
+codes r parameters host_name = (
   (refl, refl),
   (
     (refl, refl),
@@ -73,7 +76,7 @@ codes r parameters = (
                 (refl, refl),
                 (
                   (refl, refl),
-                  ((refl, refl), ((refl, refl), ((refl, refl), tt))),
+                  ((refl, refl), ((refl, refl), ((refl, refl), ((refl, refl), ((refl, refl), tt))))),
                 ),
               ),
             ),
@@ -140,7 +143,7 @@ no_overload m e = (
 )
 
 -- what is read of the options, by their codes
-record Datas (r : DhcpRepr) (parameters m : List ℕ) : Type 0 where
+record Datas (r : DhcpRepr) (parameters host_name m : List ℕ) : Type 0 where
   pub whole : has_whole_options m ≡ true
   pub type : type_number m ≡ number_of r.message_type
   pub client_identifier : data_in 61 m ≡ in_room (identifier_data r.options.client_identifier)
@@ -152,20 +155,23 @@ record Datas (r : DhcpRepr) (parameters m : List ℕ) : Type 0 where
   pub rebind_duration : data_in 59 m ≡ in_room (seconds_data r.options.rebind_duration)
   pub subnet_mask : data_in 1 m ≡ in_room (address_data r.options.subnet_mask)
   pub router : data_in 3 m ≡ in_room (address_data r.options.router)
+  pub routes : data_in 121 m ≡ []
+  pub mtu : data_in 26 m ≡ in_room (size_data r.options.mtu)
   pub dns_servers : data_in 6 m ≡ in_room (list_data r.options.dns_servers)
   pub list : joined_in 55 m ≡ parameters
+  pub name : joined_in 12 m ≡ host_name
 
-datas : (r : DhcpRepr) (parameters m : List ℕ) → drop 240 m ≡ options_text r parameters → Datas r parameters m
-datas r parameters m e =
-    let ps = parts_of r parameters in
+datas : (r : DhcpRepr) (parameters host_name m : List ℕ) → drop 240 m ≡ options_text r parameters host_name → Datas r parameters host_name m
+datas r parameters host_name m e =
+    let ps = parts_of r parameters host_name in
     let all : (k : ℕ) → joined k (options_after 0 (drop 240 m)) ≡ lookup k ps =
-    λ k. ap (λ (xs : List ℕ). joined k (options_after 0 xs)) e ∙ found k ps (codes r parameters) in
+    λ k. ap (λ (xs : List ℕ). joined k (options_after 0 xs)) e ∙ found k ps (codes r parameters host_name) in
     let none = no_overload m (ap (λ (d : List ℕ). octet_in (in_room d)) (all 52)) in
     let joined_is : (k : ℕ) → joined_in k m ≡ lookup k ps = λ k. none.1 k ∙ all k in
     let data_is : (k : ℕ) (d : List ℕ) → lookup k ps ≡ d ++ [] → data_in k m ≡ in_room d =
     λ k d is. ap in_room (joined_is k ∙ is ∙ append-nil d) in
     record {
-      whole = none.0 ∙ ap (are_whole 0) e ∙ all_whole ps (codes r parameters);
+      whole = none.0 ∙ ap (are_whole 0) e ∙ all_whole ps (codes r parameters host_name);
       type = ap octet_in (data_is 53 (number_of r.message_type ∷ []) refl);
       client_identifier = data_is 61 (identifier_data r.options.client_identifier) refl;
       requested_ip = data_is 50 (address_data r.options.requested_ip) refl;
@@ -176,14 +182,17 @@ datas r parameters m e =
       rebind_duration = data_is 59 (seconds_data r.options.rebind_duration) refl;
       subnet_mask = data_is 1 (address_data r.options.subnet_mask) refl;
       router = data_is 3 (address_data r.options.router) refl;
+      routes = ap in_room (joined_is 121);
+      mtu = data_is 26 (size_data r.options.mtu) refl;
       dns_servers = data_is 6 (list_data r.options.dns_servers) refl;
       list = joined_is 55 ∙ append-nil parameters;
+      name = joined_is 12 ∙ append-nil host_name;
     }
 
 made_options : (o : DhcpOptions) (mask router requested server : Option Ipv4Address) (servers : List (Option Ipv4Address))
-    (lease renew rebind size : Option ℕ) (identifier : Option EthernetAddress) → mask ≡ o.subnet_mask → router ≡ o.router →
+    (lease renew rebind size mtu : Option ℕ) (identifier : Option EthernetAddress) → mask ≡ o.subnet_mask → router ≡ o.router →
     servers ≡ o.dns_servers → requested ≡ o.requested_ip → lease ≡ o.lease_duration → server ≡ o.server_identifier →
-    size ≡ o.max_size → renew ≡ o.renew_duration → rebind ≡ o.rebind_duration → identifier ≡ o.client_identifier →
+    size ≡ o.max_size → mtu ≡ o.mtu → renew ≡ o.renew_duration → rebind ≡ o.rebind_duration → identifier ≡ o.client_identifier →
     ◌≡◌ {A = DhcpOptions} (record {
       subnet_mask = mask;
       router = router;
@@ -192,24 +201,30 @@ made_options : (o : DhcpOptions) (mask router requested server : Option Ipv4Addr
       lease_duration = lease;
       server_identifier = server;
       max_size = size;
+      mtu = mtu;
       renew_duration = renew;
       rebind_duration = rebind;
       client_identifier = identifier;
     }) o
-made_options o mask router requested server servers lease renew rebind size identifier e1 e2 e3 e4 e5 e6 e7 e8 e9 e10 =
-    rw (e1, e2, e3, e4, e5, e6, e7, e8, e9, e10) refl
+made_options o mask router requested server servers lease renew rebind size mtu identifier e1 e2 e3 e4 e5 e6 e7 e8 e9 e10 e11 =
+    rw (e1, e2, e3, e4, e5, e6, e7, e8, e9, e10, e11) refl
 
-options_again : (r : DhcpRepr) (parameters m : List ℕ) → Datas r parameters m → AreOptions r.options → options_in m ≡ r.options
-options_again r parameters m d h =
+-- no routes are told, so the router is the first one of the list
+listed : (m : List ℕ) → data_in 121 m ≡ [] → router_in m ≡ listed_at (data_in 3 m) 0
+listed m e = ap (λ (d : List ℕ). cond (are_routes d) (default_in d) (listed_at (data_in 3 m) 0)) e
+
+options_again : (r : DhcpRepr) (parameters host_name m : List ℕ) → Datas r parameters host_name m → AreOptions r.options → options_in m ≡ r.options
+options_again r parameters host_name m d h =
     let o = r.options in
-    made_options o _ _ _ _ _ _ _ _ _ _
+    made_options o _ _ _ _ _ _ _ _ _ _ _
     (ap (λ (xs : List ℕ). address_in xs) d.subnet_mask ∙ address_again o.subnet_mask h.subnet_mask)
-    (ap (λ (xs : List ℕ). listed_at xs 0) d.router ∙ router_again o.router h.router)
+    (listed m d.routes ∙ ap (λ (xs : List ℕ). listed_at xs 0) d.router ∙ router_again o.router h.router)
     (ap (λ (xs : List ℕ). list_in xs) d.dns_servers ∙ list_again o.dns_servers h.dns_servers)
     (ap (λ (xs : List ℕ). address_in xs) d.requested_ip ∙ address_again o.requested_ip h.requested_ip)
     (ap (λ (xs : List ℕ). seconds_in xs) d.lease_duration ∙ seconds_again o.lease_duration h.lease_duration)
     (ap (λ (xs : List ℕ). address_in xs) d.server_identifier ∙ address_again o.server_identifier h.server_identifier)
     (ap (λ (xs : List ℕ). size_in xs) d.max_size ∙ size_again o.max_size h.max_size)
+    (ap (λ (xs : List ℕ). size_in xs) d.mtu ∙ size_again o.mtu h.mtu)
     (ap (λ (xs : List ℕ). seconds_in xs) d.renew_duration ∙ seconds_again o.renew_duration h.renew_duration)
     (ap (λ (xs : List ℕ). seconds_in xs) d.rebind_duration ∙ seconds_again o.rebind_duration h.rebind_duration)
     (ap (λ (xs : List ℕ). identifier_in xs) d.client_identifier ∙ identifier_again o.client_identifier h.client_identifier)
@@ -233,10 +248,10 @@ made r t id secs client your server relay flag hardware o e1 e2 e3 e4 e5 e6 e7 e
     rw (e1, e2, e3, e4, e5, e6, e7, e8, e9, e10) refl
 
 pub read_again : ReadAgain
-read_again r parameters h =
-    let m = text r parameters in
-    let f = fields r (options_text r parameters) h in
-    let d = datas r parameters m f.behind in
+read_again r parameters host_name h =
+    let m = text r parameters host_name in
+    let f = fields r (options_text r parameters host_name) h in
+    let d = datas r parameters host_name m f.behind in
     let t = type_again r.message_type in
     let len = f.len in (
       record {
@@ -247,6 +262,7 @@ read_again r parameters h =
         operation = f.operation ∙ sym (ap operation_of d.type);
       },
       made r _ _ _ _ _ _ _ _ _ _ (ap type_of d.type ∙ t.1) f.transaction_id f.secs f.broadcast f.client_ip f.your_ip f.server_ip
-          f.relay_agent_ip f.hardware (options_again r parameters m d h.options),
+          f.relay_agent_ip f.hardware (options_again r parameters host_name m d h.options),
       d.list,
+      d.name,
     )

@@ -18,7 +18,7 @@ use Rattle.dhcp_client.specs.declared.messages.DhcpMessage.{DhcpMessage}
 use Rattle.dhcp_client.specs.declared.options.DhcpOptions.{DhcpOptions}
 use Rattle.dhcp_client.specs.Answers.{after_answer, after_type, requesting, leased}
 use Rattle.dhcp_client.specs.Answers.{is_answer, is_discovering, renewed_at}
-use Rattle.dhcp_client.specs.Lease.{is_usable, lease_by, lease_of, rebind_span, renew_span, spans_of, times_of}
+use Rattle.dhcp_client.specs.Lease.{is_usable, lease_by, lease_of, mtu_of, rebind_span, renew_span, spans_of, times_of}
 use Rattle.dhcp_client.specs.Addresses.{mask_of, other_in, others_in}
 use Rattle.dhcp_client.specs.Client.{lease_in, address_in, first_phase, after_reset, after_restart, after_giving_up, must_give_up, is_to_send, has_come, send_in, if_ending}
 use Rattle.dhcp_client.specs.Messages.{after_sending, message, message_in, message_at, next_at, half_until, numbered}
@@ -100,6 +100,7 @@ made at m server d = record {
   subnet_mask = mask_of m.options.subnet_mask;
   router = other_in m.your_ip m.options.router;
   dns_servers = others_in m.your_ip m.options.dns_servers;
+  mtu = mtu_of m.options.mtu;
   server = server;
   times = times_of at d m.options;
 }

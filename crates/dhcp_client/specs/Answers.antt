@@ -1,5 +1,5 @@
 -- What a client makes of the messages that it receives (RFC 2131 4.4.1 to 4.4.5).
-use Rattle.std.specs.Prelude.{ℕ, ◌==◌, ◌&&◌, Bool, true, false, Option, Some, None, if◌then◌else◌}
+use Rattle.std.specs.Prelude.{ℕ, ◌==◌, ◌&&◌, Bool, true, false, is_some, Option, Some, None, if◌then◌else◌}
 use Rattle.ip_address.specs.declared.ipv4.Ipv4Address.{Ipv4Address}
 use Rattle.ip_address.specs.EthernetAddress.{is_same}
 use Rattle.dhcp_client.specs.declared.message.DhcpRepr.{DhcpRepr}
@@ -75,3 +75,24 @@ after_answer (Some asked) m c = if is_answer m c then after_type m.message_type 
 
 abbrev pub after_receiving : DhcpRepr → DhcpClient → DhcpClient
 after_receiving m c = after_answer c.asked m c
+
+-- whether a message gives a lease: it is an agreement that does
+abbrev pub is_agreed : ℕ → DhcpRepr → DhcpClient → Bool
+is_agreed sent_at m c = if is_discovering c then false else is_some (lease_of sent_at m)
+
+abbrev pub is_lease : DhcpMessageType → ℕ → DhcpRepr → DhcpClient → Bool
+is_lease Discover sent_at m c = false
+is_lease Offer sent_at m c = false
+is_lease Request sent_at m c = false
+is_lease Decline sent_at m c = false
+is_lease Ack sent_at m c = is_agreed sent_at m c
+is_lease Nak sent_at m c = false
+is_lease Release sent_at m c = false
+is_lease Inform sent_at m c = false
+
+abbrev pub is_given : Option Asked → DhcpRepr → DhcpClient → Bool
+is_given None m c = false
+is_given (Some asked) m c = if is_answer m c then is_lease m.message_type asked.at m c else false
+
+abbrev pub gives_lease : DhcpRepr → DhcpClient → Bool
+gives_lease m c = is_given c.asked m c

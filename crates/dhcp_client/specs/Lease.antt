@@ -57,6 +57,11 @@ times_of sent_at duration o = if duration == 0xffff_ffff then None else
 abbrev pub is_usable : DhcpRepr → Ipv4Address → Bool
 is_usable m server = is_host_address server && is_leasable m.your_ip m.options.subnet_mask
 
+-- the longest packet has at least 68 octets (RFC 2132 5.1)
+abbrev pub mtu_of : Option ℕ → Option ℕ
+mtu_of None = None
+mtu_of (Some octets) = if nat_le 68 octets then Some octets else None
+
 -- what an agreement with a server and a duration leases; a router and servers of names are other hosts
 abbrev pub lease_by : ℕ → DhcpRepr → Option Ipv4Address → Option ℕ → Option DhcpLease
 lease_by sent_at ack (Some server) (Some duration) = if is_usable ack server
@@ -65,6 +70,7 @@ lease_by sent_at ack (Some server) (Some duration) = if is_usable ack server
       subnet_mask = mask_of ack.options.subnet_mask;
       router = other_in ack.your_ip ack.options.router;
       dns_servers = others_in ack.your_ip ack.options.dns_servers;
+      mtu = mtu_of ack.options.mtu;
       server = server;
       times = times_of sent_at duration ack.options;
     }) else None

@@ -87,6 +87,7 @@ no_options = record {
   lease_duration = None;
   server_identifier = None;
   max_size = None;
+  mtu = None;
   renew_duration = None;
   rebind_duration = None;
   client_identifier = None;
@@ -147,6 +148,7 @@ pub record AreOptions (o : DhcpOptions) : Type 0 where
   pub lease_duration : IsBelow (2 ^ 32) o.lease_duration
   pub server_identifier : IsAddress o.server_identifier
   pub max_size : IsBelow (2 ^ 16) o.max_size
+  pub mtu : IsBelow (2 ^ 16) o.mtu
   pub renew_duration : IsBelow (2 ^ 32) o.renew_duration
   pub rebind_duration : IsBelow (2 ^ 32) o.rebind_duration
   pub client_identifier : IsIdentifier o.client_identifier

@@ -72,7 +72,7 @@ pub(crate) fn other_in(own: &Ipv4Address, address: &Option<Ipv4Address>) -> Opti
 }
 
 /// Whether an address is another host's.
-fn is_other(own: &Ipv4Address, address: &Ipv4Address) -> bool
+pub(crate) fn is_other(own: &Ipv4Address, address: &Ipv4Address) -> bool
     ensures { result ≡ spec.is_other own.now address.now }
 {
     is_host_address(address) && address.bits != own.bits

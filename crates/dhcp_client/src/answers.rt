@@ -1,5 +1,5 @@
 //! What a client makes of the messages that it receives (RFC 2131 4.4.1 to 4.4.5).
-ghost use Rattle.std.specs.Prelude.{◌≡◌};
+ghost use Rattle.std.specs.Prelude.{◌≡◌, is_some};
 ghost use Rattle.dhcp_client.specs.Answers as spec;
 
 use crate::client::{DhcpClient, DhcpPhase};
@@ -13,23 +13,33 @@ impl DhcpClient {
     /// The first offer is taken that can be used: it is by a server at a host's address, and of an address that a host of its
     /// network can have. An agreement (ACK) to a request gives the lease that it describes, if that can be used too, and it
     /// says how long that lasts; a refusal (NAK) lets the client begin anew, without its lease. Other messages change
-    /// nothing.
-    pub fn receive(&mut self, message: &DhcpRepr)
-        ensures { self.new ≡ spec.after_receiving message.now self.old }
+    /// nothing. Returns whether the message gave a lease.
+    pub fn receive(&mut self, message: &DhcpRepr) -> bool
+        ensures client { self.new ≡ spec.after_receiving message.now self.old }
+        ensures gave { result ≡ spec.gives_lease message.now self.old }
     {
         let asked = self.asked;
         let Some(asked) = asked else {
-            return;
+            return false;
         };
         if !self.is_answer(message) {
-            return;
+            return false;
         }
+        self.take(asked.at, message)
+    }
+
+    /// Takes an answer to what was asked at an instant. Returns whether it gave a lease.
+    fn take(&mut self, sent_at: u64, message: &DhcpRepr) -> bool
+        ensures client { self.new ≡ spec.after_type message.now.message_type sent_at message.now self.old }
+        ensures gave { result ≡ spec.is_lease message.now.message_type sent_at message.now self.old }
+    {
         match message.message_type {
             DhcpMessageType::Offer => self.take_offer(message),
-            DhcpMessageType::Ack => self.take_ack(asked.at, message),
+            DhcpMessageType::Ack => return self.take_ack(sent_at, message),
             DhcpMessageType::Nak => self.take_nak(),
             _ => {}
         }
+        false
     }
 
     /// Whether a message answers what was asked.
@@ -73,23 +83,26 @@ impl DhcpClient {
         }
     }
 
-    /// Takes a lease, if the client has asked for one by a request that was sent at an instant.
-    fn take_ack(&mut self, sent_at: u64, ack: &DhcpRepr)
-        ensures { self.new ≡ spec.after_ack sent_at ack.now self.old }
+    /// Takes a lease, if the client has asked for one by a request that was sent at an instant. Returns whether it took one.
+    fn take_ack(&mut self, sent_at: u64, ack: &DhcpRepr) -> bool
+        ensures client { self.new ≡ spec.after_ack sent_at ack.now self.old }
+        ensures gave { result ≡ spec.is_agreed sent_at ack.now self.old }
     {
         if self.is_discovering() {
-            return;
+            return false;
         }
-        if let Some(lease) = DhcpLease::of(sent_at, ack) {
-            self.phase = DhcpPhase::Bound(lease);
-            self.asked = None;
-            self.tries = 0;
-            self.next_at = match lease.times {
-                None => 0,
-                Some(times) => times.renew_at,
-            };
-            self.has_changed = true;
-        }
+        let Some(lease) = DhcpLease::of(sent_at, ack) else {
+            return false;
+        };
+        self.phase = DhcpPhase::Bound(lease);
+        self.asked = None;
+        self.tries = 0;
+        self.next_at = match lease.times {
+            None => 0,
+            Some(times) => times.renew_at,
+        };
+        self.has_changed = true;
+        true
     }
 
     /// Begins anew, if the client has asked for a lease.

@@ -30,6 +30,8 @@ pub struct DhcpLease {
     pub router: Option<Ipv4Address>,
     /// Up to three servers of names, from the first place on.
     pub dns_servers: [Option<Ipv4Address>; 3],
+    /// The longest packet of the network, in octets, if the server told one of at least 68 (RFC 2132 5.1).
+    pub mtu: Option<u16>,
     /// The server that leased it.
     pub server: Ipv4Address,
     /// `None` for a lease without end.
@@ -66,6 +68,7 @@ impl DhcpLease {
             subnet_mask: mask_of(&ack.options.subnet_mask),
             router: other_in(&own, &ack.options.router),
             dns_servers: others_in(&own, &ack.options.dns_servers),
+            mtu: mtu_of(ack.options.mtu),
             server,
             times: times_of(sent_at, duration, &ack.options),
         })
@@ -79,6 +82,16 @@ impl DhcpLease {
             None => false,
             Some(times) => times.expires_at <= u128::from(now),
         }
+    }
+}
+
+/// The longest packet, if it has at least 68 octets.
+const fn mtu_of(mtu: Option<u16>) -> Option<u16>
+    ensures { result ≡ spec.mtu_of mtu }
+{
+    match mtu {
+        Some(octets) if 68 <= octets => Some(octets),
+        _ => None,
     }
 }
 

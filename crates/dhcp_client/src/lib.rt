@@ -11,11 +11,15 @@ pub mod message;
 pub mod messages;
 pub mod options;
 pub mod packets;
+pub mod routes;
+pub mod wishes;
 
 pub use client::{DhcpClient, DhcpPhase};
-pub use datagrams::{receive, receive_datagram, send_by_raw, send_by_udp, server_of};
+pub use datagrams::{datagram_in, receive, receive_datagram, send_by_raw, send_by_udp, server_of};
 pub use lease::{DhcpEvent, DhcpLease, LeaseTimes};
 pub use message::{DhcpMessageType, DhcpRepr};
 pub use messages::DhcpMessage;
 pub use options::{DhcpOptions, OptionData};
 pub use packets::DhcpRoom;
+pub use routes::{DhcpRoute, DhcpRoutes};
+pub use wishes::DhcpWishes;

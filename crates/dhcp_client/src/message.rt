@@ -2,6 +2,7 @@
 ghost use Rattle.std.specs.Prelude.{◌≡◌, ◌+◌, ◌<◌, ◌≤◌, ◌++◌, ◌||◌, ◌==◌, ◌&&◌, not, length};
 ghost use Rattle.std.specs.Option.{SomeIff};
 ghost use Rattle.dhcp_client.specs.Options as options;
+ghost use Rattle.dhcp_client.specs.Details.Routes as routes;
 ghost use Rattle.dhcp_client.specs.Details.Message as spec;
 
 use crate::options::{
@@ -9,6 +10,7 @@ use crate::options::{
     append_option, append_seconds, append_size, are_whole, hardware_address_at, identifier_in,
     join, listed_at, octet_in, seconds_in, size_in,
 };
+use crate::routes::{DhcpRoutes, are_routes, default_router_in, routes_of};
 use ip_address::{EthernetAddress, Ipv4Address};
 use ip_wire::emit::FrameBuffer;
 use ip_wire::octets::{u16_at, u32_at};
@@ -142,13 +144,32 @@ impl DhcpRepr {
         data_in(message, 55)
     }
 
-    /// Appends a message with these values and a list of parameters that it asks for, of at most 255 octets; an empty list
-    /// isn't written. The message has at most 315 octets beside the list.
-    pub fn emit(&self, parameters: &[u8], out: &mut FrameBuffer)
+    /// The data of a message's options of a code, put together (RFC 3396); of more than 256 octets the first ones. They are
+    /// empty if there is no such option. The message has at least 240 octets.
+    pub fn option_in(message: &[u8], code: u8) -> OptionData
+        requires { 240 ≤ length message.now }
+        ensures { result.items ≡ spec.data_in code message.now }
+    {
+        data_in(message, code)
+    }
+
+    /// The routes that a message of at least 240 octets tells a host with an address: the first eight of option 121 that it can
+    /// use (RFC 3442). None if that option isn't there, or malformed.
+    pub fn routes_in(message: &[u8], own: &Ipv4Address) -> DhcpRoutes
+        requires { 240 ≤ length message.now }
+        ensures { result.items ≡ routes.routes_in own.now (spec.data_in 121 message.now) }
+    {
+        routes_of(data_in(message, 121).as_slice(), own)
+    }
+
+    /// Appends a message with these values, a list of parameters that it asks for, and the name of a host, of at most 255 octets
+    /// each; an empty one isn't written. The message has at most 321 octets beside the two.
+    pub fn emit(&self, parameters: &[u8], host_name: &[u8], out: &mut FrameBuffer)
         requires short { length parameters.now ≤ 255 }
-        requires room { length out.old + 315 + length parameters.now ≤ 1514 }
-        ensures items { out.new ≡ out.old ++ spec.text self.now parameters.now }
-        ensures len { length out.new ≤ length out.old + 315 + length parameters.now }
+        requires name { length host_name.now ≤ 255 }
+        requires room { length out.old + 321 + length parameters.now + length host_name.now ≤ 1514 }
+        ensures items { out.new ≡ out.old ++ spec.text self.now parameters.now host_name.now }
+        ensures len { length out.new ≤ length out.old + 321 + length parameters.now + length host_name.now }
     {
         emit_header(self, out);
         append_option(53, &[self.message_type.number()], out);
@@ -162,6 +183,8 @@ impl DhcpRepr {
         append_address(1, self.options.subnet_mask, out);
         append_address(3, self.options.router, out);
         append_list(6, &self.options.dns_servers, out);
+        append_size(26, self.options.mtu, out);
+        append_option(12, host_name, out);
         append_option(55, parameters, out);
         out.append(&[255]);
     }
@@ -269,13 +292,26 @@ fn seconds_of(message: &[u8], code: u8) -> Option<u32>
     seconds_in(data_in(message, code).as_slice())
 }
 
-/// The longest message that a message's sender takes.
+/// The number of octets that a message's options of a code are.
 #[inline(never)]
-fn size_of(message: &[u8]) -> Option<u16>
+fn size_of(message: &[u8], code: u8) -> Option<u16>
     requires { 240 ≤ length message.now }
-    ensures { result ≡ options.size_in (spec.data_in 57 message.now) }
+    ensures { result ≡ options.size_in (spec.data_in code message.now) }
 {
-    size_in(data_in(message, 57).as_slice())
+    size_in(data_in(message, code).as_slice())
+}
+
+/// The router of a message: that of its default route where it tells routes, else the first one of its list.
+#[inline(never)]
+fn router_of(message: &[u8]) -> Option<Ipv4Address>
+    requires { 240 ≤ length message.now }
+    ensures { result ≡ spec.router_in message.now }
+{
+    let routes = data_in(message, 121);
+    if are_routes(routes.as_slice()) {
+        return default_router_in(routes.as_slice());
+    }
+    listed_at(data_in(message, 3).as_slice(), 0)
 }
 
 /// The Ethernet address by which a message's sender is known.
@@ -320,15 +356,15 @@ fn options_in(message: &[u8]) -> DhcpOptions
     requires { 240 ≤ length message.now }
     ensures { result ≡ spec.options_in message.now }
 {
-    let [router, _, _] = list_of(message, 3);
     DhcpOptions {
         subnet_mask: address_of(message, 1),
-        router,
+        router: router_of(message),
         dns_servers: list_of(message, 6),
         requested_ip: address_of(message, 50),
         lease_duration: seconds_of(message, 51),
         server_identifier: address_of(message, 54),
-        max_size: size_of(message),
+        max_size: size_of(message, 57),
+        mtu: size_of(message, 26),
         renew_duration: seconds_of(message, 58),
         rebind_duration: seconds_of(message, 59),
         client_identifier: identifier_of(message),
@@ -398,7 +434,7 @@ fn fields_of(repr: &DhcpRepr) -> [u8; 28]
     ]
 }
 
-/// A message that is emitted is parsed back as its values, and its list of parameters stands there.
+/// A message that is emitted is parsed back as its values, and its list of parameters and the host's name stand there.
 pub fn read_again()
     ensures { spec.ReadAgain }
 {}

@@ -9,7 +9,7 @@ use crate::{DhcpMessageType, DhcpOptions, DhcpRepr};
 use ip_address::Ipv4Address;
 
 /// The longest message that a client takes, in octets: 1,500 without the headers of IPv4 and UDP.
-const MAX_SIZE: u16 = 1472;
+pub(crate) const MAX_SIZE: u16 = 1472;
 
 /// The least time between two requests for a lease's renewal, in microseconds (RFC 2131 4.4.5).
 const MIN_RENEWAL: u128 = 60_000_000;
@@ -151,6 +151,7 @@ impl DhcpClient {
             lease_duration: None,
             server_identifier: server,
             max_size: Some(MAX_SIZE),
+            mtu: None,
             renew_duration: None,
             rebind_duration: None,
             client_identifier: Some(self.hardware_addr),

@@ -20,7 +20,8 @@ const END: u8 = 255;
 pub struct DhcpOptions {
     /// The mask of the client's network (RFC 2132 3.3).
     pub subnet_mask: Option<Ipv4Address>,
-    /// The first of the network's routers, which is the preferred one (RFC 2132 3.5).
+    /// The first of the network's routers, which is the preferred one (RFC 2132 3.5). Where the server tells routes, this is the
+    /// router of the default route among them, and no other one (RFC 3442).
     pub router: Option<Ipv4Address>,
     /// The first three servers of names, from the first place on (RFC 2132 3.8).
     pub dns_servers: [Option<Ipv4Address>; 3],
@@ -32,6 +33,8 @@ pub struct DhcpOptions {
     pub server_identifier: Option<Ipv4Address>,
     /// The longest message that the sender takes, in octets (RFC 2132 9.10).
     pub max_size: Option<u16>,
+    /// The longest packet of the network, in octets (RFC 2132 5.1).
+    pub mtu: Option<u16>,
     /// After how many seconds the client renews its lease, T1 (RFC 2132 9.11).
     pub renew_duration: Option<u32>,
     /// After how many seconds it asks any server, T2 (RFC 2132 9.12).
@@ -53,6 +56,7 @@ impl DhcpOptions {
             lease_duration: None,
             server_identifier: None,
             max_size: None,
+            mtu: None,
             renew_duration: None,
             rebind_duration: None,
             client_identifier: None,
@@ -127,7 +131,7 @@ fn append_data(octets: &[u8], found: &mut OptionData)
 }
 
 /// Appends octets, for which there is room.
-fn append_all(octets: &[u8], found: &mut OptionData)
+pub(crate) fn append_all(octets: &[u8], found: &mut OptionData)
     requires { length found.old.items + length octets.now ≤ 256 }
     ensures { found.new.items ≡ found.old.items ++ octets.now }
 {

@@ -4,11 +4,9 @@ ghost use Rattle.dhcp_client.specs.Details.Packets as spec;
 
 use crate::DhcpMessage;
 use crate::message::{CLIENT_PORT, SERVER_PORT};
+use crate::wishes::DhcpWishes;
 use ip_wire::emit::FrameBuffer;
 use ip_wire::{IpAddress, IpProtocol, Ipv4Address, Ipv4Fragment, Ipv4Repr, UdpRepr};
-
-/// What a client asks of servers: the network's mask, its router, and servers of names (RFC 2132 9.8).
-const PARAMETERS: [u8; 3] = [1, 3, 6];
 
 /// The hop limit of packets to all servers.
 const HOP_LIMIT: u8 = 64;
@@ -31,38 +29,42 @@ impl DhcpRoom {
         }
     }
 
-    /// Builds a message as the payload of a datagram, in place of the message before.
-    pub fn build_message(&mut self, message: &DhcpMessage)
-        ensures room { self.new ≡ record self.old { message = spec.message_text message.now } }
-        ensures len { length self.new.message ≤ 320 }
+    /// Builds a message of a client with these wishes as the payload of a datagram, in place of the message before.
+    pub fn build_message(&mut self, message: &DhcpMessage, wishes: &DhcpWishes)
+        ensures room { self.new ≡ record self.old { message = spec.message_text wishes.now message.now } }
+        ensures len { length self.new.message ≤ 405 }
     {
-        build_message(message, &mut self.message);
+        build_message(message, wishes, &mut self.message);
     }
 
     /// Builds a message as a packet from port 68 of the client's address, which is 0.0.0.0 as long as it has none. Both
     /// checksums are computed.
-    pub fn build_packet(&mut self, message: &DhcpMessage)
-        ensures { self.new ≡ record { message = spec.message_text message.now; packet = spec.packet_of message.now } }
+    pub fn build_packet(&mut self, message: &DhcpMessage, wishes: &DhcpWishes)
+        ensures { self.new
+            ≡ record { message = spec.message_text wishes.now message.now; packet = spec.packet_of wishes.now message.now } }
     {
-        build_message(message, &mut self.message);
+        build_message(message, wishes, &mut self.message);
         let src = message.repr.client_ip;
         build_packet(src, message.dst, self.message.as_slice(), &mut self.packet);
     }
 }
 
 /// Builds a message, in place of what the buffer has.
-fn build_message(message: &DhcpMessage, out: &mut FrameBuffer)
-    ensures items { out.new ≡ spec.message_text message.now }
-    ensures len { length out.new ≤ 320 }
+fn build_message(message: &DhcpMessage, wishes: &DhcpWishes, out: &mut FrameBuffer)
+    ensures items { out.new ≡ spec.message_text wishes.now message.now }
+    ensures len { length out.new ≤ 405 }
 {
+    let parameters = wishes.all_parameters();
     out.clear();
-    message.repr.emit(&PARAMETERS, out);
+    message
+        .repr
+        .emit(parameters.as_slice(), wishes.host_name.as_slice(), out);
 }
 
 /// Builds a packet with these octets as its payload, from port 68 of an address to port 67 of another one, in place of what
 /// the buffer has. Both checksums are computed.
 fn build_packet(src: Ipv4Address, dst: Ipv4Address, payload: &[u8], out: &mut FrameBuffer)
-    requires { length payload.now ≤ 320 }
+    requires { length payload.now ≤ 405 }
     ensures { out.new ≡ spec.packet_text src dst payload.now }
 {
     let header = Ipv4Repr {

@@ -8,7 +8,8 @@ ghost use Rattle.net_base.specs.Time.{IsMoment};
 use anyhow::Result;
 use arrayvec::ArrayVec;
 use dhcp_client::{
-    DhcpClient, DhcpEvent, DhcpLease, DhcpMessage, DhcpRoom, receive, send_by_raw, send_by_udp,
+    DhcpClient, DhcpEvent, DhcpLease, DhcpMessage, DhcpRoom, DhcpWishes, receive, send_by_raw,
+    send_by_udp,
 };
 use interface::{Config, Interface, SocketHandle, SocketSet};
 use ip_wire::{EthernetAddress, IpCidr, IpProtocol, IpVersion, Ipv4Address, Ipv4Cidr};
@@ -195,12 +196,13 @@ fn send(
     raw: SocketHandle,
     room: &mut DhcpRoom,
 ) {
+    let wishes = DhcpWishes::new();
     if message.dst.is_broadcast() {
         if let Some(socket) = sockets.get_mut::<raw::Socket<'_>>(raw) {
-            let _ = send_by_raw(message, socket, room);
+            let _ = send_by_raw(message, &wishes, socket, room);
         }
     } else if let Some(socket) = sockets.get_mut::<udp::Socket<'_>>(udp) {
-        let _ = send_by_udp(message, socket, room);
+        let _ = send_by_udp(message, &wishes, socket, room);
     }
 }
 

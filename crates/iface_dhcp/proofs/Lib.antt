@@ -1,4 +1,5 @@
 mod Hearing
 mod Places
 mod Prefixes
+mod Routing
 mod Waiting

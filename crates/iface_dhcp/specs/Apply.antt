@@ -1,17 +1,24 @@
 -- How a host gets what was leased.
-use Rattle.std.specs.Prelude.{ℕ, ◌≡◌, ◌≤◌, ◌==◌, ◌&&◌, nat_eq, Bool, true, false, Option, Some, None, if◌then◌else◌}
+use Rattle.std.specs.Prelude.{ℕ, ◌≡◌, ◌≤◌, ◌==◌, ◌&&◌, nat_eq, min, Bool, true, false, List, [], ◌∷◌, Option, Some, None, if◌then◌else◌}
 use Rattle.std.specs.List.{common_prefix_len}
 use Rattle.std.proofs.Math.Nat.{min-le_right}
 use Rattle.std.proofs.Common.{lit≤}
 use Rattle.ip_address.specs.Prefixes.{bits, common_bits}
+use Rattle.ip_address.specs.declared.cidr.IpCidr.TheVariants.{Ipv4}
+use Rattle.ip_address.specs.declared.cidr.Ipv4Cidr.{Ipv4Cidr}
+use Rattle.ip_address.specs.declared.ip.IpAddress.TheVariants as address
 use Rattle.ip_address.specs.declared.ipv4.Ipv4Address.{Ipv4Address}
 use Rattle.dhcp_client.specs.Client.{lease}
 use Rattle.dhcp_client.specs.declared.lease.DhcpLease.{DhcpLease}
+use Rattle.dhcp_client.specs.declared.routes.DhcpRoute.{DhcpRoute}
 use Rattle.iface_host.specs.Leased.{ReplacesLeased, leased_refusal}
-use Rattle.iface_host.specs.Stands.{Follows}
+use Rattle.iface_host.specs.Calls.{AddsRoute, RemovesRouteBy}
+use Rattle.iface_host.specs.Stands.{Follows, Stays}
+use Rattle.iface_host.specs.TableRefusals.{route_refusal, way_removal_refusal}
 use Rattle.iface_host.specs.declared.host.IfaceHost.{IfaceHost}
 use Rattle.iface_host.specs.declared.leased.Leased.{Leased}
 use Rattle.iface_host.specs.declared.refusal.Refusal.{Refusal}
+use Rattle.iface_dhcp.specs.Dhcp.{routes}
 use Rattle.iface_dhcp.specs.declared.dhcp.Dhcp.{Dhcp}
 
 -- a mask tells as many bits as it has ones from the first on (RFC 2132 3.3); without one the network is the address alone
@@ -60,8 +67,50 @@ abbrev pub Replaces : Bool → Dhcp → Dhcp → IfaceHost → IfaceHost → Typ
 Replaces true d d' old new = (d' ≡ d) × (new ≡ old)
 Replaces false d d' old new = (d' ≡ record d { leased = leased d }) × Follows (ReplacesLeased d.leased (leased d)) old new
 
-abbrev pub Applies : Dhcp → Dhcp → IfaceHost → IfaceHost → Type 0
-Applies d = Replaces (is_same d.leased (leased d)) d
+abbrev pub AppliesLease : Dhcp → Dhcp → IfaceHost → IfaceHost → Type 0
+AppliesLease d = Replaces (is_same d.leased (leased d)) d
+
+-- the network of a route
+abbrev pub width_of : DhcpRoute → ℕ
+width_of r = min r.prefix_len 32
+
+pub width_is_within : (r : DhcpRoute) → width_of r ≤ 32
+width_is_within r = min-le_right r.prefix_len 32
+
+abbrev pub network_of : DhcpRoute → Ipv4Cidr
+network_of r = record { address = r.network; prefix_len = width_of r; in_range = width_is_within r }
+
+-- what a call of the host does, unless it is refused, when its rules see no change
+abbrev pub OrStays : Option Refusal → (IfaceHost → IfaceHost → Type 0) → IfaceHost → IfaceHost → Type 0
+OrStays None Step old new = Step old new
+OrStays (Some refusal) Step old new = Stays old new
+
+-- the first route to the network by the router is taken out, if there is one; one is put behind the others, if there is room
+abbrev pub TakesRoute : DhcpRoute → IfaceHost → IfaceHost → Type 0
+TakesRoute r old = OrStays (way_removal_refusal old (network_of r) r.router) (Follows (RemovesRouteBy (network_of r) r.router)) old
+
+abbrev pub PutsRoute : DhcpRoute → IfaceHost → IfaceHost → Type 0
+PutsRoute r old = OrStays (route_refusal old None) (Follows (AddsRoute (Ipv4 (network_of r)) (address.Ipv4 r.router) None)) old
+
+-- so with each route, one after another
+pub data GoesOver (One : DhcpRoute → IfaceHost → IfaceHost → Type 0) : List DhcpRoute → IfaceHost → IfaceHost → Type 0 where
+  Over : {host : IfaceHost} → GoesOver One [] host host
+  Next : {r : DhcpRoute} {rs : List DhcpRoute} {old mid new : IfaceHost} → One r old mid → GoesOver One rs mid new → GoesOver One (r ∷ rs) old new
+
+-- the routes of the lease stand in place of those that the client gave before
+pub record AppliesRoutes (d d' : Dhcp) (old new : IfaceHost) : Type 0 where
+  pub between : IfaceHost
+  pub taken : GoesOver TakesRoute d.routed.items old between
+  pub put : GoesOver PutsRoute (routes d) between new
+  pub routed : d'.routed.items ≡ routes d
+  pub others : d' ≡ record d { routed = d'.routed }
+
+-- first the lease's address and default route, then its other routes
+pub record Applies (d d' : Dhcp) (old new : IfaceHost) : Type 0 where
+  pub leased : Dhcp
+  pub between : IfaceHost
+  pub lease : AppliesLease d leased old between
+  pub routes : AppliesRoutes leased d' between new
 
 abbrev pub apply_refusal : Dhcp → IfaceHost → Option Refusal
 apply_refusal d host = if is_same d.leased (leased d) then None else leased_refusal host d.leased (leased d)

@@ -1,10 +1,14 @@
 -- A client of DHCP for a host: how it is made, and how it goes.
-use Rattle.std.specs.Prelude.{ℕ, ℤ, ◌≡◌, pos, min, List, Option, Some, None, if◌then◌else◌}
+use Rattle.std.specs.Prelude.{ℕ, ℤ, ◌≡◌, ◌&&◌, pos, min, nat_le, is_some, Bool, List, [], length, Option, Some, None, if◌then◌else◌}
 use Rattle.std.specs.Option.{option_map}
 use Rattle.ip_address.specs.declared.ethernet_address.EthernetAddress.{EthernetAddress}
 use Rattle.sockets.specs.declared.endpoint.IpListenEndpoint.{IpListenEndpoint}
 use Rattle.sockets.specs.declared.icmp.Endpoint.TheVariants.{Udp}
 use Rattle.dhcp_client.specs.Client as client
+use Rattle.dhcp_client.specs.Details.Message as message
+use Rattle.dhcp_client.specs.Details.Routes.{routes_in}
+use Rattle.dhcp_client.specs.declared.lease.DhcpLease.{DhcpLease}
+use Rattle.dhcp_client.specs.declared.routes.DhcpRoute.{DhcpRoute}
 use Rattle.iface_host.specs.Properties.{hardware_of}
 use Rattle.iface_host.specs.Refusals.{close_refusal}
 use Rattle.iface_host.specs.Sockets as sockets
@@ -14,7 +18,7 @@ use Rattle.iface_host.specs.TableRefusals.{first_reason, udp_opening_refusal}
 use Rattle.iface_host.specs.declared.host.IfaceHost.{IfaceHost}
 use Rattle.iface_host.specs.declared.opening.Rooms.{Rooms}
 use Rattle.iface_host.specs.declared.refusal.Refusal.{Refusal}
-use Rattle.iface_host.specs.declared.refusal.Refusal.TheVariants.{NotThere, TableFull}
+use Rattle.iface_host.specs.declared.refusal.Refusal.TheVariants.{NotThere, TableFull, TooLong}
 use Rattle.iface_dhcp.specs.declared.dhcp.Dhcp.{Dhcp}
 use Rattle.iface_dhcp.specs.declared.dhcp.DhcpSettings.{DhcpSettings}
 
@@ -24,7 +28,7 @@ port = record { addr = None; port = 68 }
 
 -- room for eight messages that came, or two of the greatest length, and for one that goes to a server
 abbrev pub rooms : Rooms
-rooms = record { received = record { packets = 8; octets = 2944 }; to_send = record { packets = 1; octets = 320 } }
+rooms = record { received = record { packets = 8; octets = 2944 }; to_send = record { packets = 1; octets = 405 } }
 
 -- what keeps the client's second place: a socket without room, which gets nothing and sends nothing. It is for errors about datagrams
 -- from port 68
@@ -50,7 +54,11 @@ pub record IsNew (s : DhcpSettings) (dhcp : Dhcp) (old new : IfaceHost) : Type 0
   pub broadcast : dhcp.broadcast ≡ None
   pub lost : dhcp.lost ≡ None
   pub random : dhcp.random ≡ s.random_seed
+  pub parameters : dhcp.wishes.parameters.items ≡ []
+  pub host_name : dhcp.wishes.host_name.items ≡ []
+  pub ack : dhcp.ack ≡ []
   pub leased : dhcp.leased ≡ None
+  pub routed : dhcp.routed.items ≡ []
 
 -- the host's link has no hardware addresses, or there are no two places for sockets
 abbrev pub refusal_for : Option EthernetAddress → IfaceHost → Option Refusal
@@ -60,6 +68,36 @@ refusal_for (Some address) host =
 
 abbrev pub new_refusal : IfaceHost → Option Refusal
 new_refusal host = refusal_for (hardware_of host) host
+
+-- what is asked for is set, and the host's name
+pub record SetsParameters (codes : List ℕ) (d d' : Dhcp) : Type 0 where
+  pub parameters : d'.wishes.parameters.items ≡ codes
+  pub host_name : d'.wishes.host_name ≡ d.wishes.host_name
+  pub others : d' ≡ record d { wishes = d'.wishes }
+
+pub record SetsHostName (name : List ℕ) (d d' : Dhcp) : Type 0 where
+  pub host_name : d'.wishes.host_name.items ≡ name
+  pub parameters : d'.wishes.parameters ≡ d.wishes.parameters
+  pub others : d' ≡ record d { wishes = d'.wishes }
+
+-- there are more than so many
+abbrev pub long_refusal : ℕ → List ℕ → Option Refusal
+long_refusal most octets = if nat_le (length octets) most then None else Some TooLong
+
+-- the data of an option of the lease, which the message has that gave it
+abbrev pub is_leased : Dhcp → Bool
+is_leased d = is_some (client.lease d.client) && nat_le 240 (length d.ack)
+
+abbrev pub option : ℕ → Dhcp → List ℕ
+option code d = if is_leased d then message.data_in code d.ack else []
+
+-- the routes that a host with the address of the lease can use (RFC 3442)
+abbrev pub routes_of : Option DhcpLease → List ℕ → List DhcpRoute
+routes_of None ack = []
+routes_of (Some l) ack = if nat_le 240 (length ack) then routes_in l.address (message.data_in 121 ack) else []
+
+abbrev pub routes : Dhcp → List DhcpRoute
+routes d = routes_of (client.lease d.client) d.ack
 
 -- when something is due, up to the last moment
 abbrev pub poll_at : Dhcp → Option ℤ

@@ -14,7 +14,7 @@ use Rattle.iface_host.specs.declared.host.IfaceHost.{IfaceHost}
 use Rattle.iface_host.specs.declared.refusal.Refusal.{Refusal}
 use Rattle.iface_host.specs.declared.refusal.Refusal.TheVariants.{NoSocket}
 use Rattle.iface_dhcp.specs.declared.dhcp.Dhcp.{Dhcp}
-use Rattle.iface_dhcp.specs.Hear.{HearsAll}
+use Rattle.iface_dhcp.specs.Hear.{Hears, HearsAll, Overhears}
 use Rattle.iface_dhcp.specs.Send.{ClosesSent, Sends}
 
 -- the host has no UDP socket of this number
@@ -59,21 +59,23 @@ SendsIf (Some m) d d' old new = Sends m d d' old new
 abbrev pub SendsNext : ℕ → Dhcp → Dhcp → IfaceHost → IfaceHost → Type 0
 SendsNext now d = SendsIf (messages.message_at now (word d) d.client) (after_asking now d)
 
--- first it hears the datagrams that wait; then the raw socket is closed, if nothing waits there; then what is due is queued;
--- and its owner is told of the lease
+-- first it hears the datagrams that wait, and the packets at the raw socket; then that is closed, if it is of no use any more; then
+-- what is due is queued; and its owner is told of the lease
 pub record Polls (now : ℤ) (told : Option DhcpEvent) (d d' : Dhcp) (old new : IfaceHost) : Type 0 where
   pub micros : ℕ
   pub is_now : pos micros ≡ now
   pub count : ℕ
   pub heard : Dhcp
+  pub overheard : Dhcp
   pub closed : Dhcp
   pub sent : Dhcp
   pub after_hearing : IfaceHost
+  pub after_overhearing : IfaceHost
   pub after_closing : IfaceHost
   pub waiting : IsWaiting d.socket count old
-  pub hears : HearsAll d.socket count d.client heard.client old after_hearing
-  pub others : heard ≡ with_client d heard.client
-  pub closes : ClosesSent heard closed after_hearing after_closing
+  pub hears : HearsAll Hears count d heard old after_hearing
+  pub overhears : Overhears heard.broadcast heard overheard after_hearing after_overhearing
+  pub closes : ClosesSent overheard closed after_overhearing after_closing
   pub sends : SendsNext micros closed sent after_closing new
   pub event_is : told ≡ event sent.client
   pub after : d' ≡ with_client sent (after_telling sent.client)

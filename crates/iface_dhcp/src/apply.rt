@@ -5,16 +5,29 @@ ghost use Rattle.iface_dhcp.specs.Apply as spec;
 ghost use Rattle.iface_host.specs.Stands.{Stays};
 
 use crate::dhcp::Dhcp;
-use dhcp_client::DhcpLease;
+use dhcp_client::{DhcpLease, DhcpRoute};
 use iface_host::{IfaceHost, Leased, Refusal};
-use ip_wire::{Ipv4Address, Ipv4Cidr};
+use ip_wire::{IpAddress, IpCidr, Ipv4Address, Ipv4Cidr};
 
 impl Dhcp {
-    /// Gives a host the address and the default route of the client's lease, in place of those that the client gave it before;
-    /// none, if there is no lease. Where they are the same nothing changes. It fails as [`IfaceHost::replace_leased`] does; then
-    /// nothing changes.
+    /// Gives a host the address, the default route and the other routes of the client's lease, in place of those that the client
+    /// gave it before; none, if there is no lease. Where the address and the default route are the same the neighbours stay. It
+    /// fails as [`IfaceHost::replace_leased`] does; then nothing changes. Other routes, of [`Dhcp::routes`], are left out where there
+    /// is no room for them.
     pub fn apply(&mut self, host: &mut IfaceHost) -> Result<(), Refusal>
         ensures applied { OnOk result (spec.Applies self.old self.new host.old host.new) }
+        ensures why { result_err result ≡ spec.apply_refusal self.old host.old }
+        ensures dhcp { OnErr result (self.new ≡ self.old) }
+        ensures host { OnErr result (Stays host.old host.new) }
+    {
+        self.apply_lease(host)?;
+        self.apply_routes(host);
+        Ok(())
+    }
+
+    /// Gives a host the address and the default route of the client's lease, in place of those that the client gave it before.
+    fn apply_lease(&mut self, host: &mut IfaceHost) -> Result<(), Refusal>
+        ensures applied { OnOk result (spec.AppliesLease self.old self.new host.old host.new) }
         ensures why { result_err result ≡ spec.apply_refusal self.old host.old }
         ensures dhcp { OnErr result (self.new ≡ self.old) }
         ensures host { OnErr result (Stays host.old host.new) }
@@ -27,6 +40,72 @@ impl Dhcp {
         self.leased = leased;
         Ok(())
     }
+
+    /// Gives a host the other routes of the client's lease, in place of those that the client gave it before.
+    fn apply_routes(&mut self, host: &mut IfaceHost)
+        ensures { spec.AppliesRoutes self.old self.new host.old host.new }
+    {
+        let routes = self.routes();
+        take_routes(host, self.routed.as_slice());
+        put_routes(host, routes.as_slice());
+        self.routed = routes;
+    }
+}
+
+/// Takes routes out of a host, one after another, as far as they are there.
+fn take_routes(host: &mut IfaceHost, routes: &[DhcpRoute])
+    ensures { spec.GoesOver spec.TakesRoute routes.now host.old host.new }
+{
+    let mut rest = routes;
+    while let Some((route, others)) = rest.split_first() {
+        take_route(host, route);
+        rest = others;
+    }
+}
+
+/// Takes the first route of a host to a network by a router out, if it is there.
+fn take_route(host: &mut IfaceHost, route: &DhcpRoute)
+    ensures { spec.TakesRoute route.now host.old host.new }
+{
+    let _ = host.remove_route_by(network_of(route), route.router);
+}
+
+/// Puts routes after all others of a host, one after another, as far as there is room.
+fn put_routes(host: &mut IfaceHost, routes: &[DhcpRoute])
+    ensures { spec.GoesOver spec.PutsRoute routes.now host.old host.new }
+{
+    let mut rest = routes;
+    while let Some((route, others)) = rest.split_first() {
+        put_route(host, route);
+        rest = others;
+    }
+}
+
+/// Puts a route after all others of a host, if there is room for it.
+fn put_route(host: &mut IfaceHost, route: &DhcpRoute)
+    ensures { spec.PutsRoute route.now host.old host.new }
+{
+    let network = IpCidr::Ipv4(network_of(route));
+    let _ = host.add_route(network, IpAddress::Ipv4(route.router), None);
+}
+
+/// The network of a route.
+fn network_of(route: &DhcpRoute) -> Ipv4Cidr
+    ensures { result ≡ spec.network_of route.now }
+{
+    let prefix_len = width_of(route);
+    Ipv4Cidr {
+        address: route.network,
+        prefix_len,
+    }
+}
+
+/// How many bits of a route's network count: 32 at most.
+fn width_of(route: &DhcpRoute) -> u8
+    ensures value { result ≡ spec.width_of route.now }
+    ensures within { result ≤ 32 }
+{
+    route.prefix_len.min(32)
 }
 
 /// What a lease gives a host. The mask tells the prefix: as many bits of it as are ones from the first on; without a mask it is

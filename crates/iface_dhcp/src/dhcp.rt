@@ -1,15 +1,16 @@
 //! The client, and how it is made.
-ghost use Rattle.std.specs.Prelude.{◌≡◌, IfOk, IfErr, OnErr, None, Some};
-ghost use Rattle.std.specs.Result.{IsErrOf};
+ghost use Rattle.std.specs.Prelude.{◌≡◌, IfOk, IfErr, OnOk, OnErr, None, Some};
+ghost use Rattle.std.specs.Result.{IsErrOf, result_err};
 ghost use Rattle.dhcp_client.specs.Client as client;
 ghost use Rattle.iface_dhcp.specs.Dhcp as spec;
 ghost use Rattle.iface_host.specs.declared.refusal.Refusal.{Refusal};
 
 use crate::place::keep_place;
-use dhcp_client::message::CLIENT_PORT;
-use dhcp_client::{DhcpClient, DhcpLease};
+use dhcp_client::message::{CLIENT_PORT, HEADER_LEN};
+use dhcp_client::{DhcpClient, DhcpLease, DhcpRepr, DhcpRoutes, DhcpWishes, OptionData};
 use iface_host::{IfaceHost, Leased, Refusal, Room, Rooms};
 use ip_wire::Ipv4Address;
+use ip_wire::emit::FrameBuffer;
 use net_base::rand::Rand;
 use sockets::IpListenEndpoint;
 use std::alloc::Global;
@@ -25,7 +26,7 @@ const ROOMS: Rooms = Rooms {
     },
     to_send: Room {
         packets: 1,
-        octets: 320,
+        octets: 405,
     },
 };
 
@@ -45,7 +46,8 @@ pub struct Dhcp {
     pub client: DhcpClient,
     /// The number of its UDP socket of port 68.
     pub socket: u32,
-    /// The number of its raw socket, which is open while a message to all servers waits there.
+    /// The number of its raw socket, which is open while a message to all servers waits there, and from the first one on as long as
+    /// there is no lease.
     pub broadcast: Option<u32>,
     /// The number of the socket that keeps the place of the raw one, while that isn't open. Only where memory was refused there may
     /// be neither.
@@ -54,8 +56,14 @@ pub struct Dhcp {
     pub lost: Option<Refusal>,
     /// Where its random numbers come from.
     pub random: Rand,
+    /// What it asks for beside what it needs itself, and the host's name.
+    pub wishes: DhcpWishes,
+    /// The octets of the message that gave the lease; none before the first lease.
+    pub ack: FrameBuffer,
     /// What it has given the host.
     pub leased: Option<Leased>,
+    /// Which routes it has given the host besides.
+    pub routed: DhcpRoutes,
 }
 
 impl Dhcp {
@@ -86,7 +94,10 @@ impl Dhcp {
             kept: None,
             lost: None,
             random: Rand::new(settings.random_seed),
+            wishes: DhcpWishes::new(),
+            ack: FrameBuffer::new(),
             leased: None,
+            routed: DhcpRoutes::new(),
         };
         let Ok(mut dhcp) = Box::new(alloc, client) else {
             return Err(Refusal::NoMemory);
@@ -105,6 +116,59 @@ impl Dhcp {
         ensures { result ≡ client.lease self.now.client }
     {
         self.client.lease()
+    }
+
+    /// Sets the codes of the options that servers are asked for beside those that the client needs itself, which are 1, 3, 6, 26 and
+    /// 121 (RFC 2132 9.8). They are in all messages that are built from then on. `TooLong` if there are more than 16; then nothing
+    /// changes.
+    pub fn set_parameters(&mut self, codes: &[u8]) -> Result<(), Refusal>
+        ensures set { OnOk result (spec.SetsParameters codes.now self.old self.new) }
+        ensures why { result_err result ≡ spec.long_refusal 16 codes.now }
+        ensures refused { OnErr result (self.new ≡ self.old) }
+    {
+        if self.wishes.set_parameters(codes) {
+            Ok(())
+        } else {
+            Err(Refusal::TooLong)
+        }
+    }
+
+    /// Sets the host's name, which is in all messages that are built from then on (RFC 2132 3.14); an empty one is none. `TooLong`
+    /// if it has more than 63 octets; then nothing changes.
+    pub fn set_host_name(&mut self, name: &[u8]) -> Result<(), Refusal>
+        ensures set { OnOk result (spec.SetsHostName name.now self.old self.new) }
+        ensures why { result_err result ≡ spec.long_refusal 63 name.now }
+        ensures refused { OnErr result (self.new ≡ self.old) }
+    {
+        if self.wishes.set_host_name(name) {
+            Ok(())
+        } else {
+            Err(Refusal::TooLong)
+        }
+    }
+
+    /// The data of an option of the lease, put together (RFC 3396); of more than 256 octets the first ones. They are empty if there
+    /// is no lease, or no such option.
+    pub fn option(&self, code: u8) -> OptionData
+        ensures { result.items ≡ spec.option code self.now }
+    {
+        if self.client.lease().is_none() || self.ack.len() < HEADER_LEN {
+            return OptionData::new();
+        }
+        DhcpRepr::option_in(self.ack.as_slice(), code)
+    }
+
+    /// The first eight routes of the lease that the host can use, but for the default route, whose router the lease has (RFC 3442).
+    /// A route by 0.0.0.0 says that its network is on the link, and is left out.
+    pub fn routes(&self) -> DhcpRoutes
+        ensures { result.items ≡ spec.routes self.now }
+    {
+        match self.client.lease() {
+            Some(lease) if self.ack.len() >= HEADER_LEN => {
+                DhcpRepr::routes_in(self.ack.as_slice(), &lease.address)
+            }
+            _ => DhcpRoutes::new(),
+        }
     }
 
     /// Why the message that was due last is lost, if it is: `NoMemory` where memory for the raw socket is refused, `TableFull` where

@@ -7,13 +7,12 @@ ghost use Rattle.iface_host.specs.Refusals.{kind_at};
 ghost use Rattle.sockets.specs.Kinds.{down_udp};
 
 use crate::dhcp::Dhcp;
-use crate::hear::hear;
 use dhcp_client::{DhcpEvent, DhcpMessage};
 use iface_host::streams::micros_of;
 use iface_host::{IfaceHost, Refusal};
 
 impl Dhcp {
-    /// Does what is due at a moment: hands the client what came to its socket, queues the message that is to be sent now, if
+    /// Does what is due at a moment: hands the client what came to its sockets, queues the message that is to be sent now, if
     /// there is one, and returns what has become of the lease since the last call, if it has changed. `BadMoment` if the moment
     /// is out of range, else `NoSocket` if the host doesn't have the client's socket; then nothing changes.
     ///
@@ -26,8 +25,8 @@ impl Dhcp {
     {
         let micros = micros_of(now)?;
         let count = waiting_at(host, self.socket)?;
-        let socket = self.socket;
-        hear(&mut self.client, host, socket, count);
+        self.hear(host, count);
+        self.overhear(host);
         self.close_sent(host);
         self.send_next(host, micros);
         Ok(self.client.take_event())

@@ -6,19 +6,22 @@ ghost use Rattle.iface_dhcp.specs.Send as spec;
 ghost use Rattle.ip_address.specs.Ipv4.{is_broadcast};
 
 use crate::dhcp::{Dhcp, close_one};
-use dhcp_client::{DhcpMessage, DhcpRoom, server_of};
+use dhcp_client::{DhcpMessage, DhcpRoom, DhcpWishes, server_of};
 use iface_host::{IfaceHost, Refusal, Room, Rooms};
 use ip_wire::{IpProtocol, IpVersion};
 
-/// What the raw socket holds: one message with its headers, and nothing that came.
+/// The most octets that wait at the raw socket: as many as the longest packet of an Ethernet has.
+pub const OVERHEARD_LEN: usize = 1500;
+
+/// What the raw socket holds: one message with its headers, and some packets that came.
 const ROOMS: Rooms = Rooms {
     received: Room {
-        packets: 0,
-        octets: 0,
+        packets: 8,
+        octets: OVERHEARD_LEN,
     },
     to_send: Room {
         packets: 1,
-        octets: 348,
+        octets: 433,
     },
 };
 
@@ -38,7 +41,7 @@ impl Dhcp {
         if message.dst.is_broadcast() {
             self.send_to_all(host, message)
         } else {
-            send_to_server(host, self.socket, message)
+            send_to_server(host, self.socket, message, &self.wishes)
         }
     }
 
@@ -47,13 +50,13 @@ impl Dhcp {
         ensures { spec.SendsToAll message.now result self.old self.new host.old host.new }
     {
         if let Some(number) = self.broadcast {
-            return send_packet(host, number, message);
+            return send_packet(host, number, message, &self.wishes);
         }
         self.leave_place(host);
         match host.open_raw(IpVersion::Ipv4, IpProtocol::Udp, ROOMS) {
             Ok(number) => {
                 self.broadcast = Some(number);
-                send_packet(host, number, message)
+                send_packet(host, number, message, &self.wishes)
             }
             Err(refusal) => {
                 self.keep_place(host);
@@ -62,7 +65,7 @@ impl Dhcp {
         }
     }
 
-    /// Closes the raw socket, if it is open and nothing waits there, and keeps its place.
+    /// Closes the raw socket, if it is open, the client has a lease and nothing waits to be sent there, and keeps its place.
     pub(crate) fn close_sent(&mut self, host: &mut IfaceHost)
         ensures { spec.ClosesSent self.old self.new host.old host.new }
     {
@@ -70,12 +73,19 @@ impl Dhcp {
             self.keep_place(host);
             return;
         };
-        if is_waiting(host, number) {
+        if self.needs_raw(host, number) {
             return;
         }
         close_one(host, number);
         self.broadcast = None;
         self.keep_place(host);
+    }
+
+    /// Whether the raw socket is still of use: the client has no lease, or a packet waits to be sent there.
+    fn needs_raw(&self, host: &IfaceHost, number: u32) -> bool
+        ensures { result ≡ spec.needs_raw number self.now host.now }
+    {
+        self.client.lease().is_none() || is_waiting(host, number)
     }
 }
 
@@ -91,21 +101,31 @@ fn is_waiting(host: &IfaceHost, number: u32) -> bool
 
 /// Queues a message at a UDP socket, for port 67 of its destination, and returns why it is lost, if it is.
 #[inline(never)]
-fn send_to_server(host: &mut IfaceHost, socket: u32, message: &DhcpMessage) -> Option<Refusal>
-    ensures { spec.SendsToServer socket message.now result host.old host.new }
+fn send_to_server(
+    host: &mut IfaceHost,
+    socket: u32,
+    message: &DhcpMessage,
+    wishes: &DhcpWishes,
+) -> Option<Refusal>
+    ensures { spec.SendsToServer socket wishes.now message.now result host.old host.new }
 {
     let mut room = DhcpRoom::new();
-    room.build_message(message);
+    room.build_message(message, wishes);
     host.send_udp(socket, server_of(message), room.message.as_slice())
         .err()
 }
 
 /// Queues a message at a raw socket, as a packet, and returns why it is lost, if it is.
 #[inline(never)]
-fn send_packet(host: &mut IfaceHost, number: u32, message: &DhcpMessage) -> Option<Refusal>
-    ensures { spec.SendsPacket number message.now result host.old host.new }
+fn send_packet(
+    host: &mut IfaceHost,
+    number: u32,
+    message: &DhcpMessage,
+    wishes: &DhcpWishes,
+) -> Option<Refusal>
+    ensures { spec.SendsPacket number wishes.now message.now result host.old host.new }
 {
     let mut room = DhcpRoom::new();
-    room.build_packet(message);
+    room.build_packet(message, wishes);
     host.send_raw(number, room.packet.as_slice()).err()
 }

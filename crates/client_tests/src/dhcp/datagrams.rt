@@ -1,5 +1,7 @@
 use crate::dhcp::octets::{DISCOVER, DISCOVER_HEADERS, OFFER, message, packet};
-use dhcp_client::{DhcpClient, DhcpMessageType, DhcpRoom, receive, send_by_raw, send_by_udp};
+use dhcp_client::{
+    DhcpClient, DhcpMessageType, DhcpRoom, DhcpWishes, receive, send_by_raw, send_by_udp,
+};
 use ip_wire::{EthernetAddress, IpAddress, IpProtocol, IpVersion, Ipv4Address};
 use sockets::{IpEndpoint, Queue, raw, udp};
 
@@ -12,12 +14,13 @@ fn discovers(client: &mut DhcpClient, socket: &mut raw::Socket<'_>) -> bool {
     let Some(discover) = client.next_message(0, 0x3903_f326) else {
         return false;
     };
+    let wishes = DhcpWishes::new();
     let mut room = DhcpRoom::new();
     let wanted = packet(&DISCOVER_HEADERS, &DISCOVER.0, &DISCOVER.1);
-    send_by_raw(&discover, socket, &mut room).is_ok()
+    send_by_raw(&discover, &wishes, socket, &mut room).is_ok()
         && room.packet.as_slice() == wanted.as_slice()
         && socket.tx().len() == 1
-        && send_by_raw(&discover, socket, &mut room).is_err()
+        && send_by_raw(&discover, &wishes, socket, &mut room).is_err()
 }
 
 /// What goes to all servers, from a host without an address.
@@ -41,7 +44,7 @@ fn requests(client: &mut DhcpClient, socket: &mut udp::Socket<'_>, room: &mut Dh
     match client.next_message(1, 5) {
         Some(request) => {
             request.repr.message_type == DhcpMessageType::Request
-                && send_by_udp(&request, socket, room).is_ok()
+                && send_by_udp(&request, &DhcpWishes::new(), socket, room).is_ok()
         }
         None => false,
     }

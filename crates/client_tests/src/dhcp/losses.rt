@@ -104,10 +104,11 @@ fn refused_at(client: &mut DhcpClient, now: u64) -> u32 {
     let Some(message) = client.next_message(now, 5) else {
         return 0;
     };
-    match message.repr.message_type {
-        DhcpMessageType::Discover => client.receive(&offer(5, SERVER)),
-        _ => client.receive(&nak(5, SERVER)),
-    }
+    let refusal = match message.repr.message_type {
+        DhcpMessageType::Discover => offer(5, SERVER),
+        _ => nak(5, SERVER),
+    };
+    client.receive(&refusal);
     1
 }
 

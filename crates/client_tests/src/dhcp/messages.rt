@@ -16,8 +16,8 @@ const OTHER_DNS: Ipv4Address = Ipv4Address { bits: 0x0808_0808 };
 
 const HARDWARE: EthernetAddress = EthernetAddress([2, 0, 0, 0, 0, 1]);
 
-/// What a client asks for: mask, router, servers of names.
-const PARAMETERS: [u8; 3] = [1, 3, 6];
+/// What a client asks for: mask, routes, router, servers of names, the longest packet.
+const PARAMETERS: [u8; 5] = [1, 121, 3, 6, 26];
 
 /// A message of this client, from a server if it gives an address.
 fn repr(
@@ -117,7 +117,7 @@ fn is_emitted(
 ) -> bool {
     let values = repr(message_type, number, NOBODY, NOBODY, options);
     let mut out = FrameBuffer::new();
-    values.emit(&PARAMETERS, &mut out);
+    values.emit(&PARAMETERS, &[], &mut out);
     out.as_slice() == octets.as_slice()
         && DhcpRepr::parse(out.as_slice()) == Some(values)
         && is_asking(&out)

@@ -1,6 +1,6 @@
 -- DHCP messages (RFC 2131 2), with an Ethernet address as the client's.
 use Rattle.std.specs.Prelude.{◌≡◌, ℕ, ◌<◌, ◌≤◌, ◌^◌, ◌==◌, ◌&&◌, ◌||◌, Bool, not, nat_le}
-use Rattle.std.specs.Prelude.{IsTrue, List, [], ◌∷◌, ◌++◌, length, drop, replicate, slice_index, slice_range, if◌then◌else◌}
+use Rattle.std.specs.Prelude.{IsTrue, Option, List, [], ◌∷◌, ◌++◌, length, drop, replicate, slice_index, slice_range, if◌then◌else◌}
 use Rattle.std.specs.Int.{w16, w32, to_be_bytes}
 use Rattle.ip_wire.specs.Octets.{u16_at, u32_at}
 use Rattle.ip_address.specs.declared.ipv4.Ipv4Address.{Ipv4Address}
@@ -11,6 +11,7 @@ use Rattle.dhcp_client.specs.declared.options.DhcpOptions.{DhcpOptions}
 use Rattle.dhcp_client.specs.Options.{options_after, are_whole, joined, in_room, octet_in, address_in, seconds_in, size_in, identifier_in}
 use Rattle.dhcp_client.specs.Options.{hardware_address_at, listed_at, list_in, option_text, address_data, seconds_data, size_data}
 use Rattle.dhcp_client.specs.Options.{identifier_data, list_data, AreOptions}
+use Rattle.dhcp_client.specs.Details.Routes.{are_routes, default_in}
 
 -- the types by their numbers (RFC 2132 9.6)
 abbrev pub number_of : DhcpMessageType → ℕ
@@ -92,15 +93,20 @@ pub record IsDhcp (message : List ℕ) : Type 0 where
   pub type : IsTypeNumber (type_number message)
   pub operation : slice_index message 0 ≡ operation_of (type_number message)
 
+-- where routes are told the router is that of the default route among them, else the first one of the list (RFC 3442)
+abbrev pub router_in : List ℕ → Option Ipv4Address
+router_in message = if are_routes (data_in 121 message) then default_in (data_in 121 message) else listed_at (data_in 3 message) 0
+
 abbrev pub options_in : List ℕ → DhcpOptions
 options_in message = record {
   subnet_mask = address_in (data_in 1 message);
-  router = listed_at (data_in 3 message) 0;
+  router = router_in message;
   dns_servers = list_in (data_in 6 message);
   requested_ip = address_in (data_in 50 message);
   lease_duration = seconds_in (data_in 51 message);
   server_identifier = address_in (data_in 54 message);
   max_size = size_in (data_in 57 message);
+  mtu = size_in (data_in 26 message);
   renew_duration = seconds_in (data_in 58 message);
   rebind_duration = seconds_in (data_in 59 message);
   client_identifier = identifier_in (data_in 61 message);
@@ -144,8 +150,8 @@ abbrev pub header_text : DhcpRepr → List ℕ
 header_text r = fields_text r ++ r.client_hardware_address.0 ++ replicate 202 0 ++ 99 ∷ 130 ∷ 83 ∷ 99 ∷ []
 
 -- the options, up to the one that ends them
-abbrev pub options_text : DhcpRepr → List ℕ → List ℕ
-options_text r parameters =
+abbrev pub options_text : DhcpRepr → List ℕ → List ℕ → List ℕ
+options_text r parameters host_name =
     option_text 53 (number_of r.message_type ∷ [])
     ++ (option_text 61 (identifier_data r.options.client_identifier)
     ++ (option_text 50 (address_data r.options.requested_ip)
@@ -157,11 +163,14 @@ options_text r parameters =
     ++ (option_text 1 (address_data r.options.subnet_mask)
     ++ (option_text 3 (address_data r.options.router)
     ++ (option_text 6 (list_data r.options.dns_servers)
+    ++ (option_text 26 (size_data r.options.mtu)
+    ++ (option_text 12 host_name
     ++ (option_text 55 parameters
-    ++ 255 ∷ [])))))))))))
+    ++ 255 ∷ [])))))))))))))
 
-abbrev pub text : DhcpRepr → List ℕ → List ℕ
-text r parameters = header_text r ++ options_text r parameters
+-- with the list of parameters that it asks for, and the name of a host (RFC 2132 3.14)
+abbrev pub text : DhcpRepr → List ℕ → List ℕ → List ℕ
+text r parameters host_name = header_text r ++ options_text r parameters host_name
 
 -- values that a message can have
 pub record IsMessage (r : DhcpRepr) : Type 0 where
@@ -174,7 +183,8 @@ pub record IsMessage (r : DhcpRepr) : Type 0 where
   pub hardware_address : length r.client_hardware_address.0 ≡ 6
   pub options : AreOptions r.options
 
--- a text is parsed back as its values, and its list of parameters (RFC 2132 9.8)
+-- a text is parsed back as its values, its list of parameters (RFC 2132 9.8) and the host's name
 abbrev pub ReadAgain : Type 0
-ReadAgain = (r : DhcpRepr) (parameters : List ℕ) → IsMessage r
-    → IsDhcp (text r parameters) × (dhcp_in (text r parameters) ≡ r) × (joined_in 55 (text r parameters) ≡ parameters)
+ReadAgain = (r : DhcpRepr) (parameters host_name : List ℕ) → IsMessage r
+    → IsDhcp (text r parameters host_name) × (dhcp_in (text r parameters host_name) ≡ r)
+    × (joined_in 55 (text r parameters host_name) ≡ parameters) × (joined_in 12 (text r parameters host_name) ≡ host_name)

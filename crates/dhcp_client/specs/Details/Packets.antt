@@ -1,5 +1,5 @@
 -- A client's messages as octets (RFC 2131 4.1): UDP from port 68 to port 67.
-use Rattle.std.specs.Prelude.{ℕ, ◌+◌, true, List, [], ◌∷◌, ◌++◌, length}
+use Rattle.std.specs.Prelude.{ℕ, ◌+◌, true, List, ◌++◌, length}
 use Rattle.ip_address.specs.declared.ipv4.Ipv4Address.{Ipv4Address}
 use Rattle.ip_address.specs.declared.ip.IpAddress.TheVariants.{Ipv4}
 use Rattle.ip_address.specs.declared.protocol.IpProtocol.TheVariants as protocol
@@ -9,10 +9,12 @@ use Rattle.ip_wire.specs.Ipv4Packet as ipv4
 use Rattle.ip_wire.specs.Udp as udp
 use Rattle.dhcp_client.specs.Details.Message as dhcp
 use Rattle.dhcp_client.specs.declared.messages.DhcpMessage.{DhcpMessage}
+use Rattle.dhcp_client.specs.declared.wishes.DhcpWishes.{DhcpWishes}
+use Rattle.dhcp_client.specs.Details.Wishes.{parameters_of}
 
--- a message asks for the mask, the router and the servers of names (RFC 2132 9.8)
-abbrev pub message_text : DhcpMessage → List ℕ
-message_text m = dhcp.text m.repr (1 ∷ 3 ∷ 6 ∷ [])
+-- a message, with what it asks for (RFC 2132 9.8), and the host's name
+abbrev pub message_text : DhcpWishes → DhcpMessage → List ℕ
+message_text w m = dhcp.text m.repr (parameters_of w) w.host_name.items
 
 abbrev pub header_of : Ipv4Address → Ipv4Address → ℕ → Ipv4Repr
 header_of src dst len = record { src_addr = src; dst_addr = dst; next_header = protocol.Udp; payload_len = 8 + len; hop_limit = 64 }
@@ -26,5 +28,5 @@ packet_text src dst payload =
     ipv4.header_text true (header_of src dst (length payload)) ipv4.whole ++ udp.text true (Ipv4 src) (Ipv4 dst) ports payload
 
 -- a message as a packet, from the client's address; that is 0.0.0.0 as long as it has none
-abbrev pub packet_of : DhcpMessage → List ℕ
-packet_of m = packet_text m.repr.client_ip m.dst (message_text m)
+abbrev pub packet_of : DhcpWishes → DhcpMessage → List ℕ
+packet_of w m = packet_text m.repr.client_ip m.dst (message_text w m)

@@ -8,7 +8,9 @@ pub returns-clause-items : goal.returns-clause-items
 returns-clause-items c =
     let r = c.args.self.now in
     let o = r.options in
-    let t12 : List ℕ = option_text 55 c.args.parameters.now in
+    let t14 : List ℕ = option_text 55 c.args.parameters.now in
+    let t13 : List ℕ = option_text 12 c.args.host_name.now in
+    let t12 : List ℕ = option_text 26 (size_data o.mtu) in
     let t11 : List ℕ = option_text 6 (list_data o.dns_servers) in
     let t10 : List ℕ = option_text 3 (address_data o.router) in
     let t9 : List ℕ = option_text 1 (address_data o.subnet_mask) in
@@ -20,7 +22,9 @@ returns-clause-items c =
     let t3 : List ℕ = option_text 50 (address_data o.requested_ip) in
     let t2 : List ℕ = option_text 61 (identifier_data o.client_identifier) in
     let t1 : List ℕ = option_text 53 (number_of r.message_type ∷ []) in
-    let r12 : List ℕ = 255 ∷ [] in
+    let r14 : List ℕ = 255 ∷ [] in
+    let r13 : List ℕ = t14 ++ r14 in
+    let r12 : List ℕ = t13 ++ r13 in
     let r11 : List ℕ = t12 ++ r12 in
     let r10 : List ℕ = t11 ++ r11 in
     let r9 : List ℕ = t10 ++ r10 in
@@ -45,7 +49,9 @@ returns-clause-items c =
     let o9 : List ℕ = c.append_address-3.new.out in
     let o10 : List ℕ = c.append_address-4.new.out in
     let o11 : List ℕ = c.append_list.new.out in
-    let o12 : List ℕ = c.append_option-2.new.out in
+    let o12 : List ℕ = c.append_size-2.new.out in
+    let o13 : List ℕ = c.append_option-2.new.out in
+    let o14 : List ℕ = c.append_option-3.new.out in
     sym (next c.args.out.now (header_text r) o0 r0 c.emit_header.ensures.items
     ∙ next o0 t1 o1 r1 (c.append_option.ensures.items ∙ ap (λ (n : ℕ). o0 ++ option_text 53 (n ∷ [])) c.number.ensures)
     ∙ next o1 t2 o2 r2 c.append_identifier.ensures.items
@@ -58,5 +64,7 @@ returns-clause-items c =
     ∙ next o8 t9 o9 r9 c.append_address-3.ensures.items
     ∙ next o9 t10 o10 r10 c.append_address-4.ensures.items
     ∙ next o10 t11 o11 r11 c.append_list.ensures.items
-    ∙ next o11 t12 o12 r12 c.append_option-2.ensures.items
+    ∙ next o11 t12 o12 r12 c.append_size-2.ensures.items
+    ∙ next o12 t13 o13 r13 c.append_option-2.ensures.items
+    ∙ next o13 t14 o14 r14 c.append_option-3.ensures.items
     ∙ sym c.append.ensures)

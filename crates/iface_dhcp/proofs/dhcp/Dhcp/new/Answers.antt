@@ -12,5 +12,9 @@ returns-clause-made c = record {
   broadcast = search rules;
   lost = search rules;
   random = search rules;
+  parameters = search rules;
+  host_name = search rules;
+  ack = search rules;
   leased = search rules;
+  routed = search rules;
 }

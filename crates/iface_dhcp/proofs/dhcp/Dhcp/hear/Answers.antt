@@ -1,0 +1,12 @@
+use Rattle.iface_dhcp.specs.Hear.{Hears}
+use Rattle.iface_dhcp.proofs.Hearing.{heard_all, heard_one}
+use Rattle.iface_dhcp.proofs.dhcp.Dhcp.hear.Goals as goal
+
+pub loop-preserved : goal.loop-preserved
+loop-preserved c = λ d host rest. c.loop.invariant d host
+    (heard_one Hears c.args.count c.loop.counter c.loop.self c.hear_first.new.self d c.loop.host c.hear_first.new.host host c.loop-test.true
+    c.hear_first.ensures rest)
+
+pub returns : goal.returns
+returns c = c.loop.invariant c.loop.self c.loop.host
+    (heard_all Hears c.args.count c.loop.counter c.loop.self c.loop.host c.loop-test.false)
