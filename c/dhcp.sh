@@ -47,11 +47,14 @@ ip tuntap add dev tap0 mode tap
 ip addr add 192.168.69.100/24 dev tap0
 ip link set tap0 up
 
-# A server that leases two minutes, which are renewed after four seconds, and from the ninth on by any server: FIRST LAST LEASES.
+# A server that leases two minutes, which are renewed after four seconds, and from the ninth on by any server: FIRST LAST LEASES. That of
+# dnsmasq tells routes, whose default route counts in place of the router, and the longest packet.
 names='192.168.69.100, 192.168.69.101'
 by_dnsmasq() {
     exec dnsmasq -k -C /dev/null -p 0 -i tap0 --bind-interfaces "--dhcp-range=$1,$2,120s" --dhcp-authoritative --no-ping \
         --dhcp-option=option:T1,4 --dhcp-option=option:T2,9 "--dhcp-option=option:dns-server,${names// /}" \
+        --dhcp-option=option:router,192.168.69.101 --dhcp-option=option:mtu,1400 \
+        --dhcp-option=option:classless-static-route,10.17.0.0/16,192.168.69.101,0.0.0.0/0,192.168.69.100 \
         "--dhcp-leasefile=$work/$3" --pid-file= --log-facility=-
 }
 
@@ -98,12 +101,13 @@ prints() {
     exit 1
 }
 
-ours='^leased 192.168.69.5[0-9]/24 by 192.168.69.100, router 192.168.69.100, names 192.168.69.100, names 192.168.69.101, for 1[12][0-9] s'
+ours='^leased 192.168.69.5[0-9]/24 by 192.168.69.100, router 192.168.69.100, names 192.168.69.100, names 192.168.69.101,.* for 1[12][0-9] s'
 serve 192.168.69.50 192.168.69.59 leases
 "$program" tap0 80 >"$work/host" &
 host=$!
 echo "== a lease of $kind"
 prints "$ours" 1 10
+[ "$kind" != dnsmasq ] || prints 'packets of 1400' 1 1
 address=$(sed -n 's|leased \(.*\)/24.*|\1|p' "$work/host" | head -1)
 ping -q -c 3 -i 0.2 "$address" || status=1
 echo "== renewed"

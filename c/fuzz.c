@@ -124,7 +124,7 @@ enum kind {
     ADDRESS, NO_ADDRESS, ADDRESSES, GROUP, NO_GROUP, HARDWARE, REASSEMBLY, ANY_IP, DEFAULT, ROUTE, ROUTE_UNTIL, NO_ROUTE, PIN, UNPIN,
     UDP_OPEN, RAW_OPEN, IDENT_OPEN, PORT_OPEN, TCP_OPEN, CLOSE, HOPS, UDP_SEND, RAW_SEND, ICMP_SEND, TCP_SEND, HOLD, TCP_ABORT,
     UDP_RECEIVE, RAW_RECEIVE, ICMP_RECEIVE, TCP_RECEIVE, UDP_PEEK, RAW_PEEK, ICMP_PEEK, TCP_PEEK, GIVEN_UP, CHANGED,
-    APPLY, RESET, LISTEN, ACCEPT, CONNECT, SEND, RECEIVE, PEEK, END, ABORT, RELEASE, NAGLE, ACK_DELAY, KEEP_ALIVE, TIMEOUT,
+    APPLY, RESET, LISTEN, ACCEPT, NEWS, CONNECT, SEND, RECEIVE, PEEK, END, ABORT, RELEASE, NAGLE, ACK_DELAY, KEEP_ALIVE, TIMEOUT,
     CLOSE_LISTENER, HOP_LIMIT, SERVERS, START, CANCEL, RESULT, KINDS
 };
 
@@ -309,6 +309,7 @@ static uint32_t call_services(struct world *w, const struct choice *c, struct ou
     case RESET: return iface_dhcp_reset(&w->client);
     case LISTEN: return iface_stream_listen(t, &c->end, c->other % 5, &o->size);
     case ACCEPT: return iface_stream_accept(t, c->other % LISTENERS, &o->name);
+    case NEWS: return iface_streams_changed(t, &o->name);
     case CONNECT: return iface_stream_connect(t, h, c->now, &c->end, &c->peer, &o->name);
     case SEND: return iface_stream_send(t, s, c->octets, c->length, &o->size);
     case RECEIVE: return iface_stream_receive(t, s, o->octets, c->room, &o->size);
@@ -351,7 +352,7 @@ static void make_call(struct world *w, const struct choice *c, struct outcome *o
     if (code != IFACE_OK) wants("a refused call writes nothing", memcmp(o, &untouched, sizeof untouched) == 0, 1);
     if (heap.requests > 0) wants("who takes memory", (uint64_t)takes_memory(c->kind), 1);
     o->code = code;
-    if (code == IFACE_OK && (c->kind == ACCEPT || c->kind == CONNECT)) w->names[c->small % NAMES] = o->name;
+    if (code == IFACE_OK && (c->kind == ACCEPT || c->kind == NEWS || c->kind == CONNECT)) w->names[c->small % NAMES] = o->name;
 }
 
 /* ---- what is shown ---- */

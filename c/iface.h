@@ -45,10 +45,11 @@ enum iface_code {
                                 are open, or as many queries are there as may be */
     IFACE_NO_SOCKET = 11,    /* no socket of this kind is open by this number; no connection has this name */
     IFACE_BAD_PORT = 12,     /* a port that is 0 */
-    IFACE_TOO_LONG = 13,     /* a packet longer than is ever sent */
+    IFACE_TOO_LONG = 13,     /* a packet longer than is ever sent; too many codes of options, too long a name */
     IFACE_QUEUE_FULL = 14,   /* the socket's queue has no room for the packet: iface_next makes some, unless the packet is
                                 longer than the whole queue */
-    IFACE_EMPTY = 15,        /* no packet came; the socket doesn't wait; no packet was given up; no connection waits */
+    IFACE_EMPTY = 15,        /* no packet came; the socket doesn't wait; no packet was given up; no connection waits; no lease,
+                                or no such option of it */
     IFACE_NO_ROOM = 16,      /* the room for a frame is shorter than IFACE_FRAME_ROOM, that for a packet than the packet */
     IFACE_BAD_TIMEOUT = 17,  /* reassembly_timeout: 0, or longer than a day */
     IFACE_BAD_VERSION = 18,  /* iface_new: the library isn't of this header's version */
@@ -62,10 +63,10 @@ enum iface_code {
     IFACE_NO_ROUTE = 26      /* iface_stream_connect: no network and no route of the host has the destination */
 };
 
-/* The version of this header, an octet each: 0.14.0, and the header's number, which grows with each change of a call or
+/* The version of this header, an octet each: 0.15.0, and the header's number, which grows with each change of a call or
  * a structure. iface_new refuses a library of another one; a program that compares it with iface_version() before its
  * first call learns of that earlier. */
-#define IFACE_VERSION 0x000e000au
+#define IFACE_VERSION 0x000f0000u
 
 /* The room that iface_receive and iface_next need for a frame, in octets. */
 #define IFACE_FRAME_ROOM 1514
@@ -552,8 +553,9 @@ uint32_t iface_poll_at(iface *host, int64_t now, int64_t *at);
  * before its first call, not copied, and in one call at a time. It goes with the host that it was made for.
  *
  * The client takes two places for sockets: one for its UDP socket, and one for a raw socket, which is open while a message to all
- * servers waits to be sent. A socket that gets nothing keeps that place meanwhile. A program that calls none of these is linked
- * without any of it by --gc-sections. */
+ * servers waits to be sent and, from the first one on, as long as there is no lease: by it the client takes answers to the address
+ * that a server offers. A socket that gets nothing keeps that place meanwhile. A program that calls none of these is linked without
+ * any of it by --gc-sections. */
 
 /* A handle, which owns a client or none. Its fields are the library's. */
 typedef struct iface_dhcp {
@@ -567,10 +569,11 @@ typedef struct iface_dhcp {
 /* What a server leased. An address that the server didn't tell has version 0. */
 struct iface_lease {
     struct iface_address address;
-    struct iface_address router;
+    struct iface_address router;         /* of the default route; where routes are told, of that among them, or none (RFC 3442) */
     struct iface_address server;         /* the one that leased it */
     struct iface_address dns_servers[3]; /* of names, from the first place on */
     uint8_t prefix_len;                  /* how many bits of the address are the network's: 32 without a mask */
+    uint16_t mtu;                        /* the longest packet of the network, 68 octets or more; 0 if the server didn't tell it */
     int64_t expires_at;                  /* when it ends, unless it is renewed before; IFACE_NEVER for a lease without end */
 };
 
@@ -587,6 +590,14 @@ enum iface_dhcp_event {
  * HAS_CLIENT, BAD_ARGUMENT (a version of `known` that is neither 0 nor 4), NO_HOST, NOT_THERE (a medium without hardware
  * addresses), TABLE_FULL (no two sockets are left), NO_MEMORY. */
 uint32_t iface_dhcp_new(iface_dhcp *client, iface *host, uint64_t seed, const struct iface_address *known);
+
+/* Sets the codes of the options that servers are asked for, in place of those before, in all messages from then on. The client asks
+ * for 1, 3, 6, 26 and 121 itself. NO_CLIENT, TOO_LONG (more than 16). */
+uint32_t iface_dhcp_parameters(iface_dhcp *client, const uint8_t *codes, size_t count);
+
+/* Sets the name of the host, which is in all messages from then on (RFC 2132, 3.14); none, of no octets, is told at first.
+ * NO_CLIENT, TOO_LONG (more than 63 octets). */
+uint32_t iface_dhcp_host_name(iface_dhcp *client, const char *name, size_t length);
 
 /* Does what is due: the client takes what came to port 68, a message that is to be sent now is queued, and what has become of
  * the lease is written. A message for which there is no room or no memory counts as lost, and is sent again later.
@@ -605,9 +616,14 @@ uint32_t iface_dhcp_lost(iface_dhcp *client, uint32_t *why);
 /* Writes the lease that the client has. NO_CLIENT, EMPTY (it has none). */
 uint32_t iface_dhcp_lease(iface_dhcp *client, struct iface_lease *lease);
 
-/* Gives the host the address of the lease with its network, and its router as a default route, after the others; in place of those
- * that the client gave it before, and none without a lease. That forgets all neighbours, unless the lease gives the same as before:
- * then nothing changes. Other addresses and routes stay.
+/* Writes the octets of an option of the lease, put together (RFC 3396), and how many there are. Of more than 256 the first ones count.
+ * NO_CLIENT, EMPTY (no lease, or no such option), NO_ROOM. */
+uint32_t iface_dhcp_option(iface_dhcp *client, uint8_t code, uint8_t *out, size_t room, size_t *length);
+
+/* Gives the host the address of the lease with its network, its router as a default route, and up to eight other routes of option 121
+ * (RFC 3442), after the others; in place of those that the client gave it before, and none without a lease. That forgets all
+ * neighbours, unless address, network and router are the same as before. Other addresses and routes stay. A route of option 121 is
+ * left out where there is no room for it, and where its router is 0.0.0.0, which says that its network is on the link.
  * NO_CLIENT, NO_HOST, TABLE_FULL, NOT_UNICAST (one of all own addresses can't be one). */
 uint32_t iface_dhcp_apply(iface_dhcp *client, iface *host);
 
@@ -742,6 +758,7 @@ struct iface_streams_config {
     uint8_t number_key[32];    /* a secret of random octets, by which initial numbers can't be guessed (RFC 6528) */
     uint64_t table_key[2];     /* another one, by which nobody chooses ends that are slow to find */
     uint64_t keep_alive;       /* how long nothing arrives before a peer is probed; 0 for never: 0 */
+    uint64_t accepted_keep_alive; /* the same for a peer that asked for the connection; 0 for never: 120,000,000 */
     uint64_t timeout;          /* how long a peer may leave what was sent unanswered, and unacknowledged while its window has room
                                   for it; 0 for twelve tries: 0 */
     uint64_t ack_delay;        /* how long an acknowledgement of octets in order may wait: 10,000 */
@@ -749,13 +766,13 @@ struct iface_streams_config {
     uint64_t time_wait;        /* how long TIME-WAIT lasts: 60,000,000 */
     uint64_t release_timeout;  /* how long a connection may go on that was released, before it ends in a reset, whatever its peer
                                   does: 120,000,000. All of these are in microseconds */
-    uint32_t places;           /* how many connections there are at most, from 1 to 2^30: 16 */
-    uint32_t send_room;        /* how many octets each may hold that aren't acknowledged, at most 2^30: 16,384 */
-    uint32_t receive_room;     /* how many octets each may hold that aren't read, at most 2^30: 16,384 */
-    uint32_t packets;          /* how many packets wait between the connections and the host, each way and family: 32 */
-    uint32_t packet_octets;    /* how many octets they have together: 49,152 */
+    uint32_t places;           /* how many connections there are at most, from 1 to 2^30: 8 */
+    uint32_t send_room;        /* how many octets each may hold that aren't acknowledged, at most 2^30: 4,096 */
+    uint32_t receive_room;     /* how many octets each may hold that aren't read, at most 2^30: 4,096 */
+    uint32_t packets;          /* how many packets wait between the connections and the host, each way and family: 8 */
+    uint32_t packet_octets;    /* how many octets they have together: 1,536 */
     uint32_t far_octets;       /* how many octets packets have together that wait for peers that haven't answered, of which
-                                  at most 16 do: 4,096 */
+                                  at most 16 do: 1,024 */
     uint8_t ipv4;              /* not 0: over IPv4: 1 */
     uint8_t ipv6;              /* not 0: over IPv6: 1 */
     uint8_t nagle;             /* not 0: short segments wait while something is unacknowledged: 1 */
@@ -790,7 +807,9 @@ enum iface_stream_ending {
     IFACE_BY_PEER = 1,   /* the peer sent a reset */
     IFACE_REFUSED = 2,   /* the peer answered the SYN by a reset */
     IFACE_TIMED_OUT = 3, /* what was sent stayed unacknowledged, or the peer didn't answer probes */
-    IFACE_ABORTED = 4    /* the program aborted, or the own address is gone */
+    IFACE_ABORTED = 4,   /* the program aborted, or the own address is gone */
+    IFACE_UNREACHABLE = 5 /* the peer can't be reached: its neighbour doesn't answer, or a message of ICMP says so while it is being opened, or
+                             one did after which nothing came until it timed out */
 };
 
 /* Writes what most programs want: the values in the comments above, and zeros for the two secrets, which the program sets: iface_streams_new
@@ -826,6 +845,12 @@ uint32_t iface_stream_listen(iface_streams *tcp, const struct iface_endpoint *lo
 /* Takes the connection of a listener that waits longest, and writes its name. EMPTY (none waits, or there is no such listener). */
 uint32_t iface_stream_accept(iface_streams *tcp, size_t listener, struct iface_stream *stream);
 
+/* Writes the name of a connection of the program at which something changed, by frames and timers, since this call wrote it last:
+ * octets became readable, room to write came back, or the state is another one, also where the peer's end came or the connection
+ * ended. One that was accepted counts as changed. Each is written once until it changes again, and those that changed first come
+ * first: so after iface_streams_poll ask until there is none, and look at these alone. EMPTY (none has changed). */
+uint32_t iface_streams_changed(iface_streams *tcp, struct iface_stream *stream);
+
 /* Closes a listener: a SYN for it is answered by a reset from then on, unless another one listens there. Handshakes under way end in a
  * reset once they are complete, and connections that wait can still be accepted. Its number is given to no other listener, and its
  * memory is freed with the connections. NOT_THERE (no listener has this number). */
@@ -835,8 +860,8 @@ uint32_t iface_stream_close_listener(iface_streams *tcp, size_t listener);
  * none. Writes its name. The next iface_streams_poll sends the SYN, and iface_stream_state tells what becomes of it. An address of
  * `local` that the host doesn't have ends it then, as if aborted.
  * BAD_ARGUMENT, NO_STREAMS, NO_HOST, BAD_MOMENT, BAD_PORT (also the peer's), NOT_THERE (no own address of this family), BAD_ADDRESS
- * (one that isn't unicast, or they are of two families), NO_ROUTE, IN_USE (choose another port), TABLE_FULL (each place has a connection, and
- * none that was released is in TIME-WAIT). */
+ * (one that isn't unicast, or they are of two families), NO_ROUTE, IN_USE (choose another port), TABLE_FULL (each place has a connection,
+ * none is half-open, and none that was released is in TIME-WAIT). */
 uint32_t iface_stream_connect(iface_streams *tcp, iface *host, int64_t now, const struct iface_endpoint *local,
                               const struct iface_endpoint *remote, struct iface_stream *stream);
 
@@ -910,9 +935,9 @@ _Static_assert(sizeof(struct iface_cidr) == 18 && sizeof(struct iface_counts) ==
 _Static_assert(sizeof(struct iface_queue) == 20 && sizeof(struct iface_checksums) == 5, "as the library lays them out");
 _Static_assert(sizeof(struct iface_rate) == 8 && sizeof(struct iface_guard) == 44, "as the library lays them out");
 _Static_assert(sizeof(struct iface_drops) == 64, "as the library lays them out");
-_Static_assert(sizeof(struct iface_lease) == 112 && sizeof(iface_dhcp) == 16, "as the library lays them out");
+_Static_assert(sizeof(struct iface_lease) == 120 && sizeof(iface_dhcp) == 16, "as the library lays them out");
 _Static_assert(sizeof(struct iface_dns_answer) == 72 && sizeof(iface_dns) == 16, "as the library lays them out");
-_Static_assert(sizeof(struct iface_streams_config) == 128 && sizeof(iface_streams) == 16, "as the library lays them out");
+_Static_assert(sizeof(struct iface_streams_config) == 136 && sizeof(iface_streams) == 16, "as the library lays them out");
 _Static_assert(sizeof(struct iface_stream) == 16, "as the library lays them out");
 _Static_assert(sizeof(struct iface_rooms) == 16 && sizeof(struct iface_segment) == 32, "as the library lays them out");
 #endif

@@ -241,6 +241,149 @@ static void ignores_others(void) {
     must("free", iface_free(&host));
 }
 
+/* ---- what a program asks for, and what it reads ---- */
+
+static size_t read_option(iface_dhcp *client, uint8_t code, uint8_t *octets, size_t room) {
+    size_t n = 77;
+    must("option", iface_dhcp_option(client, code, octets, room, &n));
+    return n;
+}
+
+static void wants_route(iface *host, uint32_t at, const char *network, uint8_t bits, uint8_t last) {
+    struct iface_address a, router;
+    uint8_t is = 77;
+    int64_t end = 77;
+    must("route", iface_route_at(host, at, &a, &is, &router, &end));
+    wants_octets("to its network", a.octets, network, 4), wants("of its prefix", is, bits);
+    wants_v4("by its router", &router, last), wants("for good", end == IFACE_NEVER, 1);
+}
+
+/* A lease whose agreement has these options besides. */
+static void lease_with(iface_dhcp *client, iface *host, int64_t now, const uint8_t *more, size_t count) {
+    size_t n = 77, length;
+    poll_once(client, host, now), next_frame(host, now), answer(host, now, OFFER, 50, 120);
+    poll_once(client, host, now), next_frame(host, now);
+    length = lease_reply_with(frame, sent, ACK, 50, 120, more, count);
+    must("receive", iface_receive(host, now, frame, length, out, sizeof out, &n));
+    wants("a lease", poll_once(client, host, now), IFACE_DHCP_CONFIGURED);
+    must("apply", iface_dhcp_apply(client, host));
+}
+
+static void asks_and_reads(void) {
+    /* 42: in two parts (RFC 3396); 26: 1,400 octets; 121 (RFC 3442): the rest by .9, 10.17.0.0/16 by .4, 10.18.0.0/16 on the link */
+    static const uint8_t more[] = {42, 2, 192, 168, 26, 2, 5, 120, 42, 2, 69, 7, 121, 19, 0, 192, 168, 69, 9, 16, 10, 17, 192, 168, 69, 4,
+                                   16, 10, 18, 0, 0, 0, 0};
+    static const uint8_t too_wide[] = {121, 9, 33, 10, 17, 0, 0, 192, 168, 69, 4};
+    iface host = IFACE_NONE;
+    iface_dhcp client = IFACE_DHCP_NONE;
+    struct iface_address none = IFACE_ANY, network, router;
+    struct iface_lease got;
+    uint8_t octets[64], bits;
+    int64_t end;
+    size_t n = 77;
+    make(&host, IFACE_ETHERNET, 2);
+    must("client", iface_dhcp_new(&client, &host, 1, &none));
+    memset(octets, 7, sizeof octets);
+    wants("seventeen codes", iface_dhcp_parameters(&client, octets, 17), IFACE_TOO_LONG);
+    wants("a long name", iface_dhcp_host_name(&client, "abcdefghijklmnopqrstuvwxyz-abcdefghijklmnopqrstuvwxyz-abcdefghij", 64), IFACE_TOO_LONG);
+    must("codes", iface_dhcp_parameters(&client, (const uint8_t *)"\52\17", 2));
+    must("name", iface_dhcp_host_name(&client, "fern", 4));
+    wants("no lease", iface_dhcp_option(&client, 6, octets, sizeof octets, &n), IFACE_EMPTY), wants("nothing written", n == 77 && octets[0] == 7, 1);
+    poll_once(&client, &host, 0), next_frame(&host, 0);
+    wants_option("what is asked for, routes before the router", 55, "\1\171\3\6\32\52\17", 7);
+    wants_option("the name", 12, "fern", 4);
+    must("free", iface_dhcp_free(&client, &host));
+    must("client", iface_dhcp_new(&client, &host, 1, &none));
+    lease_with(&client, &host, 10 * second, more, sizeof more);
+    must("lease", iface_dhcp_lease(&client, &got));
+    wants("the longest packet", got.mtu, 1400), wants_v4("the router of the default route", &got.router, 9);
+    wants("its data", read_option(&client, 42, octets, 4), 4), wants_octets("put together", octets, "\300\250\105\7", 4);
+    wants("behind it nothing", octets[4], 7);
+    wants("no room", iface_dhcp_option(&client, 42, octets, 3, &n), IFACE_NO_ROOM), wants("nothing written", n == 77, 1);
+    wants("no such option", iface_dhcp_option(&client, 15, octets, sizeof octets, &n), IFACE_EMPTY);
+    wants("the server", read_option(&client, 54, octets, sizeof octets), 4), wants_octets("as told", octets, "\300\250\105\144", 4);
+    wants_route(&host, 0, "\0\0\0\0", 0, 9), wants_route(&host, 1, "\12\21\0\0", 16, 4);
+    wants("none on the link", iface_route_at(&host, 2, &network, &bits, &router, &end), IFACE_NOT_THERE);
+    /* the next lease has a malformed option: option 3 counts, and the route is gone */
+    must("reset", iface_dhcp_reset(&client));
+    wants("no lease", iface_dhcp_option(&client, 42, octets, sizeof octets, &n), IFACE_EMPTY);
+    wants("gone", poll_once(&client, &host, 20 * second), IFACE_DHCP_DECONFIGURED);
+    must("apply", iface_dhcp_apply(&client, &host)), wants_nothing_own(&host);
+    must("free", iface_dhcp_free(&client, &host));
+    must("client", iface_dhcp_new(&client, &host, 1, &none));
+    while (next_frame(&host, 20 * second) > 0) {}
+    lease_with(&client, &host, 30 * second, too_wide, sizeof too_wide);
+    must("lease", iface_dhcp_lease(&client, &got)), wants("no longest packet", got.mtu, 0), wants_v4("the router", &got.router, 1);
+    wants_own(&host, 50);
+    must("free", iface_dhcp_free(&client, &host)), must("free", iface_free(&host));
+}
+
+/* Of eight places for routes seven are taken: the default route is put, the other one is left out, and those of the program stay. */
+static void leaves_out_routes_without_room(void) {
+    static const uint8_t more[] = {121, 12, 0, 192, 168, 69, 9, 16, 10, 17, 192, 168, 69, 4};
+    iface host = IFACE_NONE;
+    iface_dhcp client = IFACE_DHCP_NONE;
+    struct iface_address none = IFACE_ANY, network = {4, {10, 17}}, router = {4, {192, 168, 69, 7}};
+    uint8_t bits;
+    int64_t end;
+    make(&host, IFACE_ETHERNET, 2);
+    must("client", iface_dhcp_new(&client, &host, 1, &none));
+    for (uint8_t i = 0; i < 7; i++) must("route", iface_add_route(&host, &network, (uint8_t)(16 - i), &router));
+    lease_with(&client, &host, 0, more, sizeof more);
+    wants_route(&host, 0, "\12\21\0\0", 16, 7), wants_route(&host, 7, "\0\0\0\0", 0, 9);
+    wants("no ninth", iface_route_at(&host, 8, &network, &bits, &router, &end), IFACE_NOT_THERE);
+    must("reset", iface_dhcp_reset(&client)), must("apply", iface_dhcp_apply(&client, &host));
+    wants_route(&host, 0, "\12\21\0\0", 16, 7);
+    wants("seven are left", iface_route_at(&host, 7, &network, &bits, &router, &end), IFACE_NOT_THERE);
+    must("free", iface_dhcp_free(&client, &host)), must("free", iface_free(&host));
+}
+
+/* ---- a server that ignores the broadcast flag ---- */
+
+/* What the host answers to a message that goes to the address that is leased. */
+static void answer_to_the_leased(iface *host, int64_t now, uint8_t type, uint8_t last) {
+    size_t n = 77, length = lease_reply(frame, sent, type, last, 120);
+    to_the_leased(frame, length, last);
+    must("receive", iface_receive(host, now, frame, length, out, sizeof out, &n));
+    wants("no frame in response", n, 0);
+}
+
+static void takes_what_is_sent_to_its_address(void) {
+    iface host = IFACE_NONE;
+    iface_dhcp client = IFACE_DHCP_NONE;
+    struct iface_address none = IFACE_ANY;
+    struct iface_queue received, waiting;
+    size_t n;
+    make(&host, IFACE_ETHERNET, 2);
+    must("client", iface_dhcp_new(&client, &host, 1, &none));
+    wants("no event", poll_once(&client, &host, 0), IFACE_DHCP_NOTHING), wants_broadcast(&host, 0, "\1");
+    /* a flood of other datagrams leaves room for an offer to everybody */
+    for (int i = 0; i < 20; i++) {
+        size_t length = lease_reply(frame, sent, OFFER, 60, 120);
+        to_the_leased(frame, length, 60), frame[AT_UDP + 3] = 69;
+        must("receive", iface_receive(&host, 0, frame, length, out, sizeof out, &n));
+    }
+    answer(&host, 0, OFFER, 50, 120);
+    wants("no event", poll_once(&client, &host, 0), IFACE_DHCP_NOTHING), wants_broadcast(&host, 0, "\3");
+    answer_to_the_leased(&host, 0, ACK, 50);
+    wants("a lease", poll_once(&client, &host, 0), IFACE_DHCP_CONFIGURED);
+    must("apply", iface_dhcp_apply(&client, &host)), wants_own(&host, 50);
+    wants("told once", poll_once(&client, &host, 0), IFACE_DHCP_NOTHING);
+    wants("its raw socket is closed", iface_queues(&host, 1, &received, &waiting), IFACE_OK), wants("and its place kept", received.packets, 0);
+    must("free", iface_dhcp_free(&client, &host)), must("free", iface_free(&host));
+    /* the offer comes so too, and both again to everybody: the copy changes nothing */
+    make(&host, IFACE_ETHERNET, 2);
+    must("client", iface_dhcp_new(&client, &host, 1, &none));
+    wants("no event", poll_once(&client, &host, 0), IFACE_DHCP_NOTHING), wants_broadcast(&host, 0, "\1");
+    answer_to_the_leased(&host, 0, OFFER, 50), answer(&host, 0, OFFER, 50, 120);
+    wants("no event", poll_once(&client, &host, 0), IFACE_DHCP_NOTHING), wants_broadcast(&host, 0, "\3");
+    wants_option("what was offered", 50, "\300\250\105\62", 4);
+    answer_to_the_leased(&host, 0, ACK, 50), answer(&host, 0, ACK, 50, 120);
+    wants("a lease", poll_once(&client, &host, 0), IFACE_DHCP_CONFIGURED);
+    wants("told once", poll_once(&client, &host, 0), IFACE_DHCP_NOTHING);
+    must("free", iface_dhcp_free(&client, &host)), must("free", iface_free(&host));
+}
+
 static void refuses(void) {
     iface host = IFACE_NONE, other = IFACE_NONE;
     iface_dhcp client = IFACE_DHCP_NONE;
@@ -250,12 +393,16 @@ static void refuses(void) {
     struct iface_endpoint end = {IFACE_ANY, 9};
     uint32_t event = 77, socket;
     int64_t at = 77;
+    size_t n;
     wants("no client", iface_dhcp_poll(&client, &host, 0, &event), IFACE_NO_CLIENT);
     wants("no client", iface_dhcp_poll_at(&client, &at), IFACE_NO_CLIENT);
     wants("no client", iface_dhcp_lease(&client, &got), IFACE_NO_CLIENT);
     wants("no client", iface_dhcp_lost(&client, &event), IFACE_NO_CLIENT);
     wants("no client", iface_dhcp_apply(&client, &host), IFACE_NO_CLIENT);
     wants("no client", iface_dhcp_reset(&client), IFACE_NO_CLIENT);
+    wants("no client", iface_dhcp_parameters(&client, &got.prefix_len, 1), IFACE_NO_CLIENT);
+    wants("no client", iface_dhcp_host_name(&client, "fern", 4), IFACE_NO_CLIENT);
+    wants("no client", iface_dhcp_option(&client, 6, &got.prefix_len, 1, &n), IFACE_NO_CLIENT);
     wants("no client", iface_dhcp_free(&client, &host), IFACE_NO_CLIENT);
     wants("bad argument first", iface_dhcp_new(&client, &host, 1, &bad), IFACE_BAD_ARGUMENT);
     wants("no host", iface_dhcp_new(&client, &host, 1, &none), IFACE_NO_HOST);
@@ -279,7 +426,7 @@ static void refuses(void) {
     wants("another host", iface_dhcp_poll(&client, &other, 0, &event), IFACE_NO_SOCKET);
     wants("no lease", iface_dhcp_lease(&client, &got), IFACE_EMPTY);
     wants("nothing written", event == 77 && at == 77 && got.prefix_len == 77, 1);
-    /* its second place is the raw socket's while a message to all servers waits, and the client's afterwards */
+    /* its second place is the raw socket's from the first message on, as long as there is no lease */
     wants("no event", poll_once(&client, &host, 0), IFACE_DHCP_NOTHING);
     wants("none is left", iface_udp_open(&host, &end, &rooms, &socket), IFACE_TABLE_FULL);
     wants_broadcast(&host, 0, "\1");
@@ -310,6 +457,9 @@ int main(void) {
     leases_and_renews();
     begins_anew_after_a_refusal();
     ignores_others();
+    asks_and_reads();
+    leaves_out_routes_without_room();
+    takes_what_is_sent_to_its_address();
     refuses();
     printf("leases: %d checks: %d wrong\n", checks, failures);
     return failures != 0;

@@ -260,6 +260,140 @@ static void moves_on(void) {
     }
 }
 
+/* A message of ICMP about the query that was sent (RFC 792), by its type and its code: from its server, with its header and eight octets. */
+static size_t error_about(const uint8_t *query, uint8_t type, uint8_t code) {
+    memset(frame, 0, IP_UDP + 8);
+    frame[0] = 0x45, frame[3] = 56, frame[8] = 64, frame[9] = 1;
+    memcpy(frame + IP_SOURCE, query + IP_SOURCE + 4, 4), memcpy(frame + IP_SOURCE + 4, query + IP_SOURCE, 4);
+    frame[IP_UDP] = type, frame[IP_UDP + 1] = code, memcpy(frame + IP_UDP + 8, query, 28);
+    const size_t parts[3] = {0, IP_UDP, 56};
+    for (int part = 0; part < 2; part++) {
+        uint32_t sum = 0;
+        uint8_t *at = frame + parts[part] + (part ? 2 : 10);
+        for (size_t i = parts[part]; i < parts[part + 1]; i += 2) sum += (uint32_t)(frame[i] << 8 | frame[i + 1]);
+        while (sum >> 16) sum = (sum & 0xffff) + (sum >> 16);
+        at[0] = (uint8_t)(~sum >> 8), at[1] = (uint8_t)~sum;
+    }
+    return 56;
+}
+
+/* It arrives, and nothing answers it. */
+static void error_arrives(iface *host, int64_t now, size_t length) {
+    size_t n = 77;
+    must("receive", iface_receive(host, now, frame, length, out, sizeof out, &n)), wants("no answer", n, 0);
+}
+
+/* A closed port isn't waited for (RFC 1034, 5.3.3): at the same instant the next server is asked, and where all are closed the query has
+ * failed. */
+static void passes_a_closed_port(void) {
+    iface host = IFACE_NONE;
+    iface_dns dns = IFACE_DNS_NONE;
+    uint8_t first[28];
+    for (uint8_t code = 2; code <= 3; code++) {
+        make(&host, &dns, 2);
+        size_t query = start(&host, &dns, 0, "www.example.com", IFACE_DNS_A);
+        wants_query(&host, &dns, 0, 100, ASKS_WWW), memcpy(first, query_sent, sizeof first);
+        error_arrives(&host, 0, error_about(query_sent, 3, code));
+        wants_query(&host, &dns, 0, 101, ASKS_WWW), wants_state(&dns, query, IFACE_DNS_PENDING);
+        /* once more of the first server, which isn't the one that was asked last */
+        error_arrives(&host, 0, error_about(first, 3, code));
+        must("poll", iface_dns_poll(&dns, &host, 0)), wants("no query", next_frame(&host, 0), 0), wants_state(&dns, query, IFACE_DNS_PENDING);
+        error_arrives(&host, 0, error_about(query_sent, 3, code));
+        must("poll", iface_dns_poll(&dns, &host, 0)), wants_state(&dns, query, IFACE_DNS_SERVER_FAILURE);
+        unmake(&host, &dns);
+    }
+}
+
+/* The same over IPv6 (RFC 4443, 3.1): code 4 is a closed port; code 3, no such address, does nothing. */
+static void passes_a_closed_port_v6(void) {
+    const struct iface_address own = {6, {0xfd, [15] = 1}};
+    for (uint8_t code = 3; code <= 4; code++) {
+        iface host = IFACE_NONE;
+        iface_dns dns = IFACE_DNS_NONE;
+        struct iface_config config;
+        const struct iface_address list[IFACE_DNS_SERVERS] = {{6, {0xfd, [15] = 100}}, {6, {0xfd, [15] = 101}}, none};
+        iface_config_init(&config);
+        config.seed = 1, config.medium = IFACE_IP, config.frame_len = 1500;
+        must("host", iface_new(&host, &config)), must("address", iface_add_address(&host, &own, 64));
+        must("client", iface_dns_new(&dns, 1, key, list));
+        size_t query = start(&host, &dns, 0, "www.example.com", IFACE_DNS_A);
+        must("poll", iface_dns_poll(&dns, &host, 0)), wants("a query", next_frame(&host, 0), IP_QUESTION + 20 + sizeof WWW - 1);
+        wants("to the first server", sent[39], 100);
+        /* its header, from that server; the message, which quotes 48 octets; and its sum with the pseudo-header's (RFC 8200, 8.1) */
+        memset(frame, 0, 96), frame[0] = 0x60, frame[5] = 56, frame[6] = 58, frame[7] = 64;
+        memcpy(frame + 8, sent + 24, 16), memcpy(frame + 24, sent + 8, 16);
+        frame[40] = 1, frame[41] = code, memcpy(frame + 48, sent, 48);
+        uint32_t sum = 56 + 58;
+        for (int at = 8; at < 96; at += 2) sum += (uint32_t)(frame[at] << 8 | frame[at + 1]);
+        while (sum >> 16) sum = (sum & 0xffff) + (sum >> 16);
+        frame[42] = (uint8_t)(~sum >> 8), frame[43] = (uint8_t)~sum;
+        error_arrives(&host, 0, 96);
+        must("poll", iface_dns_poll(&dns, &host, 0));
+        wants("a query", next_frame(&host, 0), code == 4 ? IP_QUESTION + 20 + sizeof WWW - 1 : 0);
+        if (code == 4) wants("to the second server", sent[39], 101);
+        wants_state(&dns, query, IFACE_DNS_PENDING);
+        unmake(&host, &dns);
+    }
+}
+
+/* What else a message of ICMP may say does nothing: the next server is asked after two seconds. */
+static void ignores_other_errors(void) {
+    iface host = IFACE_NONE;
+    iface_dns dns = IFACE_DNS_NONE;
+    /* no network, no host, too big, the host for this service, time exceeded, a wrong header, an echo reply */
+    const uint8_t soft[][2] = {{3, 0}, {3, 1}, {3, 4}, {3, 12}, {11, 0}, {12, 0}, {0, 3}};
+    /* the quoted packet has another source, destination, port of the source or of the destination, or protocol; or is a later fragment */
+    const size_t turned[] = {15, IP_SOURCE + 7, IP_UDP + 1, IP_UDP + 3, 9, 7};
+    make(&host, &dns, 2);
+    size_t query = start(&host, &dns, 0, "www.example.com", IFACE_DNS_A);
+    wants_query(&host, &dns, 0, 100, ASKS_WWW);
+    for (size_t i = 0; i < sizeof soft / sizeof *soft; i++) {
+        error_arrives(&host, 0, error_about(query_sent, soft[i][0], soft[i][1]));
+        must("poll", iface_dns_poll(&dns, &host, 0)), wants("no query", next_frame(&host, 0), 0);
+    }
+    for (size_t i = 0; i < sizeof turned / sizeof *turned; i++) {
+        uint8_t quoted[28];
+        memcpy(quoted, query_sent, sizeof quoted), quoted[turned[i]] ^= 2;
+        size_t length = error_about(quoted, 3, 3);
+        /* it comes from the server to the host all the same */
+        memcpy(frame + IP_SOURCE, query_sent + IP_SOURCE + 4, 4), memcpy(frame + IP_SOURCE + 4, query_sent + IP_SOURCE, 4);
+        frame[10] = frame[11] = 0;
+        uint32_t sum = 0;
+        for (int at = 0; at < IP_UDP; at += 2) sum += (uint32_t)(frame[at] << 8 | frame[at + 1]);
+        while (sum >> 16) sum = (sum & 0xffff) + (sum >> 16);
+        frame[10] = (uint8_t)(~sum >> 8), frame[11] = (uint8_t)~sum;
+        error_arrives(&host, 0, length);
+        must("poll", iface_dns_poll(&dns, &host, 0)), wants("no query", next_frame(&host, 0), 0);
+    }
+    error_about(query_sent, 3, 3), frame[IP_UDP + 2] ^= 1;
+    error_arrives(&host, 0, 56);
+    must("poll", iface_dns_poll(&dns, &host, 0)), wants("no query", next_frame(&host, 0), 0);
+    error_about(query_sent, 3, 3), frame[10] ^= 1;
+    error_arrives(&host, 0, 56);
+    must("poll", iface_dns_poll(&dns, &host, 0)), wants("no query", next_frame(&host, 0), 0), wants_state(&dns, query, IFACE_DNS_PENDING);
+    unmake(&host, &dns);
+}
+
+/* The last four messages count: four about another port push one out, and then the time does its work; three don't. */
+static void keeps_four_errors(void) {
+    for (int others = 3; others <= 4; others++) {
+        iface host = IFACE_NONE;
+        iface_dns dns = IFACE_DNS_NONE;
+        make(&host, &dns, 2);
+        size_t query = start(&host, &dns, 0, "www.example.com", IFACE_DNS_A);
+        wants_query(&host, &dns, 0, 100, ASKS_WWW);
+        error_arrives(&host, 0, error_about(query_sent, 3, 3));
+        for (int i = 0; i < others; i++) {
+            uint8_t quoted[28];
+            memcpy(quoted, query_sent, sizeof quoted), quoted[IP_UDP + 1] ^= 1;
+            error_arrives(&host, 0, error_about(quoted, 3, 3));
+        }
+        if (others == 4) must("poll", iface_dns_poll(&dns, &host, 0)), wants("no query", next_frame(&host, 0), 0);
+        wants_query(&host, &dns, others == 4 ? 2 * second : 0, 101, ASKS_WWW), wants_state(&dns, query, IFACE_DNS_PENDING);
+        unmake(&host, &dns);
+    }
+}
+
 /* On Ethernet a first server that isn't there costs its two seconds, whatever waits for its hardware address: the question for it gives
  * way to that for the second one. */
 static void passes_an_absent_server(void) {
@@ -483,6 +617,10 @@ int main(void) {
     gives_up();
     moves_on();
     passes_an_absent_server();
+    passes_a_closed_port();
+    passes_a_closed_port_v6();
+    ignores_other_errors();
+    keeps_four_errors();
     asks_two_at_once();
     asks_from_one_port();
     reads_names();

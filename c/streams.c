@@ -12,7 +12,10 @@ static uint8_t sent[IFACE_FRAME_ROOM], out[IFACE_FRAME_ROOM], octets[IFACE_FRAME
 
 static const int64_t second = 1000000;
 
-enum { FIN = 1, SYN = 2, RST = 4, PSH = 8, ACK = 16 };
+enum { FIN = 1, SYN = 2, RST = 4, PSH = 8, ACK = 16, URG = 32 };
+
+/* From where the peer's segments come, and their urgent pointer. */
+static uint8_t source[4] = {10, 0, 0, 2}, urgent;
 
 /* Where a peer stands in a connection: its port, its next number, and what it expects. */
 struct peer {
@@ -62,16 +65,16 @@ static uint32_t sum_of_segment(const uint8_t *packet, size_t length) {
     return sum_of(packet + 20, length - 20, sum_of(packet + 12, 8, 6 + (uint32_t)(length - 20)));
 }
 
-/* Hands the host a segment of a peer at 10.0.0.2 to 10.0.0.1, with a window. */
+/* Hands the host a segment of a peer to 10.0.0.1, with a window. */
 static void come_with(iface *host, int64_t now, const struct peer *p, uint8_t flags, uint16_t window, const char *text) {
     uint8_t packet[600] = {0x45, 0, 0, 0, 0, 0, 0x40, 0, 64, 6, 0, 0, 10, 0, 0, 2, 10, 0, 0, 1};
     size_t n = 77, length = 40 + strlen(text);
-    put(packet + 2, 2, (uint32_t)length);
+    memcpy(packet + 12, source, 4), put(packet + 2, 2, (uint32_t)length);
     put(packet + 10, 2, 0xffff & ~sum_of(packet, 20, 0));
     put(packet + 20, 2, p->port), put(packet + 22, 2, p->to), put(packet + 24, 4, p->seq), put(packet + 28, 4, p->ack);
     packet[32] = 0x50, packet[33] = flags;
     put(packet + 34, 2, window);
-    memcpy(packet + 40, text, length - 40);
+    memcpy(packet + 40, text, length - 40), packet[39] = urgent;
     put(packet + 36, 2, 0xffff & ~sum_of_segment(packet, length));
     must("receive", iface_receive(host, now, packet, length, out, sizeof out, &n));
     wants("no frame in response", n, 0);
@@ -132,6 +135,7 @@ static void make_streams(iface_streams *tcp, iface *host, uint32_t places) {
     iface_streams_config_init(&config);
     for (uint8_t i = 0; i < 32; i++) config.number_key[i] = (uint8_t)(i + 1);
     config.table_key[0] = 7, config.table_key[1] = 69, config.places = places, config.ack_delay = 0;
+    config.send_room = config.receive_room = 16384;
     must("connections", iface_streams_new(tcp, host, &config));
 }
 
@@ -575,6 +579,200 @@ static void reopens(void) {
     must("free", iface_streams_free(&tcp, &host)), must("free", iface_free(&host));
 }
 
+/* Half-open connections hold only places that nobody else needs (RFC 4987 3.2): one of the listener with the most of them gives its place
+ * to a SYN of another listener, and to connect. Those whose handshake is over stay. */
+static void gives_way(void) {
+    iface host = IFACE_NONE;
+    iface_streams tcp = IFACE_STREAMS_NONE;
+    struct iface_stream kept = {77, 77}, own = {77, 77}, other = {77, 77}, none = {77, 77};
+    struct iface_endpoint local = {IFACE_ANY, 40001};
+    make(&host, 4), make_streams(&tcp, &host, 4);
+    size_t flooded = listen_at(&tcp, 7, 16), quiet = listen_at(&tcp, 8, 16);
+    struct peer p = come_in(&tcp, &host, second, 4000, 7), q;
+    must("accept", iface_stream_accept(&tcp, flooded, &kept));
+    for (uint16_t i = 0; i < 17; i++) {
+        struct peer half = {(uint16_t)(5000 + i), 7, 300, 0};
+        come(&host, second, &half, SYN, ""), wants("a SYN that acknowledges", turn(&tcp, &host, second).flags, SYN | ACK);
+    }
+    q = go_out(&tcp, &host, second, 40000, &own), writes(&tcp, &host, second, &own, &q, "connect finds a place");
+    q = come_in(&tcp, &host, second, 4001, 8);
+    must("so does a SYN of another listener", iface_stream_accept(&tcp, quiet, &other));
+    writes(&tcp, &host, second, &other, &q, "page");
+    writes(&tcp, &host, second, &kept, &p, "nothing was lost"), reads(&tcp, &host, second, &kept, &p, "and none came before");
+    struct peer more = {4002, 8, 300, 0};
+    come(&host, second, &more, SYN, ""), wants("the last half-open one gives way", turn(&tcp, &host, second).flags, SYN | ACK);
+    must("and this one, too", iface_stream_connect(&tcp, &host, second, &local, &at_peer, &none));
+    wants("a SYN", turn(&tcp, &host, second).flags, SYN);
+    come(&host, second, &more, SYN, ""), wants_nothing("no place is half-open", &tcp, &host, second);
+    local.port++, wants("no place", iface_stream_connect(&tcp, &host, second, &local, &at_peer, &none), IFACE_TABLE_FULL);
+    must("free", iface_streams_free(&tcp, &host)), must("free", iface_free(&host));
+}
+
+/* In SYN-RECEIVED a reset of the next number ends the handshake, and another one in the window is answered (RFC 5961 3.2). */
+static void resets_a_handshake(void) {
+    iface host = IFACE_NONE;
+    iface_streams tcp = IFACE_STREAMS_NONE;
+    struct iface_stream s = {77, 77};
+    struct segment answer;
+    make(&host, 4), make_streams(&tcp, &host, 1);
+    size_t listener = listen_at(&tcp, 7, 1);
+    struct peer half = {4000, 7, 300, 0};
+    come(&host, second, &half, SYN, ""), answer = turn(&tcp, &host, second), wants("a SYN that acknowledges", answer.flags, SYN | ACK);
+    half.ack = answer.seq + 1, half.seq = 302, come(&host, second, &half, RST, "");
+    answer = turn(&tcp, &host, second), wants("a challenge", answer.flags, ACK), wants("of the next number", answer.ack, 301);
+    half.seq = 300, come(&host, second, &half, RST, ""), wants_nothing("before the window", &tcp, &host, second);
+    half.seq = 301 + 20000, come(&host, second, &half, RST, ""), wants_nothing("beyond it", &tcp, &host, second);
+    half.seq = 301, come(&host, second, &half, RST, ""), wants_nothing("of the next number", &tcp, &host, second);
+    come(&host, second, &half, ACK, ""), wants("it is gone", turn(&tcp, &host, second).flags, RST);
+    wants("none waits", iface_stream_accept(&tcp, listener, &s), IFACE_EMPTY);
+    must("free", iface_streams_free(&tcp, &host)), must("free", iface_free(&host));
+}
+
+/* The urgent pointer is skipped, and the octets stand in the stream (RFC 6093 3.1, 6), wherever it points. */
+static void skips_urgent(void) {
+    iface host = IFACE_NONE;
+    iface_streams tcp = IFACE_STREAMS_NONE;
+    struct iface_stream s = {77, 77};
+    uint8_t read[8];
+    size_t n = 77;
+    make(&host, 4), make_streams(&tcp, &host, 1);
+    size_t listener = listen_at(&tcp, 7, 1);
+    struct peer p = come_in(&tcp, &host, second, 4000, 7);
+    must("accept", iface_stream_accept(&tcp, listener, &s));
+    for (unsigned at = 0; at < 256; at += 51) {
+        urgent = (uint8_t)at, come(&host, second, &p, URG | ACK | PSH, "abc"), p.seq += 3, urgent = 0;
+        wants("acknowledged", turn(&tcp, &host, second).ack, p.seq);
+        must("receive", iface_stream_receive(&tcp, &s, read, sizeof read, &n));
+        wants("three octets", n, 3), wants("as they came", memcmp(read, "abc", 3) == 0, 1);
+    }
+    must("free", iface_streams_free(&tcp, &host)), must("free", iface_free(&host));
+}
+
+/* A segment from 127/8 that came by a link is neither heard nor answered (RFC 1122 3.2.1.3), a SYN neither. */
+static void leaves_loopback(void) {
+    static const uint8_t flags[] = {SYN, ACK, SYN | ACK, FIN | ACK, RST, 0};
+    static const uint8_t sources[][4] = {{127, 0, 0, 1}, {127, 255, 255, 254}}, peer[4] = {10, 0, 0, 2};
+    iface host = IFACE_NONE;
+    iface_streams tcp = IFACE_STREAMS_NONE;
+    make(&host, 4), make_streams(&tcp, &host, 1), listen_at(&tcp, 7, 1);
+    for (size_t i = 0; i < 2 * sizeof flags; i++) {
+        struct peer p = {4000, i % 4 < 2 ? 7 : 9, 300, 7};
+        memcpy(source, sources[i % 2], 4), come(&host, second, &p, flags[i / 2], ""), memcpy(source, peer, 4);
+        wants_nothing("no answer", &tcp, &host, second);
+    }
+    come_in(&tcp, &host, second, 4000, 7);
+    must("free", iface_streams_free(&tcp, &host)), must("free", iface_free(&host));
+}
+
+/* An accepted connection whose peer is gone without a word ends after twenty minutes (RFC 9293 3.8.4), unless it isn't asked. */
+static void ends_in_silence(int is_asked) {
+    iface host = IFACE_NONE;
+    iface_streams tcp = IFACE_STREAMS_NONE;
+    struct iface_stream s = {77, 77};
+    int64_t at = 77, now = second;
+    unsigned questions = 0;
+    make(&host, 4), make_streams(&tcp, &host, 1);
+    size_t listener = listen_at(&tcp, 7, 1);
+    struct peer p = come_in(&tcp, &host, second, 4000, 7);
+    must("accept", iface_stream_accept(&tcp, listener, &s));
+    if (!is_asked) must("keep-alive", iface_stream_set_keep_alive(&tcp, &s, 0));
+    wants_nothing("nothing is sent", &tcp, &host, second), must("due", iface_streams_poll_at(&tcp, &at));
+    if (!is_asked) wants("never due", at == IFACE_NEVER, 1), wants_state(&tcp, &s, IFACE_ESTABLISHED);
+    for (; at != IFACE_NEVER && questions < 20; must("due", iface_streams_poll_at(&tcp, &at))) {
+        struct segment asked = turn(&tcp, &host, now = at);
+        if (asked.length == (size_t)-1) continue;
+        if (!(asked.flags & RST)) questions++, wants("before the next number", asked.seq, p.ack - 1);
+    }
+    if (is_asked) {
+        wants("nine questions", questions, 9), wants("twenty minutes", now == second + 1200 * second, 1);
+        wants_state(&tcp, &s, IFACE_CLOSED), wants_ending(&tcp, &s, IFACE_TIMED_OUT);
+    }
+    must("free", iface_streams_free(&tcp, &host)), must("free", iface_free(&host));
+}
+
+/* Beside 100,000 SYNs in five seconds, with sixteen places, a connection that was there loses nothing, and connect makes one in a round
+ * trip of any length. */
+static void stands_a_flood(int64_t round_trip) {
+    iface host = IFACE_NONE;
+    iface_streams tcp = IFACE_STREAMS_NONE;
+    struct iface_stream kept = {77, 77}, own = {77, 77};
+    struct iface_endpoint local = {IFACE_ANY, 40000};
+    struct peer far = {80, 40000, 5000, 0};
+    uint32_t came = 0, went = 0;
+    size_t n = 77;
+    make(&host, 4), make_streams(&tcp, &host, 16);
+    size_t listener = listen_at(&tcp, 7, 16);
+    struct peer p = come_in(&tcp, &host, second, 4000, 7);
+    must("accept", iface_stream_accept(&tcp, listener, &kept));
+    for (int64_t i = 0; i < 100000; i++) {
+        int64_t now = second + 50 * i;
+        struct peer half = {(uint16_t)(5000 + i % 60000), 7, (uint32_t)i, 0};
+        come(&host, now, &half, SYN, "");
+        if (now == 2 * second) must("connect", iface_stream_connect(&tcp, &host, now, &local, &at_peer, &own));
+        if (now == 2 * second + round_trip) come(&host, now, &far, SYN | ACK, "");
+        if (i % 1000 == 0) {
+            come(&host, now, &p, ACK | PSH, "a"), p.seq++, must("poll", iface_streams_poll(&tcp, &host, now));
+            must("receive", iface_stream_receive(&tcp, &kept, octets, sizeof octets, &n)), came += (uint32_t)n;
+            must("send", iface_stream_send(&tcp, &kept, (const uint8_t *)"b", 1, &n)), wants("taken", n, 1);
+        }
+        must("poll", iface_streams_poll(&tcp, &host, now));
+        for (struct segment s = next(&host, now); s.length != (size_t)-1; s = next(&host, now)) {
+            if (s.to == 80 && s.flags == SYN) far.ack = s.seq + 1;
+            if (s.to != 4000 || s.length != 1) continue;
+            wants("the next octet", s.seq, p.ack), p.ack++, went++, come(&host, now, &p, ACK, "");
+        }
+    }
+    wants("a hundred octets came", came, 100), wants("and went", went, 100), wants_state(&tcp, &kept, IFACE_ESTABLISHED);
+    wants_state(&tcp, &own, IFACE_ESTABLISHED);
+    must("free", iface_streams_free(&tcp, &host)), must("free", iface_free(&host));
+}
+
+static void wants_change(iface_streams *tcp, const char *what, const struct iface_stream *want) {
+    struct iface_stream is = {77, 77};
+    uint32_t code = iface_streams_changed(tcp, &is);
+    if (want == NULL) wants(what, code, IFACE_EMPTY), wants("nothing is written", is.place == 77 && is.generation == 77, 1);
+    else must(what, code), wants("this one", is.place == want->place && is.generation == want->generation, 1);
+}
+
+/* A program is told of each connection that changed, once, and of no other one: of those that changed first first. */
+static void tells_changes(void) {
+    iface host = IFACE_NONE;
+    iface_streams tcp = IFACE_STREAMS_NONE;
+    struct iface_stream a = {77, 77}, b = a, c = a;
+    size_t n = 77;
+    wants("no connections", iface_streams_changed(&tcp, &a), IFACE_NO_STREAMS);
+    make(&host, 4), make_streams(&tcp, &host, 4), wants_change(&tcp, "none", NULL);
+    size_t listener = listen_at(&tcp, 7, 4);
+    struct peer p = come_in(&tcp, &host, second, 4000, 7), q = come_in(&tcp, &host, second, 4001, 7), r;
+    wants_change(&tcp, "none is the program's", NULL);
+    must("accept", iface_stream_accept(&tcp, listener, &a)), wants_change(&tcp, "accepted", &a), wants_change(&tcp, "no more", NULL);
+    must("accept", iface_stream_accept(&tcp, listener, &b)), wants_change(&tcp, "accepted", &b), wants_change(&tcp, "no more", NULL);
+    r = go_out(&tcp, &host, second, 40000, &c), wants_change(&tcp, "established", &c), wants_change(&tcp, "no more", NULL);
+    /* octets that came, first at the second, and no second time before more come */
+    come(&host, 2 * second, &q, ACK | PSH, "b"), q.seq++, turn(&tcp, &host, 2 * second);
+    come(&host, 3 * second, &p, ACK | PSH, "a"), p.seq++, turn(&tcp, &host, 3 * second);
+    come(&host, 4 * second, &q, ACK | PSH, "b"), q.seq++, turn(&tcp, &host, 4 * second);
+    wants_change(&tcp, "came first", &b), wants_change(&tcp, "came then", &a), wants_change(&tcp, "no more", NULL);
+    must("receive", iface_stream_receive(&tcp, &a, octets, sizeof octets, &n)), wants_change(&tcp, "who reads knows", NULL);
+    /* what tells nothing new: the same octet again, and an acknowledgement alone */
+    p.seq--, come(&host, 5 * second, &p, ACK | PSH, "a"), p.seq++, come(&host, 5 * second, &p, ACK, "");
+    turn(&tcp, &host, 5 * second), wants_change(&tcp, "nothing new", NULL);
+    /* room to write comes back */
+    must("send", iface_stream_send(&tcp, &a, (const uint8_t *)"abc", 3, &n)), wants("sent", turn(&tcp, &host, 5 * second).length, 3);
+    wants_change(&tcp, "who writes knows", NULL);
+    p.ack += 3, come(&host, 5 * second, &p, ACK, ""), turn(&tcp, &host, 5 * second), wants_change(&tcp, "acknowledged", &a);
+    /* ends: by the peer's end, by a reset, by a timer, and by who released it */
+    come(&host, 6 * second, &p, ACK | FIN, ""), turn(&tcp, &host, 6 * second), wants_change(&tcp, "its end", &a);
+    come(&host, 6 * second, &q, RST, ""), turn(&tcp, &host, 6 * second), wants_change(&tcp, "a reset", &b);
+    wants_state(&tcp, &b, IFACE_CLOSED), wants_change(&tcp, "no more", NULL);
+    must("timeout", iface_stream_set_timeout(&tcp, &c, 1000000)), must("send", iface_stream_send(&tcp, &c, (const uint8_t *)"a", 1, &n));
+    turn(&tcp, &host, 6 * second), wants_change(&tcp, "not yet", NULL), turn(&tcp, &host, 7 * second), wants_change(&tcp, "a timer", &c);
+    wants_ending(&tcp, &c, IFACE_TIMED_OUT), wants_change(&tcp, "no more", NULL);
+    come(&host, 8 * second, &r, ACK, ""), come(&host, 8 * second, &p, ACK | PSH, "a"), turn(&tcp, &host, 8 * second);
+    must("release", iface_stream_release(&tcp, &a)), turn(&tcp, &host, 8 * second), wants_change(&tcp, "no more", NULL);
+    must("free", iface_streams_free(&tcp, &host)), must("free", iface_free(&host));
+}
+
 /* A connection that was released ends within two minutes, though its peer keeps its window closed and answers each probe (RFC 6429 5):
  * with a user time-out, or keep-alive, too. Its place is free then. */
 static void ends_after_release(uint64_t timeout, uint64_t keep_alive) {
@@ -747,6 +945,14 @@ int main(void) {
     serves_beyond_time_wait();
     keeps_time_wait();
     reopens();
+    gives_way();
+    resets_a_handshake();
+    skips_urgent();
+    leaves_loopback();
+    ends_in_silence(1);
+    ends_in_silence(0);
+    tells_changes();
+    stands_a_flood(1000), stands_a_flood(100000), stands_a_flood(1000000);
     ends_after_release(0, 0);
     ends_after_release(300000000, 0);
     ends_after_release(0, 1000000);

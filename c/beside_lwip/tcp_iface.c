@@ -45,6 +45,7 @@ void host_new(void) {
     memset(connections.number_key, 7, sizeof connections.number_key);
     connections.table_key[0] = 7, connections.table_key[1] = 69;
     connections.places = MOST_CONNECTIONS, connections.ipv6 = 0;
+    connections.accepted_keep_alive = 0; /* nothing is due where nothing happens */
     connections.send_room = connections.receive_room = 8192;
     must(iface_streams_new(&tcp, &host, &connections), "connections");
     must(iface_stream_listen(&tcp, &local, 255, &listener), "listen");

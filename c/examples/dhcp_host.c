@@ -20,6 +20,7 @@ static void print_lease(const struct iface_lease *lease, int64_t now) {
     printf(" by %s", text_of(&lease->server));
     if (lease->router.version) printf(", router %s", text_of(&lease->router));
     for (int i = 0; i < 3 && lease->dns_servers[i].version; i++) printf(", names %s", text_of(&lease->dns_servers[i]));
+    if (lease->mtu) printf(", packets of %u", lease->mtu);
     if (lease->expires_at == IFACE_NEVER) printf(", for ever\n");
     else printf(", for %.0f s\n", (double)(lease->expires_at - now) / 1e6);
     fflush(stdout);

@@ -1447,13 +1447,13 @@ mod tests {
         assert_eq!(refusal(sys::IFACE_BAD_VERSION), Error::OtherVersion { own: sys::IFACE_VERSION, library });
     }
 
-    /// `iface.h`: a version is an octet each, 0.14.0 and the header's number.
+    /// `iface.h`: a version is an octet each, 0.15.0 and the header's number.
     #[test]
     fn both_versions_are_told() {
         let told = |library| Error::OtherVersion { own: 0x000e_0001, library }.to_string();
-        let both = ["version 0.14.0 with header 1", "version 0.14.0 with header 10"];
+        let both = ["version 0.14.0 with header 1", "version 0.15.0 with header 0"];
         assert_eq!(
-            told(Some(0x000e_000a)),
+            told(Some(0x000f_0000)),
             format!("the crate is made for {}, and the library is {}", both[0], both[1])
         );
         assert_eq!(told(None), format!("the crate is made for {}, and the library isn't", both[0]));

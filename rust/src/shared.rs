@@ -73,7 +73,7 @@ pub struct TcpConfig {
     /// The shortest time after which something is sent again. `None`: 200 milliseconds.
     pub shortest_timeout: Option<Duration>,
     /// How many octets of packets wait to be sent, of all connections over one version of IP, and as many that came and aren't
-    /// taken. `None`: 49,152.
+    /// taken. `None`: 1,536.
     pub packet_octets: Option<u32>,
     /// Whether connections have no congestion window.
     pub no_congestion_control: bool,

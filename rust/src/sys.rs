@@ -2,7 +2,7 @@
 //!
 //! Calling any of it is `unsafe`: the header says what the caller keeps. [`Host`](crate::Host) keeps it.
 //!
-//! Sum of the header: 0xbe2102104dad2e1b
+//! Sum of the header: 0x380539c60932d14e
 #![allow(non_camel_case_types)]
 
 use core::ffi::{c_char, c_void};
@@ -33,11 +33,11 @@ pub const IFACE_TABLE_FULL: u32 = 10;
 pub const IFACE_NO_SOCKET: u32 = 11;
 /// a port that is 0
 pub const IFACE_BAD_PORT: u32 = 12;
-/// a packet longer than is ever sent
+/// a packet longer than is ever sent; too many codes of options, too long a name
 pub const IFACE_TOO_LONG: u32 = 13;
 /// the socket's queue has no room for the packet: `iface_next` makes some, unless the packet is longer than the whole queue
 pub const IFACE_QUEUE_FULL: u32 = 14;
-/// no packet came; the socket doesn't wait; no packet was given up; no connection waits
+/// no packet came; the socket doesn't wait; no packet was given up; no connection waits; no lease, or no such option of it
 pub const IFACE_EMPTY: u32 = 15;
 /// the room for a frame is shorter than `IFACE_FRAME_ROOM`, that for a packet than the packet
 pub const IFACE_NO_ROOM: u32 = 16;
@@ -151,6 +151,8 @@ pub const IFACE_REFUSED: u32 = 2;
 pub const IFACE_TIMED_OUT: u32 = 3;
 /// the program aborted, or the own address is gone
 pub const IFACE_ABORTED: u32 = 4;
+/// the peer can't be reached: its neighbour doesn't answer, or a message of ICMP says so while it is being opened, or one did after which nothing came until it timed out
+pub const IFACE_UNREACHABLE: u32 = 5;
 
 /// The room that `iface_receive` and `iface_next` need for a frame, in octets.
 pub const IFACE_FRAME_ROOM: usize = 1514;
@@ -163,7 +165,7 @@ pub const IFACE_DNS_SERVERS: usize = 3;
 /// How many addresses of a result there are at most.
 pub const IFACE_DNS_ADDRESSES: usize = 4;
 /// The version of the header.
-pub const IFACE_VERSION: u32 = 0x000e000a;
+pub const IFACE_VERSION: u32 = 0x000f0000;
 /// Any address, for the end at which a socket listens.
 pub const IFACE_ANY: iface_address = iface_address { version: 0, octets: [0; 16] };
 
@@ -409,7 +411,7 @@ pub struct iface_dhcp {
 pub struct iface_lease {
     /// `address`.
     pub address: iface_address,
-    /// `router`.
+    /// of the default route; where routes are told, of that among them, or none (RFC 3442)
     pub router: iface_address,
     /// the one that leased it
     pub server: iface_address,
@@ -417,6 +419,8 @@ pub struct iface_lease {
     pub dns_servers: [iface_address; 3],
     /// how many bits of the address are the network's: 32 without a mask
     pub prefix_len: u8,
+    /// the longest packet of the network, 68 octets or more; 0 if the server didn't tell it
+    pub mtu: u16,
     /// when it ends, unless it is renewed before; `IFACE_NEVER` for a lease without end
     pub expires_at: i64,
 }
@@ -457,6 +461,8 @@ pub struct iface_streams_config {
     pub table_key: [u64; 2],
     /// how long nothing arrives before a peer is probed; 0 for never: 0
     pub keep_alive: u64,
+    /// the same for a peer that asked for the connection; 0 for never: 120,000,000
+    pub accepted_keep_alive: u64,
     /// how long a peer may leave what was sent unanswered, and unacknowledged while its window has room for it; 0 for twelve tries: 0
     pub timeout: u64,
     /// how long an acknowledgement of octets in order may wait: 10,000
@@ -467,17 +473,17 @@ pub struct iface_streams_config {
     pub time_wait: u64,
     /// how long a connection may go on that was released, before it ends in a reset, whatever its peer does: 120,000,000. All of these are in microseconds
     pub release_timeout: u64,
-    /// how many connections there are at most, from 1 to 2^30: 16
+    /// how many connections there are at most, from 1 to 2^30: 8
     pub places: u32,
-    /// how many octets each may hold that aren't acknowledged, at most 2^30: 16,384
+    /// how many octets each may hold that aren't acknowledged, at most 2^30: 4,096
     pub send_room: u32,
-    /// how many octets each may hold that aren't read, at most 2^30: 16,384
+    /// how many octets each may hold that aren't read, at most 2^30: 4,096
     pub receive_room: u32,
-    /// how many packets wait between the connections and the host, each way and family: 32
+    /// how many packets wait between the connections and the host, each way and family: 8
     pub packets: u32,
-    /// how many octets they have together: 49,152
+    /// how many octets they have together: 1,536
     pub packet_octets: u32,
-    /// how many octets packets have together that wait for peers that haven't answered, of which at most 16 do: 4,096
+    /// how many octets packets have together that wait for peers that haven't answered, of which at most 16 do: 1,024
     pub far_octets: u32,
     /// not 0: over IPv4: 1
     pub ipv4: u8,
@@ -542,11 +548,11 @@ const _: () = assert!(size_of::<iface_checksums>() == 5);
 const _: () = assert!(size_of::<iface_rate>() == 8);
 const _: () = assert!(size_of::<iface_guard>() == 44);
 const _: () = assert!(size_of::<iface_drops>() == 64);
-const _: () = assert!(size_of::<iface_lease>() == 112);
+const _: () = assert!(size_of::<iface_lease>() == 120);
 const _: () = assert!(size_of::<iface_dhcp>() == 16);
 const _: () = assert!(size_of::<iface_dns_answer>() == 72);
 const _: () = assert!(size_of::<iface_dns>() == 16);
-const _: () = assert!(size_of::<iface_streams_config>() == 128);
+const _: () = assert!(size_of::<iface_streams_config>() == 136);
 const _: () = assert!(size_of::<iface_streams>() == 16);
 const _: () = assert!(size_of::<iface_stream>() == 16);
 const _: () = assert!(size_of::<iface_rooms>() == 16);
@@ -679,6 +685,10 @@ unsafe extern "C" {
     pub fn iface_poll_at(host: *mut iface, now: i64, at: *mut i64) -> u32;
     /// Makes a client for a host with a hardware address, which the handle owns from then on. The seed is of the numbers by which its messages are known, another for each host and each start. known is an address that the host had before, which the client asks for first, or `IFACE_ANY`. HAS_CLIENT, BAD_ARGUMENT (a version of known that is neither 0 nor 4), NO_HOST, NOT_THERE (a medium without hardware addresses), TABLE_FULL (no two sockets are left), NO_MEMORY.
     pub fn iface_dhcp_new(client: *mut iface_dhcp, host: *mut iface, seed: u64, known: *const iface_address) -> u32;
+    /// Sets the codes of the options that servers are asked for, in place of those before, in all messages from then on. The client asks for 1, 3, 6, 26 and 121 itself. NO_CLIENT, TOO_LONG (more than 16).
+    pub fn iface_dhcp_parameters(client: *mut iface_dhcp, codes: *const u8, count: usize) -> u32;
+    /// Sets the name of the host, which is in all messages from then on (RFC 2132, 3.14); none, of no octets, is told at first. NO_CLIENT, TOO_LONG (more than 63 octets).
+    pub fn iface_dhcp_host_name(client: *mut iface_dhcp, name: *const c_char, length: usize) -> u32;
     /// Does what is due: the client takes what came to port 68, a message that is to be sent now is queued, and what has become of the lease is written. A message for which there is no room or no memory counts as lost, and is sent again later. NO_CLIENT, NO_HOST, BAD_MOMENT, NO_SOCKET (the host hasn't the client's socket).
     pub fn iface_dhcp_poll(client: *mut iface_dhcp, host: *mut iface, now: i64, event: *mut u32) -> u32;
     /// Writes the instant at which `iface_dhcp_poll` is to be called again, if nothing comes before: `IFACE_NEVER` only for a lease without end. NO_CLIENT.
@@ -687,7 +697,9 @@ unsafe extern "C" {
     pub fn iface_dhcp_lost(client: *mut iface_dhcp, why: *mut u32) -> u32;
     /// Writes the lease that the client has. NO_CLIENT, EMPTY (it has none).
     pub fn iface_dhcp_lease(client: *mut iface_dhcp, lease: *mut iface_lease) -> u32;
-    /// Gives the host the address of the lease with its network, and its router as a default route, after the others; in place of those that the client gave it before, and none without a lease. That forgets all neighbours, unless the lease gives the same as before: then nothing changes. Other addresses and routes stay. NO_CLIENT, NO_HOST, TABLE_FULL, NOT_UNICAST (one of all own addresses can't be one).
+    /// Writes the octets of an option of the lease, put together (RFC 3396), and how many there are. Of more than 256 the first ones count. NO_CLIENT, EMPTY (no lease, or no such option), NO_ROOM.
+    pub fn iface_dhcp_option(client: *mut iface_dhcp, code: u8, out: *mut u8, room: usize, length: *mut usize) -> u32;
+    /// Gives the host the address of the lease with its network, its router as a default route, and up to eight other routes of option 121 (RFC 3442), after the others; in place of those that the client gave it before, and none without a lease. That forgets all neighbours, unless address, network and router are the same as before. Other addresses and routes stay. A route of option 121 is left out where there is no room for it, and where its router is 0.0.0.0, which says that its network is on the link. NO_CLIENT, NO_HOST, TABLE_FULL, NOT_UNICAST (one of all own addresses can't be one).
     pub fn iface_dhcp_apply(client: *mut iface_dhcp, host: *mut iface) -> u32;
     /// Is called once a link came up. Gives up the lease, if there is one, and asks for its address again (RFC 2131, 3.2): where the link leads to another network the server refuses it, and the client asks for offers. Without a lease the client begins anew. The next `iface_dhcp_poll` tells of a lease that is gone. NO_CLIENT.
     pub fn iface_dhcp_reset(client: *mut iface_dhcp) -> u32;
@@ -723,9 +735,11 @@ unsafe extern "C" {
     pub fn iface_stream_listen(tcp: *mut iface_streams, local: *const iface_endpoint, backlog: u32, listener: *mut usize) -> u32;
     /// Takes the connection of a listener that waits longest, and writes its name. EMPTY (none waits, or there is no such listener).
     pub fn iface_stream_accept(tcp: *mut iface_streams, listener: usize, stream: *mut iface_stream) -> u32;
+    /// Writes the name of a connection of the program at which something changed, by frames and timers, since this call wrote it last: octets became readable, room to write came back, or the state is another one, also where the peer's end came or the connection ended. One that was accepted counts as changed. Each is written once until it changes again, and those that changed first come first: so after `iface_streams_poll` ask until there is none, and look at these alone. EMPTY (none has changed).
+    pub fn iface_streams_changed(tcp: *mut iface_streams, stream: *mut iface_stream) -> u32;
     /// Closes a listener: a SYN for it is answered by a reset from then on, unless another one listens there. Handshakes under way end in a reset once they are complete, and connections that wait can still be accepted. Its number is given to no other listener, and its memory is freed with the connections. NOT_THERE (no listener has this number).
     pub fn iface_stream_close_listener(tcp: *mut iface_streams, listener: usize) -> u32;
-    /// Opens a connection to a peer, from a port of one own address; or of the one that `iface_source_for` writes, if that of local is none. Writes its name. The next `iface_streams_poll` sends the SYN, and `iface_stream_state` tells what becomes of it. An address of local that the host doesn't have ends it then, as if aborted. BAD_ARGUMENT, NO_STREAMS, NO_HOST, BAD_MOMENT, BAD_PORT (also the peer's), NOT_THERE (no own address of this family), BAD_ADDRESS (one that isn't unicast, or they are of two families), NO_ROUTE, IN_USE (choose another port), TABLE_FULL (each place has a connection, and none that was released is in TIME-WAIT).
+    /// Opens a connection to a peer, from a port of one own address; or of the one that `iface_source_for` writes, if that of local is none. Writes its name. The next `iface_streams_poll` sends the SYN, and `iface_stream_state` tells what becomes of it. An address of local that the host doesn't have ends it then, as if aborted. BAD_ARGUMENT, NO_STREAMS, NO_HOST, BAD_MOMENT, BAD_PORT (also the peer's), NOT_THERE (no own address of this family), BAD_ADDRESS (one that isn't unicast, or they are of two families), NO_ROUTE, IN_USE (choose another port), TABLE_FULL (each place has a connection, none is half-open, and none that was released is in TIME-WAIT).
     pub fn iface_stream_connect(tcp: *mut iface_streams, host: *mut iface, now: i64, local: *const iface_endpoint, remote: *const iface_endpoint, stream: *mut iface_stream) -> u32;
     /// Queues the first octets, as many as there is room for, and writes how many: 0 once the program closed, or the connection is gone. Where it is 0, `iface_streams_poll_at` says what it said before.
     pub fn iface_stream_send(tcp: *mut iface_streams, stream: *const iface_stream, octets: *const u8, length: usize, count: *mut usize) -> u32;

@@ -865,8 +865,14 @@ fn a_client_leases_an_address() {
     let now = Instant::from_secs(5);
     let mut client = Dhcp::new(&mut node.host, 42, Some(neighbor(7).0)).unwrap();
     assert_eq!((client.poll_at(), client.lease()), (Some(Instant::ZERO), None));
+    // RFC 2132, 3.14, 9.8; routes before the router, by RFC 3442.
+    assert_eq!(client.set_parameters(&[0; 17]), Err(Error::TooLong));
+    assert_eq!(client.set_host_name(&"a".repeat(64)), Err(Error::TooLong));
+    client.set_parameters(&[42]).unwrap();
+    client.set_host_name("fern").unwrap();
     let asked = polled(&mut client, &mut node, now, None).0.unwrap();
     assert_eq!((option(&asked, 53), option(&asked, 50)), (Some(&[REQUEST][..]), Some(&[192, 168, 69, 7][..])));
+    assert_eq!((option(&asked, 55), option(&asked, 12)), (Some(&[1, 121, 3, 6, 26, 42][..]), Some(&b"fern"[..])));
     let refused = reply(&asked, NAK, Ipv4Address::UNSPECIFIED);
     let (asked, event) = polled(&mut client, &mut node, now, Some(&refused));
     let asked = asked.unwrap();
@@ -883,6 +889,11 @@ fn a_client_leases_an_address() {
     assert_eq!((lease.address.to_string().as_str(), lease.server), ("192.168.69.50/24", SERVER));
     assert_eq!((lease.router, lease.expires_at), (Some(SELF), Some(now + Duration::from_secs(120))));
     assert_eq!(lease.dns_servers, [Some(neighbor(2).0), Some(neighbor(3).0), None]);
+    let mut octets = [7; 9];
+    assert_eq!((lease.mtu, client.option(54, &mut octets)), (None, Ok(4)));
+    assert_eq!(octets, [192, 168, 69, 100, 7, 7, 7, 7, 7]);
+    assert_eq!(client.option(6, &mut octets[..7]), Err(Error::NoRoom));
+    assert_eq!(client.option(42, &mut octets), Err(Error::Empty));
     assert_eq!(node.host.address_at(0), None);
     client.apply(&mut node.host).unwrap();
     assert_eq!(node.host.address_at(0), Some(IpCidr::Ipv4(lease.address)));

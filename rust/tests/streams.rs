@@ -51,13 +51,14 @@ fn settle(peers: &mut [Peer; 2], now: Instant) {
 fn the_settings_are_those_of_the_header() {
     let settings = StreamSettings::new();
     assert_eq!(settings.keep_alive, None);
+    assert_eq!(settings.accepted_keep_alive, Some(Duration::from_secs(120)));
     assert_eq!(settings.timeout, None);
     assert_eq!(settings.ack_delay, Duration::from_millis(10));
     assert_eq!(settings.shortest_timeout, Duration::from_millis(200));
     assert_eq!(settings.time_wait, Duration::from_secs(60));
     assert_eq!(settings.release_timeout, Duration::from_secs(120));
-    assert_eq!((settings.places, settings.send_room, settings.receive_room), (16, 16384, 16384));
-    assert_eq!((settings.packets, settings.packet_octets, settings.far_octets), (32, 49152, 4096));
+    assert_eq!((settings.places, settings.send_room, settings.receive_room), (8, 4096, 4096));
+    assert_eq!((settings.packets, settings.packet_octets, settings.far_octets), (8, 1536, 1024));
     assert!(settings.ipv4 && settings.ipv6 && settings.nagle && settings.congestion_control);
     assert_eq!(format!("{SECRETS:?}"), "Secrets");
 }
@@ -77,6 +78,9 @@ fn streams_go_between_hosts() {
     let from = IpEndpoint::new(IpAddress::v4(10, 0, 0, 2), 4000);
     assert_eq!(peers[0].tcp.ends(server), Ok((SERVER, from)));
     assert_eq!(peers[1].tcp.ends(client), Ok((from, SERVER)));
+    for (peer, name) in peers.iter_mut().zip([server, client]) {
+        assert_eq!((peer.tcp.changed(), peer.tcp.changed()), (Ok(name), Err(Error::Empty)));
+    }
 
     peers[1].tcp.set_nagle(client, false).unwrap();
     peers[0].tcp.set_ack_delay(server, Duration::ZERO).unwrap();
@@ -85,13 +89,14 @@ fn streams_go_between_hosts() {
     peers[1].tcp.set_hop_limit(client, 9).unwrap();
     assert_eq!(peers[1].tcp.set_hop_limit(client, 0), Err(Error::BadArgument));
     assert_eq!(peers[1].tcp.send(client, b"octets"), Ok(6));
-    assert_eq!(peers[1].tcp.rooms(client), Ok((16384 - 6, 0)));
+    assert_eq!(peers[1].tcp.rooms(client), Ok((4096 - 6, 0)));
     settle(&mut peers, now);
-    assert_eq!(peers[0].tcp.rooms(server), Ok((16384, 6)));
+    assert_eq!(peers[0].tcp.rooms(server), Ok((4096, 6)));
     let mut out = [0; 4];
     assert_eq!((peers[0].tcp.peek(server, &mut out), out), (Ok(4), *b"octe"));
     assert_eq!((peers[0].tcp.receive(server, &mut out), out), (Ok(4), *b"octe"));
     assert_eq!(peers[0].tcp.receive(server, &mut out), Ok(2));
+    assert_eq!((peers[0].tcp.changed(), peers[0].tcp.changed()), (Ok(server), Err(Error::Empty)));
 
     peers[1].tcp.close(client).unwrap();
     settle(&mut peers, later);

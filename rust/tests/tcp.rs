@@ -552,7 +552,7 @@ fn packets_have_the_hop_limit() {
     assert_eq!(hops(&world.client), [(6, 64)]);
 }
 
-/// On Ethernet, where no neighbour answers: polls come to an end at each instant, and the connection at the timeout.
+/// On Ethernet, where no neighbour answers: polls come to an end at each instant, and connections once it is given up (RFC 9293 3.9.2.2).
 #[test]
 fn an_absent_neighbour_ends_no_poll() {
     let mut device = MemoryDevice::new(Medium::Ethernet, 1514);
@@ -579,7 +579,8 @@ fn an_absent_neighbour_ends_no_poll() {
         }
         now = iface.poll_at(now, &sockets).unwrap().max(now + Duration::from_micros(1));
     }
-    assert!(now >= Instant::from_secs(15));
+    // After three requests, a second apart (RFC 4861 7.2.2, 10).
+    assert!(now >= Instant::from_secs(3) && now <= Instant::from_secs(4), "{now}");
 }
 
 /// RFC 9293 3.8.4: without the setting nothing is sent; with it a silent peer is probed, and one that answers stays.

@@ -2,7 +2,7 @@
 use Rattle.std.proofs.Common.{◌≡◌, ℕ, ℤ, Option, Some, None, Result, Ok, Err, refl, sym, subst}
 use Rattle.sockets.specs.declared.endpoint.IpEndpoint.{IpEndpoint}
 use Rattle.sockets.specs.declared.endpoint.IpListenEndpoint.{IpListenEndpoint}
-use Rattle.tcp_host.specs.Host.{IsNextPlace}
+use Rattle.tcp_host.specs.Arrivals.{HasNoPlace}
 use Rattle.tcp_host.specs.declared.calls.Handle.{Handle}
 use Rattle.iface_host.specs.declared.host.IfaceHost.{IfaceHost}
 use Rattle.iface_host.specs.declared.refusal.Refusal.{Refusal}
@@ -35,7 +35,7 @@ of_opened first {Taken} {Full} h why = record {
 pub code_there : (now : ℤ) (l : IpListenEndpoint) (r : IpEndpoint) (s : Streams) (h : IfaceHost) (code : ℕ)
     {local : Option IpListenEndpoint} {remote : Option IpEndpoint} {old : Option Streams} {host : Option IfaceHost} →
     local ≡ Some l → remote ≡ Some r → old ≡ Some s → host ≡ Some h →
-    IsCodeBy (connect_refusal now l r h) (IsInUse l r h s) (IsNextPlace s.connections None) code →
+    IsCodeBy (connect_refusal now l r h) (IsInUse l r h s) (HasNoPlace s.connections) code →
     IsConnectCode now local remote old host code
 code_there now l r s h code {local} {remote} {old} {host} from to has by is =
     subst (λ (a : Option IpListenEndpoint). IsConnectCode now a remote old host code) (sym from)

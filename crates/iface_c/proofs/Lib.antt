@@ -5,6 +5,7 @@ mod AsBoxStreams
 mod Codes
 mod ConnectCodes
 mod Networks
+mod PolledDhcp
 mod NewStreams
 mod Reading
 mod SameHost

@@ -1,5 +1,5 @@
 -- Clients of DHCP: what their calls do, and what C reads of them.
-use Rattle.std.specs.Prelude.{ℕ, ℤ, ◌≡◌, ◌≢◌, ◌==◌, ◌-◌, ◌^◌, pos, min, is_some, [], ◌∷◌, slice_index, slice_index_or}
+use Rattle.std.specs.Prelude.{ℕ, ℤ, ◌≡◌, ◌≢◌, ◌==◌, ◌-◌, ◌^◌, pos, min, nat_lt, is_some, List, [], ◌∷◌, length, take, slice_index, slice_index_or}
 use Rattle.std.specs.Prelude.{Option, Some, None, if◌then◌else◌}
 use Rattle.ip_address.specs.Ipv4.{address_of}
 use Rattle.ip_address.specs.declared.ip.IpAddress.TheVariants.{Ipv4}
@@ -11,7 +11,7 @@ use Rattle.dhcp_client.specs.declared.lease.DhcpLease.{DhcpLease}
 use Rattle.dhcp_client.specs.declared.lease.LeaseTimes.{LeaseTimes}
 use Rattle.iface_host.specs.declared.host.IfaceHost.{IfaceHost}
 use Rattle.iface_host.specs.declared.refusal.Refusal.{Refusal}
-use Rattle.iface_host.specs.declared.refusal.Refusal.TheVariants.{Empty}
+use Rattle.iface_host.specs.declared.refusal.Refusal.TheVariants.{Empty, NoRoom}
 use Rattle.iface_dhcp.specs.Apply.{prefix_len_of}
 use Rattle.iface_dhcp.specs.Dhcp as dhcp
 use Rattle.iface_dhcp.specs.Dhcp.{IsNew, new_refusal}
@@ -126,6 +126,11 @@ end_for_c l = end_of l.times
 abbrev pub name_server : DhcpLease → ℕ → Option Ipv4Address
 name_server l i = slice_index_or l.dns_servers i None
 
+-- the longest packet, 0 where none was told
+abbrev pub mtu_for_c : Option ℕ → ℕ
+mtu_for_c None = 0
+mtu_for_c (Some octets) = octets
+
 abbrev pub lease_for_c : DhcpLease → IfaceLease
 lease_for_c l = record {
   address = address_for_c (Ipv4 l.address);
@@ -133,6 +138,7 @@ lease_for_c l = record {
   server = address_for_c (Ipv4 l.server);
   dns_servers = address_for_c_if (name_server l 0) ∷ address_for_c_if (name_server l 1) ∷ address_for_c_if (name_server l 2) ∷ [];
   prefix_len = prefix_len_of l.subnet_mask;
+  mtu = mtu_for_c l.mtu;
   expires_at = end_for_c l;
 }
 
@@ -155,6 +161,22 @@ pub record ShowsPollAt (at : ℤ) (old new : Dhcp) : Type 0 where
 -- the code for which the message that was due last is lost was written, and nothing changed
 pub record ShowsLost (why : ℕ) (old new : Dhcp) : Type 0 where
   pub written : why ≡ code_if old.lost
+  pub same : new ≡ old
+
+-- the data of an option are refused where there are none, and where there is no room for them
+abbrev pub data_refusal : ℕ → List ℕ → Option Refusal
+data_refusal room octets = if length octets == 0 then Some Empty else if nat_lt room (length octets) then Some NoRoom else None
+
+abbrev pub code_of_data : ℕ → List ℕ → ℕ
+code_of_data room octets = code_if (data_refusal room octets)
+
+abbrev pub option_refusal : ℕ → ℕ → Dhcp → Option Refusal
+option_refusal option room d = data_refusal room (dhcp.option option d)
+
+-- they were written, and nothing changed
+pub record ShowsOption (option len : ℕ) (out : List ℕ) (old new : Dhcp) : Type 0 where
+  pub written : take len out ≡ dhcp.option option old
+  pub counted : len ≡ length (dhcp.option option old)
   pub same : new ≡ old
 
 -- the lease is given up

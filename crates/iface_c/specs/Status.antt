@@ -45,9 +45,9 @@ code_for_new why settings (Some host) = 2
 code_for_new why None None = 3
 code_for_new why (Some settings) None = code_if (why settings)
 
--- of the same call for a program with a header of this version: 18 where it isn't the library's, 0.14.0 with number 10
+-- of the same call for a program with a header of this version: 18 where it isn't the library's, 0.15.0 with number 0
 abbrev pub code_for_version : ℕ → ℕ → ℕ
-code_for_version version due = if version == 0x000e_000a then due else 18
+code_for_version version due = if version == 0x000f_0000 then due else 18
 
 -- of a call for which memory may be refused: the one that is due; or in place of 0 that of refused memory, 4
 pub record IsDueOrMemory (due code : ℕ) : Type 0 where

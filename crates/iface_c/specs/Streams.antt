@@ -9,7 +9,8 @@ use Rattle.tcp_machine.specs.declared.state.State.TheVariants as state
 use Rattle.tcp_machine.specs.declared.timers.Ending.{Ending}
 use Rattle.tcp_machine.specs.declared.timers.Ending.TheVariants as ending
 use Rattle.tcp_host.specs.Handles.{accepting}
-use Rattle.tcp_host.specs.Host.{IsNextPlace}
+use Rattle.tcp_host.specs.Arrivals.{HasNoPlace}
+use Rattle.tcp_host.specs.News.{TellsChanged}
 use Rattle.tcp_host.specs.declared.calls.Handle.{Handle}
 use Rattle.iface_host.specs.declared.host.IfaceHost.{IfaceHost}
 use Rattle.iface_host.specs.declared.refusal.Refusal.{Refusal}
@@ -107,30 +108,33 @@ settings_in c = record {
   near = record { packets = c.packets; octets = c.packet_octets };
   far_octets = c.far_octets;
   connection = connection_in c;
+  accepted_keep_alive = time_in c.accepted_keep_alive;
   release_timeout = c.release_timeout;
   number_key = c.number_key;
   table_key = record { k0 = slice_index c.table_key 0; k1 = slice_index c.table_key 1 };
 }
 
--- what most programs want: sixteen connections with 16,384 octets each way, over both families; probes after two hours
--- (RFC 9293 3.8.4), acknowledgements within 10 ms, time-outs of a fifth of a second or more, a minute of TIME-WAIT, and
+-- what most programs want: eight connections with 4,096 octets each way, over both families; probes after two minutes of peers that
+-- asked for the connection (RFC 9293 3.8.4), and of no other ones; acknowledgements within 10 ms, time-outs of a fifth of a second or
+-- more, a minute of TIME-WAIT, and
 -- two minutes for a connection that was released
 abbrev pub usual : IfaceStreamsConfig
 usual = record {
   number_key = replicate 32 0;
   table_key = replicate 2 0;
   keep_alive = 0;
+  accepted_keep_alive = 120_000_000;
   timeout = 0;
   ack_delay = 10_000;
   shortest_timeout = 200_000;
   time_wait = 60_000_000;
   release_timeout = 120_000_000;
-  places = 16;
-  send_room = 16_384;
-  receive_room = 16_384;
-  packets = 32;
-  packet_octets = 49_152;
-  far_octets = 4_096;
+  places = 8;
+  send_room = 4_096;
+  receive_room = 4_096;
+  packets = 8;
+  packet_octets = 1_536;
+  far_octets = 1_024;
   ipv4 = 1;
   ipv6 = 1;
   nagle = 1;
@@ -190,6 +194,18 @@ Accepted code listener before after None new = (code ≡ 21) × (after ≡ befor
 Accepted code listener before after (Some old) (Some new) = AcceptedAt code listener before after old new
 Accepted code listener before after (Some old) None = ⊥
 
+-- a connection that changed was told of, and its name written; else none has, which is code 15
+pub record ChangedOf (code : ℕ) (before after : IfaceStream) (old new : Streams) : Type 0 where
+  pub handle : Option Handle
+  pub tells : TellsChanged old.connections handle new.connections
+  pub told : IsAccepted handle code before after
+  pub rest : new ≡ connect.with_connections old new.connections
+
+abbrev pub Changed : (code : ℕ) → (before after : IfaceStream) → Option Streams → Option Streams → Type 0
+Changed code before after None new = (code ≡ 21) × (after ≡ before) × (new ≡ None)
+Changed code before after (Some old) (Some new) = ChangedOf code before after old new
+Changed code before after (Some old) None = ⊥
+
 -- a connection was opened, and its name written; else nothing changed
 abbrev pub IsConnected : ℤ → Option IpListenEndpoint → Option IpEndpoint → IfaceStream → Option Streams → Option Streams → Option IfaceHost → Type 0
 IsConnected now (Some local) (Some remote) shown (Some old) (Some new) (Some host) =
@@ -218,7 +234,7 @@ IsConnectCode now (Some local) None s host code = code ≡ 3
 IsConnectCode now (Some local) (Some remote) None host code = code ≡ 21
 IsConnectCode now (Some local) (Some remote) (Some s) None code = code ≡ 1
 IsConnectCode now (Some local) (Some remote) (Some s) (Some host) code =
-    IsCodeBy (connect.connect_refusal now local remote host) (connect.IsInUse local remote host s) (IsNextPlace s.connections None) code
+    IsCodeBy (connect.connect_refusal now local remote host) (connect.IsInUse local remote host s) (HasNoPlace s.connections) code
 
 -- octets were written that stay
 pub record Peeks (handle : Handle) (before after : List ℕ) (count : ℕ) (old new : Streams) : Type 0 where
@@ -245,6 +261,7 @@ number_of_ending (Some ending.ByPeer) = 1
 number_of_ending (Some ending.Refused) = 2
 number_of_ending (Some ending.TimedOut) = 3
 number_of_ending (Some ending.Aborted) = 4
+number_of_ending (Some ending.Unreachable) = 5
 
 pub record ShowsState (handle : Handle) (number : ℕ) (old new : Streams) : Type 0 where
   pub is : State

@@ -1,5 +1,7 @@
 //! A client of DHCP, which gives a host its address.
-ghost use Rattle.std.specs.Prelude.{◌≡◌, ◌≢◌, None};
+ghost use Rattle.std.specs.Prelude.{◌≡◌, ◌≢◌, None, drop, take};
+ghost use Rattle.std.specs.Prelude.{length as len};
+ghost use Rattle.iface_dhcp.specs.Dhcp as dhcp;
 ghost use Rattle.iface_c.specs.Dhcp as spec;
 ghost use Rattle.iface_c.specs.DhcpHandle.{dhcp_in};
 ghost use Rattle.iface_c.specs.Handle.{host_in};
@@ -10,7 +12,7 @@ ghost use Rattle.iface_dhcp.specs.Poll.{poll_refusal};
 use crate::addresses::IfaceAddress;
 use crate::dhcp_handle::IfaceDhcp;
 use crate::handle::Iface;
-use crate::status::{BAD_ARGUMENT, EMPTY, HAS_CLIENT, NO_CLIENT, NO_HOST, OK, code};
+use crate::status::{BAD_ARGUMENT, EMPTY, HAS_CLIENT, NO_CLIENT, NO_HOST, NO_ROOM, OK, code};
 use dhcp_client::{DhcpEvent, DhcpLease};
 use iface_dhcp::apply::prefix_len_of;
 use iface_dhcp::{Dhcp, DhcpSettings};
@@ -40,6 +42,8 @@ pub struct IfaceLease {
     pub dns_servers: [IfaceAddress; 3],
     /// How many bits of the address are the network's.
     pub prefix_len: u8,
+    /// The longest packet of the network in octets, 0 if the server didn't tell it.
+    pub mtu: u16,
     /// When it ends, in microseconds; the last number for never.
     pub expires_at: i64,
 }
@@ -56,6 +60,7 @@ impl IfaceLease {
             server: IfaceAddress::of(&IpAddress::Ipv4(lease.server)),
             dns_servers: [address_of(&first), address_of(&second), address_of(&third)],
             prefix_len: prefix_len_of(&lease.subnet_mask),
+            mtu: lease.mtu.unwrap_or(0),
             expires_at: end_of(lease),
         }
     }
@@ -260,6 +265,81 @@ pub extern "C" fn iface_dhcp_lost(client: &mut IfaceDhcp, alloc: Global, why: &m
         Some(refusal) => code(refusal),
         None => OK,
     };
+    OK
+}
+
+/// Sets the codes of the options that a client asks for beside those that it needs itself.
+#[unsafe(no_mangle)]
+pub extern "C" fn iface_dhcp_parameters(client: &mut IfaceDhcp, alloc: Global, codes: &[u8]) -> u32
+    ensures done { spec.DidOne result (dhcp.SetsParameters codes.now) client.old client.new }
+    ensures code { result ≡ spec.code_of_one (λ _. dhcp.long_refusal 16 codes.now) (dhcp_in client.old) }
+{
+    let Some(mut dhcp) = client.take(alloc) else {
+        return NO_CLIENT;
+    };
+    let done = dhcp.set_parameters(codes);
+    client.put(dhcp);
+    match done {
+        Ok(()) => OK,
+        Err(refusal) => code(refusal),
+    }
+}
+
+/// Sets the name of a client's host.
+#[unsafe(no_mangle)]
+pub extern "C" fn iface_dhcp_host_name(client: &mut IfaceDhcp, alloc: Global, name: &[u8]) -> u32
+    ensures done { spec.DidOne result (dhcp.SetsHostName name.now) client.old client.new }
+    ensures code { result ≡ spec.code_of_one (λ _. dhcp.long_refusal 63 name.now) (dhcp_in client.old) }
+{
+    let Some(mut dhcp) = client.take(alloc) else {
+        return NO_CLIENT;
+    };
+    let done = dhcp.set_host_name(name);
+    client.put(dhcp);
+    match done {
+        Ok(()) => OK,
+        Err(refusal) => code(refusal),
+    }
+}
+
+/// Writes the data of an option of a client's lease, and how many octets they are.
+#[unsafe(no_mangle)]
+pub extern "C" fn iface_dhcp_option(
+    client: &mut IfaceDhcp,
+    alloc: Global,
+    option: u8,
+    out: &mut [u8],
+    length: &mut usize,
+) -> u32
+    ensures done { spec.DidOne result (λ old new. spec.ShowsOption option length.new out.new old new) client.old client.new }
+    ensures code { result ≡ spec.code_of_one (spec.option_refusal option (len out.old)) (dhcp_in client.old) }
+    ensures kept { result ≢ 0 → (out.new ≡ out.old) × (length.new ≡ length.old) }
+    ensures behind { result ≡ 0 → drop length.new out.new ≡ drop length.new out.old }
+{
+    let Some(dhcp) = client.take(alloc) else {
+        return NO_CLIENT;
+    };
+    let data = dhcp.option(option);
+    client.put(dhcp);
+    write_data(data.as_slice(), out, length)
+}
+
+/// Writes data to the front of a buffer, and how many octets they are, unless there are none or too many.
+fn write_data(data: &[u8], out: &mut [u8], length: &mut usize) -> u32
+    ensures code { result ≡ spec.code_of_data (len out.old) data.now }
+    ensures written { result ≡ 0 → (take length.new out.new ≡ data.now) × (length.new ≡ len data.now) }
+    ensures kept { result ≢ 0 → (out.new ≡ out.old) × (length.new ≡ length.old) }
+    ensures behind { result ≡ 0 → drop length.new out.new ≡ drop length.new out.old }
+{
+    if data.is_empty() {
+        return EMPTY;
+    }
+    if data.len() > out.len() {
+        return NO_ROOM;
+    }
+    let end = data.len();
+    out[..end].copy_from_slice(data);
+    *length = end;
     OK
 }
 

@@ -34,6 +34,9 @@ pub const NO_SOCKET: u32 = 11;
 /// No packet came, or there is no lease.
 pub const EMPTY: u32 = 15;
 
+/// The room is too short.
+pub const NO_ROOM: u32 = 16;
+
 /// The header is of another version.
 pub const BAD_VERSION: u32 = 18;
 
@@ -59,7 +62,7 @@ pub const BAD_NAME: u32 = 24;
 pub const NO_SERVER: u32 = 25;
 
 /// The version of the header, `IFACE_VERSION`.
-pub const VERSION: u32 = 0x000e_000a;
+pub const VERSION: u32 = 0x000f_0000;
 
 /// The code of a refusal.
 pub fn code(refusal: Refusal) -> u32

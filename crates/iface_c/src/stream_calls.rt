@@ -45,6 +45,7 @@ fn number_of_ending(ending: Option<Ending>) -> u32
         Some(Ending::Refused) => 2,
         Some(Ending::TimedOut) => 3,
         Some(Ending::Aborted) => 4,
+        Some(Ending::Unreachable) => 5,
     }
 }
 

@@ -30,6 +30,8 @@ pub struct IfaceStreamsConfig {
     pub table_key: [u64; 2],
     /// How long nothing arrives before a peer is probed, in microseconds; 0 for never.
     pub keep_alive: u64,
+    /// The same of a peer that asked for the connection.
+    pub accepted_keep_alive: u64,
     /// How long what was sent may stay unacknowledged, in microseconds; with 0 the number of tries decides.
     pub timeout: u64,
     /// How long an acknowledgement of octets in order may wait, in microseconds.
@@ -136,6 +138,7 @@ impl IfaceStreamsConfig {
             },
             far_octets: self.far_octets as usize,
             connection: self.connection(),
+            accepted_keep_alive: time_unless_0(self.accepted_keep_alive),
             release_timeout: self.release_timeout,
             number_key: self.number_key,
             table_key: SipKey { k0, k1 },
@@ -152,17 +155,18 @@ pub extern "C" fn iface_streams_config_init(config: &mut IfaceStreamsConfig)
         number_key: [0; 32],
         table_key: [0; 2],
         keep_alive: 0,
+        accepted_keep_alive: 120_000_000,
         timeout: 0,
         ack_delay: 10_000,
         shortest_timeout: 200_000,
         time_wait: 60_000_000,
         release_timeout: 120_000_000,
-        places: 16,
-        send_room: 16_384,
-        receive_room: 16_384,
-        packets: 32,
-        packet_octets: 49_152,
-        far_octets: 4_096,
+        places: 8,
+        send_room: 4_096,
+        receive_room: 4_096,
+        packets: 8,
+        packet_octets: 1_536,
+        far_octets: 1_024,
         ipv4: 1,
         ipv6: 1,
         nagle: 1,
@@ -321,6 +325,29 @@ pub extern "C" fn iface_stream_accept(
     match done {
         Ok(accepted) => {
             *stream = IfaceStream::of(accepted);
+            OK
+        }
+        Err(refusal) => code(refusal),
+    }
+}
+
+/// Writes the name of a connection that changed.
+#[unsafe(no_mangle)]
+pub extern "C" fn iface_streams_changed(
+    handle: &mut IfaceStreams,
+    alloc: Global,
+    stream: &mut IfaceStream,
+) -> u32
+    ensures changed { spec.Changed result stream.old stream.new (streams_in handle.old) (streams_in handle.new) }
+{
+    let Some(mut streams) = handle.take(alloc) else {
+        return NO_STREAMS;
+    };
+    let done = streams.changed();
+    handle.put(streams);
+    match done {
+        Ok(changed) => {
+            *stream = IfaceStream::of(changed);
             OK
         }
         Err(refusal) => code(refusal),

@@ -10,12 +10,15 @@ use crate::wire::{Ipv4Address, Ipv4Cidr};
 pub struct Lease {
     /// The address with its network: of 32 bits, if the server told no mask.
     pub address: Ipv4Cidr,
-    /// The router, if the server told one.
+    /// The router of the default route, if the server told one. Where it told routes, that of the default route among them, or none
+    /// (RFC 3442).
     pub router: Option<Ipv4Address>,
     /// The identifier of the server that leased it.
     pub server: Ipv4Address,
     /// Servers of names, as many as the server told, from the first place on.
     pub dns_servers: [Option<Ipv4Address>; 3],
+    /// The longest packet of the network, of 68 octets or more, if the server told it.
+    pub mtu: Option<u16>,
     /// When it ends, unless it is renewed before. `None` is never.
     pub expires_at: Option<Instant>,
 }
@@ -28,6 +31,7 @@ impl Lease {
         server: NO_ADDRESS,
         dns_servers: [NO_ADDRESS; 3],
         prefix_len: 0,
+        mtu: 0,
         expires_at: 0,
     };
 
@@ -37,6 +41,7 @@ impl Lease {
             router: told(&lease.router),
             server: ipv4_from_c(&lease.server),
             dns_servers: lease.dns_servers.each_ref().map(told),
+            mtu: (lease.mtu != 0).then_some(lease.mtu),
             expires_at: until_from_c(lease.expires_at),
         }
     }
@@ -110,8 +115,8 @@ impl Drop for Dhcp {
 }
 
 impl Dhcp {
-    /// Makes a client for a host, which takes two places for sockets: for its UDP socket of port 68, and for a raw one while a message
-    /// to all servers waits to be sent. The seed is of the numbers by which its messages are
+    /// Makes a client for a host, which takes two places for sockets: for its UDP socket of port 68, and for a raw one, which is open
+    /// from the first message on as long as there is no lease. The seed is of the numbers by which its messages are
     /// known: another for each host and each start. `known` is an address that the host had before, which it asks for
     /// first.
     ///
@@ -123,6 +128,23 @@ impl Dhcp {
         let known = known.map_or(NO_ADDRESS, |known| to_c(&known.into()));
         call!(client.iface_dhcp_new(&mut host.raw, seed, &known))?;
         Ok(client)
+    }
+
+    /// Sets the codes of the options that servers are asked for, in place of those before, in all messages from then on. The client
+    /// asks for 1, 3, 6, 26 and 121 itself.
+    ///
+    /// # Errors
+    /// [`Error::TooLong`] if there are more than 16.
+    pub fn set_parameters(&mut self, codes: &[u8]) -> Result<(), Error> {
+        call!(self.iface_dhcp_parameters(codes.as_ptr(), codes.len()))
+    }
+
+    /// Sets the name of the host, which is in all messages from then on (RFC 2132 3.14); an empty one is none.
+    ///
+    /// # Errors
+    /// [`Error::TooLong`] if it has more than 63 octets.
+    pub fn set_host_name(&mut self, name: &str) -> Result<(), Error> {
+        call!(self.iface_dhcp_host_name(name.as_ptr().cast(), name.len()))
     }
 
     /// Does what is due: it takes what came to port 68, queues the message that is to be sent now, and tells what has become
@@ -167,8 +189,21 @@ impl Dhcp {
         is_there.then(|| Lease::from_c(&lease))
     }
 
-    /// Gives the host the address of the lease, and its router as a default route, after the others; in place of those that
-    /// the client gave it before, and none without a lease. It forgets all neighbours, unless the same was given before.
+    /// Writes the octets of an option of the lease, put together (RFC 3396), to the front of a buffer, and returns how many there are.
+    /// Of more than 256 the first ones count.
+    ///
+    /// # Errors
+    /// [`Error::Empty`] if there is no lease, or no such option; [`Error::NoRoom`] if the buffer is shorter.
+    pub fn option(&mut self, code: u8, out: &mut [u8]) -> Result<usize, Error> {
+        let mut length = 0;
+        call!(self.iface_dhcp_option(code, out.as_mut_ptr(), out.len(), &mut length))?;
+        Ok(length)
+    }
+
+    /// Gives the host the address of the lease, its router as a default route, and up to eight other routes of option 121 (RFC 3442),
+    /// after the others; in place of those that the client gave it before, and none without a lease. It forgets all neighbours, unless
+    /// address, network and router are the same as before. A route of option 121 is left out where there is no room for it, or where its
+    /// router is 0.0.0.0.
     ///
     /// # Errors
     /// [`Error::TableFull`] if four other addresses or routes are there, [`Error::NotUnicast`] if one of all own addresses

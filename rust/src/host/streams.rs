@@ -50,6 +50,8 @@ impl Secrets {
 pub struct StreamSettings {
     /// How long nothing arrives before a peer is probed. `None`: it never is.
     pub keep_alive: Option<Duration>,
+    /// The same for a peer that asked for the connection.
+    pub accepted_keep_alive: Option<Duration>,
     /// How long what was sent may stay unacknowledged. `None`: twelve tries.
     pub timeout: Option<Duration>,
     /// How long an acknowledgement of octets in order may wait.
@@ -89,14 +91,15 @@ impl Default for StreamSettings {
 }
 
 impl StreamSettings {
-    /// What `iface_streams_config_init` writes: over both families, 16 connections of 16,384 octets each way, probes
-    /// after two hours, twelve tries, acknowledgements that wait 10 milliseconds, 200 milliseconds before something is
+    /// What `iface_streams_config_init` writes: over both families, 8 connections of 4,096 octets each way, probes after two
+    /// minutes of peers that asked for the connection, twelve tries, acknowledgements that wait 10 milliseconds, 200 milliseconds before something is
     /// sent again, 60 seconds of TIME-WAIT, and two minutes for a connection that was released.
     pub fn new() -> StreamSettings {
         let config = sys::iface_streams_config {
             number_key: [0; 32],
             table_key: [0; 2],
             keep_alive: 0,
+            accepted_keep_alive: 0,
             timeout: 0,
             ack_delay: 0,
             shortest_timeout: 0,
@@ -120,6 +123,8 @@ impl StreamSettings {
         let config = configured.config;
         StreamSettings {
             keep_alive: (config.keep_alive != 0).then(|| Duration::from_micros(config.keep_alive)),
+            accepted_keep_alive: (config.accepted_keep_alive != 0)
+                .then(|| Duration::from_micros(config.accepted_keep_alive)),
             timeout: (config.timeout != 0).then(|| Duration::from_micros(config.timeout)),
             ack_delay: Duration::from_micros(config.ack_delay),
             shortest_timeout: Duration::from_micros(config.shortest_timeout),
@@ -143,6 +148,7 @@ impl StreamSettings {
             number_key: secrets.number_key,
             table_key: secrets.table_key,
             keep_alive: micros(self.keep_alive),
+            accepted_keep_alive: micros(self.accepted_keep_alive),
             timeout: micros(self.timeout),
             ack_delay: self.ack_delay.total_micros(),
             shortest_timeout: self.shortest_timeout.total_micros(),
@@ -262,6 +268,9 @@ pub enum StreamEnding {
     TimedOut,
     /// The program aborted, or the own address is gone.
     Aborted,
+    /// The peer can't be reached: its neighbour doesn't answer, or a message of ICMP says so while the connection is being opened,
+    /// or one did after which nothing came until it timed out.
+    Unreachable,
 }
 
 /// Connections of TCP of a host (RFC 9293). They listen, connect, send again what was lost, and keep what came until it is
@@ -390,6 +399,19 @@ impl Streams {
         Ok(Stream::from_c(&name))
     }
 
+    /// Takes a connection at which something changed, by frames and timers, since it was taken so last: octets became readable, room
+    /// to write came back, or the state is another one, also where the peer's end came or the connection ended. One that was
+    /// accepted counts as changed. Each is taken once until it changes again, and those that changed first come first.
+    ///
+    /// # Errors
+    /// [`Error::Empty`] if none has changed.
+    #[inline]
+    pub fn changed(&mut self) -> Result<Stream, Error> {
+        let mut name = Stream::NONE;
+        call!(self.iface_streams_changed(&mut name))?;
+        Ok(Stream::from_c(&name))
+    }
+
     /// Closes a listener: a SYN for it is answered by a reset from then on, unless another one listens there. Handshakes under
     /// way end in a reset once they are complete, and connections that wait can still be accepted. Its number is given to no
     /// other listener.
@@ -503,6 +525,7 @@ impl Streams {
             sys::IFACE_REFUSED => Some(StreamEnding::Refused),
             sys::IFACE_TIMED_OUT => Some(StreamEnding::TimedOut),
             sys::IFACE_ABORTED => Some(StreamEnding::Aborted),
+            sys::IFACE_UNREACHABLE => Some(StreamEnding::Unreachable),
             _ => None,
         })
     }
