@@ -1,13 +1,13 @@
 #!/bin/sh
-# Makes a release in FOLDER, of the commit that is checked out: for each target an archive with the proved library, and
+# Makes a release in FOLDER, of the commit that is checked out: for each target an archive with the proved library, one for firmware, and
 # the crate that carries the libraries, each with all pages. Then it tries each as one who has nothing else would.
 #
 #   release.sh FOLDER
 #
 # BUILD_LIBRARY, where it is set, is handed to `make -C c`, as ./over_gate.sh after `rt ci`; with `--program simulate` behind
 # it, it builds `simulate`, in place of `rt run`. It needs the Rattle kit's `rt`, a C compiler, pkg-config and git; for
-# aarch64 Debian's gcc-aarch64-linux-gnu, libc6-dev-arm64-cross and qemu-user; for the crate cargo. What is skipped for want
-# of these is said.
+# aarch64 Debian's gcc-aarch64-linux-gnu, libc6-dev-arm64-cross and qemu-user; to try firmware gcc-arm-none-eabi and
+# qemu-system-arm; for the crate cargo. What is skipped for want of these is said.
 set -eu
 cd "$(dirname "$0")"
 mkdir -p "$1"
@@ -88,11 +88,15 @@ archive() {
     shift 4
     name=fumitorygate-$version-$target
     place=$work/$name
-    make -C c "$build/libiface.a" "$@" ${BUILD_LIBRARY:+"BUILD_LIBRARY=$BUILD_LIBRARY"}
+    case "$*" in
+    *TARGET=*) ;; # it is built over the libraries that were proved for the first one
+    *) set -- "$@" ${BUILD_LIBRARY:+"BUILD_LIBRARY=$BUILD_LIBRARY"} ;;
+    esac
+    make -C c "$build/libiface.a" "$@"
     make -C c install "$@" PREFIX="$place" PC_PREFIX='$${pcfiledir}/../..'
     cp "c/$build/libiface_c.a" "c/$build/libiface_c.a.proof" "$place/lib/"
     mkdir "$place/examples" "$place/bin"
-    cp c/examples/*.[ch] c/examples/*.sh c/heap.c c/small.sh c/small_peer.py "$place/examples/"
+    cp c/examples/*.[ch] c/examples/*.sh c/heap.c c/arena.[ch] c/small.sh c/small_peer.py "$place/examples/"
     python3 docs/carry.py archive "$place"
     cp LICENSE "$place/"
     for program in ping arping sweep http_hello gateway; do
@@ -118,7 +122,27 @@ archive() {
     echo "release: $name.tar.gz, and a program over it prints what it has to"
 }
 
+# Packs the libraries for firmware, which no proof covers, with the programs for boards, and tries these as an unpacked archive has them.
+firmware() {
+    name=fumitorygate-$version-firmware-experimental
+    place=$work/$name
+    make -C c firmware ${BUILD_LIBRARY:+"BUILD_LIBRARY=$BUILD_LIBRARY"}
+    mkdir -p "$place/lib"
+    cp c/build/firmware/libiface-*.a "$place/lib/"
+    cp -r c/build/firmware/include c/boards "$place/"
+    cp c/targets/alone.c c/arena.c c/small_peer.py "$place/boards/"
+    python3 docs/carry.py firmware "$place"
+    cp LICENSE "$place/"
+    pack "$name"
+    rm -rf "$place"
+    tar -C "$work" -xzf "$folder/$name.tar.gz"
+    python3 docs/carry.py --check "$place"
+    "$place/boards/try.sh" "$place/lib"
+    echo "release: $name.tar.gz, for Cortex-M and riscv32, without a proof"
+}
+
 archive x86_64-unknown-linux-gnu build "${CC:-cc}" ''
+firmware
 if command -v aarch64-linux-gnu-gcc >/dev/null && command -v qemu-aarch64 >/dev/null; then
     archive aarch64-unknown-linux-gnu build/aarch64-linux-gnu aarch64-linux-gnu-gcc 'qemu-aarch64 -L /usr/aarch64-linux-gnu' \
         TARGET=aarch64-linux-gnu

@@ -5,6 +5,7 @@
 #include "iface.h"
 
 #include "examples/octets.h"
+#include "lease_reply.h"
 
 #include <stdbool.h>
 #include <stdio.h>
@@ -374,7 +375,7 @@ static void connection_rows(void) {
     both.ipv6 = 1;
     size_t family = octets_of_connections(both) - least;
     wants("connections take the sum",
-          all == least + family + 15 * (place + rooms) + 16 * 16383 * rooms + 2 * (31 * packets + 49151 * octets + 4095 * far));
+          all == least + family + 7 * (place + rooms) + 8 * 4095 * rooms + 2 * (7 * packets + 1535 * octets + 1023 * far));
     wants("twice both rooms", rooms == 4);
     snprintf(more, sizeof more, "%s for each place and twice its two rooms; of each family %s for each of `packets`, %s of `packet_octets`, "
              "%s of `far_octets`", text_of(place), text_of(packets), text_of(octets), text_of(far));
@@ -384,6 +385,17 @@ static void connection_rows(void) {
 }
 
 /* ---- clients ---- */
+
+/* Answers what was sent, and what the client sends then waits in `out`. Returns what has become of the lease. */
+static uint32_t is_answered(iface_dhcp *client, uint8_t type) {
+    static uint8_t reply[IFACE_FRAME_ROOM];
+    uint32_t event = 77;
+    size_t length = lease_reply(reply, out, type, 50, 120), answered;
+    must("a reply", iface_receive(&host, now, reply, length, out, sizeof out, &answered));
+    must("the client", iface_dhcp_poll(client, &host, now, &event));
+    next();
+    return event;
+}
 
 static void dhcp_row(void) {
     const struct iface_address none = IFACE_ANY;
@@ -399,12 +411,12 @@ static void dhcp_row(void) {
     must("DISCOVER", iface_dhcp_poll(&client, &host, now += 20 * SECOND, &event));
     size_t message = taken(before + octets);
     wants("DISCOVER is sent", message > 0 && next() > 0);
-    must("after it", iface_dhcp_poll(&client, &host, now, &event));
-    wants("its memory is given back", held == before + octets);
+    wants("nothing else is taken until there is a lease", is_answered(&client, OFFER) == 0 && held == before + octets + message);
+    wants("the message's memory is given back then", is_answered(&client, ACK) == IFACE_DHCP_CONFIGURED && held == before + octets);
     must("its end", iface_dhcp_free(&client, &host));
     wants("a client of DHCP gives back what it took", held == before);
     must("its end", iface_free(&host));
-    snprintf(more, sizeof more, "%s while a message to all servers waits", text_of(message));
+    snprintf(more, sizeof more, "%s from the first message on, until there is a lease", text_of(message));
     row("a client of DHCP, by `iface_dhcp_new`", octets, octets, more);
 }
 

@@ -3,6 +3,8 @@
 # takes of it that echoes UDP and answers ping. That is examples/freestanding.c, whose own code isn't counted. And how many
 # octets of code each service adds to a program that makes all calls but those of services.
 #
+# boards/figures.sh tells of whole programs what they take, memory and stack too.
+#
 #   size.sh FOLDER      of the built library and program; CC names the compiler, which links
 set -eu
 here=$(dirname "$0")

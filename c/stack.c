@@ -187,10 +187,13 @@ static size_t listener, writable;
     each(guard_unpin, iface_guard_unpin(&host, &address)) \
     each(poll_at, iface_poll_at(&host, now, &at)) \
     each(dhcp_new, iface_dhcp_new(&client, &host, 1, &address)) \
+    each(dhcp_parameters, iface_dhcp_parameters(&client, payload, 3)) \
+    each(dhcp_host_name, iface_dhcp_host_name(&client, name, given)) \
     each(dhcp_poll, iface_dhcp_poll(&client, &host, now, &number)) \
     each(dhcp_poll_at, iface_dhcp_poll_at(&client, &at)) \
     each(dhcp_lost, iface_dhcp_lost(&client, &number)) \
     each(dhcp_lease, iface_dhcp_lease(&client, &lease)) \
+    each(dhcp_option, iface_dhcp_option(&client, 6, payload, sizeof payload, &length)) \
     each(dhcp_apply, iface_dhcp_apply(&client, &host)) \
     each(dhcp_reset, iface_dhcp_reset(&client)) \
     each(dhcp_free, iface_dhcp_free(&client, &host)) \
@@ -209,6 +212,7 @@ static size_t listener, writable;
     each(streams_free, iface_streams_free(&tcp, &host)) \
     each(stream_listen, iface_stream_listen(&tcp, &local, number, &listener)) \
     each(stream_accept, iface_stream_accept(&tcp, listener, &stream)) \
+    each(streams_changed, iface_streams_changed(&tcp, &stream)) \
     each(stream_close_listener, iface_stream_close_listener(&tcp, listener)) \
     each(stream_connect, iface_stream_connect(&tcp, &host, now, &local, &end, &stream)) \
     each(stream_send, iface_stream_send(&tcp, &stream, payload, given, &length)) \
@@ -461,8 +465,9 @@ static void take_leases(void) {
     config.hardware_address[0] = 2, config.hardware_address[5] = 1;
     MUST(new_for);
     address.version = 0, MUST(dhcp_new);
+    given = 4, MUST(dhcp_parameters), MUST(dhcp_host_name);
     lease_step(OFFER), lease_step(ACK);
-    MUST(dhcp_poll), MUST(dhcp_lease), MUST(dhcp_apply);
+    MUST(dhcp_poll), MUST(dhcp_lease), MUST(dhcp_option), MUST(dhcp_apply);
     now = at, now += 60000000, MUST(dhcp_poll), MUST(next);
     now += 55000000, lease_step(NAK);
     MUST(dhcp_poll), MUST(dhcp_apply), MUST(next);
@@ -538,7 +543,7 @@ static void speak_tcp(void) {
     MUST(streams_config_init), streams_config.number_key[0] = 1, streams_config.table_key[0] = 2, streams_config.places = 2, streams_config.packet_octets = 16384, MUST(streams_new), iface_streams_new(&peer_tcp, &peer_host, &streams_config);
     local = (struct iface_endpoint){IFACE_ANY, 7}, number = 4, MUST(stream_listen);
     iface_stream_connect(&peer_tcp, &peer_host, now, &from, &to, &theirs);
-    exchange_segments(), MUST(stream_accept), exchange_octets(&theirs);
+    exchange_segments(), MUST(stream_accept), MUST(streams_changed), exchange_octets(&theirs);
     iface_stream_close(&peer_tcp, &theirs), exchange_segments(), MUST(stream_close), exchange_segments(), MUST(stream_release);
     iface_stream_listen(&peer_tcp, &to, 4, &listener), iface_stream_listen(&peer_tcp, &from, 4, &listener);
     local.port = 5000, end = (struct iface_endpoint){own[1], 4000}, local.address.version = 0, MUST(stream_connect);

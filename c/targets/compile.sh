@@ -15,8 +15,9 @@ case $target in
 x86-64) processor="--target=x86_64-unknown-linux-gnu -march=x86-64-v2" ;;
 aarch64) processor="--target=aarch64-unknown-linux-gnu -march=armv8-a" ;;
 riscv64) processor="--target=riscv64-unknown-linux-gnu -march=rv64gc -mabi=lp64d" ;;
-thumb) processor="--target=thumbv7em-none-eabi -mcpu=cortex-m4 -mfloat-abi=soft" ;;
-riscv32) processor="--target=riscv32-none-elf -march=rv32imac -mabi=ilp32" ;;
+thumbv7m) processor="--target=thumbv7m-none-eabi -mcpu=cortex-m3 -mfloat-abi=soft" ;;
+thumbv7em) processor="--target=thumbv7em-none-eabi -mcpu=cortex-m4 -mfloat-abi=soft" ;;
+riscv32imac) processor="--target=riscv32-none-elf -march=rv32imac -mabi=ilp32" ;;
 *) echo "compile.sh: $target?" >&2 && exit 2 ;;
 esac
 case $file in

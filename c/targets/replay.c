@@ -2,22 +2,13 @@
  *
  * A script is records: a letter, a length of two octets (low first) and so many octets. F: a frame. T: four octets of
  * microseconds to go on. S: a datagram, to one of three ends by its first octet. */
-#ifdef POINTERS_OF_32_BITS
-/* The library's `size_t` has 64 bits on each target (README.md). */
-#include <stddef.h>
-#define size_t unsigned long long
-#include "iface.h"
-#undef size_t
-typedef unsigned long long length_t;
-#else
-#include "iface.h"
-typedef size_t length_t;
-#endif
+#include "arena.h"
 
 long sys_read(void *at, unsigned long room);
 void sys_write(const void *at, unsigned long length);
 
 static uint8_t record[65536], out[IFACE_FRAME_ROOM], packet[8192];
+static uint64_t memory[65536] __attribute__((aligned(16)));
 static char text[4 * IFACE_FRAME_ROOM];
 static unsigned long filled;
 
@@ -64,6 +55,18 @@ static struct iface_address v6(uint8_t a, uint8_t b, uint8_t last) {
     return address;
 }
 
+/* In just what it wants, and then with room for sockets too. */
+static void make_in_memory(iface *host, const struct iface_config *config) {
+    size_t wanted, half = sizeof memory / 2;
+    must(iface_new_in(host, config, memory, 0, &wanted) == IFACE_NO_MEMORY ? IFACE_OK : IFACE_HAS_HOST);
+    must(iface_new_in(host, config, memory, wanted, &wanted));
+    must(wanted - iface_arena_used() <= 32 ? IFACE_OK : IFACE_NO_MEMORY); /* the rest is the head of the memory */
+    must(iface_free(host));
+    must(iface_new_in(host, config, memory + half / sizeof *memory, half, &wanted));
+}
+
+int run(void);
+
 int run(void) {
     iface host = IFACE_NONE;
     struct iface_config config;
@@ -73,10 +76,10 @@ int run(void) {
     struct iface_endpoint ends[] = {{v4(192, 168, 69, 2), 9}, {v6(0xfe, 0x80, 2), 9}, {v4(10, 1, 2, 3), 9}};
     uint32_t udp, raw, ident, port;
     int64_t now = 1000000, at;
-    length_t n;
+    uint64_t n;
     iface_config_init(&config);
     config.seed = 1, config.slaac = 1, config.hardware_address[0] = 2, config.hardware_address[5] = 1;
-    must(iface_new(&host, &config));
+    make_in_memory(&host, &config);
     must(iface_add_address(&host, &own[0], 24));
     must(iface_add_address(&host, &own[1], 64));
     must(iface_add_address(&host, &own[2], 64));

@@ -1,7 +1,7 @@
 #!/usr/bin/env python3
 """Makes a module of another processor out of the one that module.sh writes.
 
-usage: retarget.py IN.ll OUT.ll TARGET [small]      TARGET: x86-64, aarch64, riscv64, thumb or riscv32
+usage: retarget.py IN.ll OUT.ll TARGET [small]      TARGET: x86-64, aarch64, riscv64, thumbv7m, thumbv7em or riscv32imac
 
 What is changed: the triple, the data layout, and the attributes that name a processor. On riscv64 results of 32 bits are marked as its
 convention wants. On processors of 32 bits pointers alone are shorter: each keeps its place of 8 octets, and numbers their 64 bits.
@@ -15,8 +15,9 @@ TARGETS = {
     "x86-64": ("x86_64-unknown-linux-gnu", "e-m:e-p270:32:32-p271:32:32-p272:64:64-i64:64-i128:128-f80:128-n8:16:32:64-S128"),
     "aarch64": ("aarch64-unknown-linux-gnu", "e-m:e-p270:32:32-p271:32:32-p272:64:64-i8:8:32-i16:16:32-i64:64-i128:128-n32:64-S128-Fn32"),
     "riscv64": ("riscv64-unknown-linux-gnu", "e-m:e-p:64:64-i64:64-i128:128-n32:64-S128"),
-    "thumb": ("thumbv7em-unknown-none-eabi", "e-m:e-p:32:32-Fi8-i64:64-v128:64:128-a:0:32-n32-S64"),
-    "riscv32": ("riscv32-unknown-none-elf", "e-m:e-p:32:32-i64:64-n32-S128"),
+    "thumbv7m": ("thumbv7m-unknown-none-eabi", "e-m:e-p:32:32-Fi8-i64:64-v128:64:128-a:0:32-n32-S64"),
+    "thumbv7em": ("thumbv7em-unknown-none-eabi", "e-m:e-p:32:32-Fi8-i64:64-v128:64:128-a:0:32-n32-S64"),
+    "riscv32imac": ("riscv32-unknown-none-elf", "e-m:e-p:32:32-i64:64-n32-S128"),
 }
 
 
@@ -50,8 +51,11 @@ def main():
     text = re.sub(r'^target datalayout = ".*"$', f'target datalayout = "{layout}"', text, flags=re.M)
     if name != "x86-64":
         text = re.sub(r' "(target-cpu|target-features|probe-stack|stack-probe-size)"="[^"]*"', "", text)
-    if name in ("thumb", "riscv32"):
+    if name.startswith(("thumb", "riscv32")):
         text = shortened(text)
+    if name.startswith("thumb"):
+        # It passes no floating-point number, so it fits programs that pass these in registers, and others.
+        text = re.sub(r"^(target triple = .*)$", r'\1\nmodule asm ".eabi_attribute 28, 3"', text, flags=re.M)
     if name == "riscv64":
         text = re.sub(r"^(define (?:dso_local )?(?:noundef )?)(i32 @iface_)", r"\1signext \2", text, flags=re.M)
     if how == ["small"]:

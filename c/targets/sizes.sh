@@ -10,7 +10,7 @@ trap 'rm -rf "$work"' EXIT
 sum() { # of the sections that begin with this: sum WHICH FILE
     size -A "$2" | awk -v which="$1" '$1 ~ "^\\." which { sum += $2 } END { print sum + 0 }'
 }
-for target in x86-64 aarch64 riscv64 thumb riscv32; do
+for target in x86-64 aarch64 riscv64 thumbv7em riscv32imac; do
     for level in -O3 -Os small; do
         "$here/compile.sh" "$1" $target $level "$work/iface.o"
         echo "$target $level: code $(sum text "$work/iface.o"), constants $(sum rodata "$work/iface.o")"
