@@ -4,6 +4,7 @@ without those to sources, of which the words stay.
 
 usage: carry.py archive FOLDER      as an archive of the C library has them: README.md, and the others in share/doc/iface
        carry.py installed FOLDER    those in share/doc/iface alone
+       carry.py firmware FOLDER     as the archive for firmware has them: FIRMWARE.md is its README.md
        carry.py crate FOLDER        as the crate has them: its own README.md and API.md, and the others in docs
        carry.py --check FOLDER      names each link of a page there that leads nowhere; its status is 1 if there is one
 """
@@ -20,6 +21,7 @@ LINK = re.compile(r"\[((?:[^\[\]]|\[[^\]]*\])*)\]\(([^)\s]+)\)")
 OWN_PLACES = {
     "archive": {"c/RELEASE.md": "README.md"},
     "installed": {"c/RELEASE.md": None},
+    "firmware": {"docs/FIRMWARE.md": "README.md", "c/RELEASE.md": None},
     "crate": {"rust/README.md": "README.md", "rust/API.md": "API.md", "c/RELEASE.md": None},
 }
 # in the folder of the others

@@ -1,7 +1,7 @@
 #!/usr/bin/env python3
 """Tests the pages: that each link leads to a file and to a heading there, that each file that a page names is there,
 that tables and lines aren't too long, that the examples of CONTRIBUTING.md stand somewhere, that MAP.md has each crate once,
-that calls of C that they name are in iface.h, that numbers of crates are those of crates.txt, that who copies crates by
+that calls of C that they name are in iface.h or arena.h, that numbers of crates are those of crates.txt, that who copies crates by
 CLIENT.md has all that their lines name, that THEOREM.md has each law, and no other, and tells how many there are, that what
 promises stand on is counted right, that numbers are those of what they count (figures.py), that no page has more long
 sentences than it had (sentences.py), that each listing of CLIENT.md, TCP.md and C.md stands in a program (listings.py), that
@@ -46,7 +46,7 @@ WORD = re.compile(r"(?<!\S)(?=\S*\w)\S+")
 ANY_FILE = re.compile(r"`(?:\.{1,2}/)*([\w/-]+\.(?:rt|antt|c|h|rs|md|py|sh|txt|edit))`")
 LETTER = re.compile(r"(^|/)[XCxmf][/.]")
 # what only an installed library or an archive has
-ELSEWHERE = {"include/iface.h"}
+ELSEWHERE = {"include/iface.h", "boards/alone.c"}
 
 
 def headings(text):
@@ -169,7 +169,7 @@ def test_behind(text):
 def test_calls(text, declared):
     """Names each call of C that a page names and that iface.h doesn't declare."""
     for name in sorted(set(re.findall(r"`(iface_[a-z0-9_]*[a-z0-9])`", text)) - declared):
-        yield f"iface.h has no {name}"
+        yield f"neither iface.h nor arena.h has {name}"
 
 
 def test_counts(text, lines):
@@ -260,7 +260,8 @@ def main(arguments):
         print(f"{sum(map(words_of, texts.values())):6} in all, of at most {MOST_WORDS}")
         return False
     problems, ends, crates = [], ends_of_paths(), read_crates()
-    declared = set(re.findall(r"\biface_\w+", (TOP / "c" / "iface.h").read_text(encoding="utf-8"))) | set(crates)
+    headers = [(TOP / "c" / name).read_text(encoding="utf-8") for name in ("iface.h", "arena.h", "arena.c", "targets/header.sh")]
+    declared = set(re.findall(r"\biface_\w+", "\n".join(headers))) | set(crates)
     for page, text in texts.items():
         found = [*test_links(page, text, texts), *test_files(text, ends), *test_counts(text, len(crates)), *test_behind(text),
                  *test_calls(text, declared)]
