@@ -18,9 +18,10 @@ use Rattle.egress_schedule.specs.Patience.{after_alignment, after_alignment_at, 
 use Rattle.egress_schedule.specs.Patience.{after_patience_at, begun_or_before, earlier_of, earliest_end, earliest_with, if_asked, if_given_up, if_waiting}
 use Rattle.egress_schedule.specs.Patience.{is_given_up, is_new, may_ask, must_go, plan_after_look, unreachable_after, waiting_after}
 use Rattle.egress_schedule.specs.Plan.{Plan, Planned, each_of, first_from, idle, watch_at, with_watch}
+use Rattle.egress_schedule.specs.Queues.{has_packets}
 use Rattle.egress_schedule.specs.Rounds.{with_waits_ended}
 use Rattle.egress_schedule.specs.Details.Settled.{ends_at, is_settled, is_settled_as, is_some_over, is_written, waits_at}
-use Rattle.egress_schedule.specs.Turns.{after_hold_at, after_taking_turns, asks_at, if_asking, if_held, next_to_ask}
+use Rattle.egress_schedule.specs.Turns.{after_hold_at, after_taking_turns, asks_at, comes_before, if_asking, if_held, is_free, next_to_ask}
 use Rattle.egress_schedule.proofs.Ends.{past_get}
 use Rattle.egress_schedule.proofs.GoesOn.{same_itself}
 use Rattle.egress_schedule.proofs.Unnoted.{look_idle, passed}
@@ -287,19 +288,27 @@ module _ {L : Type 0} where
       by true (Some w) is = rw is refl
       by false w is = refl
 
-    none_held : (next i : ℕ) → after_hold_at now next i r ≡ r
-    none_held next i = by (is_some (wait_of r.sockets i)) (watch_at i r).waiting (none_at_all i) where
+    -- where none asks, nobody comes before who does
+    none_before : (next i : ℕ) → nat_lt next (length r.plan.watches) ≡ false → comes_before now next i r ≡ false
+    none_before next i behind = by (is_free now (wait_of r.sockets i)) (nat_lt i next) where
+      by : (a b : Bool) → (a && (b && (nat_lt next (length r.plan.watches) && has_packets (socket_at r.sockets i)))) ≡ false
+      by false b = refl
+      by true false = refl
+      by true true = rw behind refl
+
+    none_held : (next i : ℕ) → nat_lt next (length r.plan.watches) ≡ false → after_hold_at now next i r ≡ r
+    none_held next i behind = by (is_some (wait_of r.sockets i)) (watch_at i r).waiting (none_at_all i) where
       by : (b : Bool) (w : Option Waiting) → is_some_over now w ≡ false → if_held now next i r (if b then w else None) ≡ r
-      by true None is = refl
+      by true None is = rw (none_before next i behind) refl
       by true (Some w) is = rw is refl
-      by false w is = refl
+      by false w is = rw (none_before next i behind) refl
 
     not_found : (from k : ℕ) → from + k ≤ first_from (asks_at now r) from k
     not_found from zero = omega arith
     not_found from (suc k) = rw (none_asks from) (let later = not_found (suc from) k in omega (arith, later))
 
     pub no_turns : after_taking_turns now r ≡ r
-    no_turns = rw (passed (after_hold_at now next) r r 0 n (omega arith) refl (λ i h less. none_held next i)) (rw behind refl) where
+    no_turns = rw (passed (after_hold_at now next) r r 0 n (omega arith) refl (λ i h less. none_held next i behind)) (rw behind refl) where
       n : ℕ
       n = length r.plan.watches
 

@@ -20,13 +20,13 @@ use Rattle.socket_set.specs.SocketMeta.{Wait}
 use Rattle.socket_set.specs.SocketSet.{Sockets, socket_at, wait_at, wait_of, with_wait}
 use Rattle.egress_schedule.specs.declared.watch.Waiting.{Waiting}
 use Rattle.egress_schedule.specs.declared.watch.Watch.{Watch}
-use Rattle.egress_schedule.specs.LongPackets.{after_setting_aside, after_setting_aside_at, has_long, is_long, next_long, nobody}
-use Rattle.egress_schedule.specs.LongPackets.{own_wait, until_unasked, waiting_unasked, with_wait_aside}
+use Rattle.egress_schedule.specs.LongPackets.{after_setting_aside, after_setting_aside_at, has_long, is_long, next_long}
+use Rattle.egress_schedule.specs.Asides.{is_over, nobody, own_wait, until_unasked, waiting_unasked, with_wait_aside}
 use Rattle.egress_schedule.specs.Patience.{must_go}
 use Rattle.egress_schedule.specs.Plan.{Plan, Planned, each_of, idle, waiting_at, watch_at}
 use Rattle.egress_schedule.specs.Queues.{each_behind, first_len, len_behind, lens_to_send}
 use Rattle.egress_schedule.specs.Rounds.{before_round, with_long_set_aside, with_turns_taken}
-use Rattle.egress_schedule.specs.Turns.{after_hold_at, after_taking_turns, if_held, is_held, is_over, next_to_ask}
+use Rattle.egress_schedule.specs.Turns.{after_hold_at, after_taking_turns, comes_before, if_held, is_free, is_held, next_to_ask}
 use Rattle.egress_schedule.specs.Turns.{plan_asked, waiting_asked, with_wait_longer}
 use Rattle.egress_schedule.specs.Laws.{IsTold, LongPacketsApart, MayBegin, may_be_asked}
 use Rattle.egress_schedule.proofs.Ends.{here_set, kept, len_set, other_set}
@@ -186,18 +186,29 @@ module _ {L : Type 0} where
     -- turns leave it so
     held_here : (next i : ℕ) (r : Planned L) → IsAside now i r → IsAside now i (after_hold_at now next i r)
     held_here next i r aside = by (is_some (wait_of r.sockets i)) where
+      not_free : is_free now (wait_of r.sockets i) ≡ false
+      not_free = rw aside.wait_is (later_than now)
+
       two : (o : Option Waiting) → IsOn now o → IsAside now i (if_held now next i r o)
-      two None on = aside
+      two None on = rw not_free aside
       two (Some w) on = rw on aside
 
       by : (b : Bool) → IsAside now i (if_held now next i r (if b then (watch_at i r).waiting else None))
       by true = two (watch_at i r).waiting aside.is_on
-      by false = aside
+      by false = two None tt
 
     held_other : (next j i : ℕ) (r : Planned L) → i ≢ j → IsAside now i r → IsAside now i (after_hold_at now next j r)
     held_other next j i r other aside = by (waiting_at j r) where
+      none : (b : Bool) → IsAside now i (if b then with_wait_aside now j r else r)
+      none false = aside
+      none true = record {
+        wait_is = ap (λ (x : Wait). option_and_then (λ it. x) (socket_at r.sockets i))
+            (other_set r.sockets.waits j i (Some (nobody, silence_from now)) None other) ∙ aside.wait_is;
+        is_on = subst (λ (x : Watch). IsOn now x.waiting) (sym (other_set r.plan.watches j i _ idle other)) aside.is_on;
+      }
+
       by : (o : Option Waiting) → IsAside now i (if_held now next j r o)
-      by None = aside
+      by None = none (comes_before now next j r)
       by (Some w) = two (is_held r.plan.patience now (must_go now j r w) (nat_lt j next) w) where
         two : (b : Bool) → IsAside now i (if b then with_wait_longer now j w r else r)
         two false = aside

@@ -18,8 +18,8 @@ use Rattle.egress_schedule.specs.Patience.{after_patience, after_patience_at, ea
 use Rattle.egress_schedule.specs.Patience.{is_at_end, is_given_up, is_recent, is_second_over, must_go}
 use Rattle.egress_schedule.specs.Patience.{unreachable_after, waiting_after, watch_after_giving_up, without_first}
 use Rattle.egress_schedule.specs.Queues.{has_others, is_crowded}
-use Rattle.egress_schedule.specs.LongPackets.{after_putting_all_back, after_putting_back_at, if_set_aside}
-use Rattle.egress_schedule.specs.Rounds.{after_round, with_long_put_back, with_waits_ended}
+use Rattle.egress_schedule.specs.Asides.{after_putting_all_back, after_putting_back_at, if_set_aside}
+use Rattle.egress_schedule.specs.Rounds.{after_round, with_waits_put_back, with_waits_ended}
 use Rattle.egress_schedule.specs.Laws.{PatienceEnds, WaitsEndTogether}
 
 -- lists with another element at an index
@@ -353,8 +353,8 @@ module _ {L : Type 0} where
       by None = refl
       by (Some wait) = refl
 
-    put_back_patience : (r : Planned L) → patience_of (with_long_put_back r) ≡ patience_of r
-    put_back_patience r = by r.plan.may_have_long where
+    put_back_patience : (r : Planned L) → patience_of (with_waits_put_back r) ≡ patience_of r
+    put_back_patience r = by (r.plan.may_have_long || r.plan.is_waiting) where
       by : (b : Bool) → patience_of (if b then after_putting_all_back r else r) ≡ patience_of r
       by true = kept patience_of after_putting_back_at putting_keeps_patience (count_of r) r
       by false = refl
@@ -363,7 +363,7 @@ module _ {L : Type 0} where
     look_patience r = kept patience_of (after_look_at now) (λ i s. refl) (count_of r) (record r { plan = record r.plan { is_waiting = false } })
 
     abbrev seen : Planned L → Planned L
-    seen r = after_look now (with_long_put_back r)
+    seen r = after_look now (with_waits_put_back r)
 
     give_patience : (r : Planned L) → patience_of (with_waits_ended now r) ≡ patience_of r
     give_patience r = by r.plan.is_waiting where
@@ -373,16 +373,16 @@ module _ {L : Type 0} where
           ∙ alignment_keeps_patience r
 
     pub after_patience_of : (r : Planned L) → patience_of (after_round now r) ≡ patience_of r
-    after_patience_of r = give_patience (seen r) ∙ (look_patience (with_long_put_back r) ∙ put_back_patience r)
+    after_patience_of r = give_patience (seen r) ∙ (look_patience (with_waits_put_back r) ∙ put_back_patience r)
 
     ends : (r : Planned L) (i : ℕ) → Holds (patience_of r) i (after_round now r)
     ends r i = by (seen r).plan.is_waiting refl where
       patience : patience_of (after_alignment (seen r)) ≡ patience_of r
-      patience = alignment_keeps_patience (seen r) ∙ (look_patience (with_long_put_back r) ∙ put_back_patience r)
+      patience = alignment_keeps_patience (seen r) ∙ (look_patience (with_waits_put_back r) ∙ put_back_patience r)
 
       by : (b : Bool) → (seen r).plan.is_waiting ≡ b → Holds (patience_of r) i (if b then after_patience now (after_alignment (seen r)) else seen r)
       by true is = subst (λ (p : ℕ). Holds p i (after_patience now (after_alignment (seen r)))) patience (gives_up (after_alignment (seen r)) i)
-      by false is = of_watch i (seen r) (IsFresh now (patience_of r) (must_go now i (seen r))) (rw (looked_over (with_long_put_back r) i is) tt)
+      by false is = of_watch i (seen r) (IsFresh now (patience_of r) (must_go now i (seen r))) (rw (looked_over (with_waits_put_back r) i is) tt)
 
     -- two sockets that wait may ask again at one instant
     abbrev Together : ℕ → ℕ → Planned L → Type 0
@@ -405,7 +405,7 @@ module _ {L : Type 0} where
         at_end k = of_watch k given (λ w. w.until ≡ at.0) (end_kept at.0 (count_of start) k start (at.1 k))
       by false is = together (waiting_at i (seen r)) (waiting_at j (seen r)) (pos 0) (none i) (none j) where
         none : (k : ℕ) → IfSome (waiting_at k (seen r)) (λ w. w.until ≡ pos 0)
-        none k = of_watch k (seen r) (λ w. w.until ≡ pos 0) (rw (looked_over (with_long_put_back r) k is) tt)
+        none k = of_watch k (seen r) (λ w. w.until ≡ pos 0) (rw (looked_over (with_waits_put_back r) k is) tt)
 
 pub patience_ends : PatienceEnds
 patience_ends now r i = ends now r i

@@ -1,5 +1,5 @@
 -- Long packets are expected as long as one is queued.
-use Rattle.std.specs.Prelude.{ℕ, zero, suc, ◌≡◌, ◌<◌, ◌≤◌, ◌==◌, ◌⊎◌, ◌&&◌, not, nat_lt, Bool, true, false}
+use Rattle.std.specs.Prelude.{ℕ, zero, suc, ◌≡◌, ◌<◌, ◌≤◌, ◌==◌, ◌⊎◌, ◌&&◌, not, nat_lt, Bool, true, false, ◌||◌}
 use Rattle.std.specs.Prelude.{ℤ, List, [], ◌∷◌, length, drop, get_or, slice_get, slice_set}
 use Rattle.std.specs.Prelude.{Option, Some, None, IfSome, refl, if◌then◌else◌}
 use Rattle.std.specs.Borrow.{Bor}
@@ -14,14 +14,15 @@ use Rattle.socket_set.specs.SocketMeta.{Wait}
 use Rattle.socket_set.specs.SocketSet.{Sockets, socket_at}
 use Rattle.egress_schedule.specs.declared.watch.Waiting.{Waiting}
 use Rattle.egress_schedule.specs.declared.watch.Watch.{Watch}
-use Rattle.egress_schedule.specs.LongPackets.{after_putting_all_back, after_putting_back_at, after_setting_aside, after_setting_aside_at, has_long}
-use Rattle.egress_schedule.specs.LongPackets.{if_set_aside, may_be_long, may_have_long, next_long, some_may_have_long, with_wait_aside}
+use Rattle.egress_schedule.specs.LongPackets.{after_setting_aside, after_setting_aside_at, has_long}
+use Rattle.egress_schedule.specs.Asides.{after_putting_all_back, after_putting_back_at, if_set_aside, with_wait_aside}
+use Rattle.egress_schedule.specs.LongPackets.{may_be_long, may_have_long, next_long, some_may_have_long}
 use Rattle.egress_schedule.specs.Patience.{after_alignment, after_alignment_at, after_alignment_to, after_giving_up, after_look, after_look_at}
 use Rattle.egress_schedule.specs.Patience.{after_patience, after_patience_at, earliest_end, if_given_up, if_waiting, is_given_up, must_go, without_first}
 use Rattle.egress_schedule.specs.Plan.{Plan, Planned, each_of, first_from, idle, waiting_at, watch_at, with_watch}
 use Rattle.egress_schedule.specs.Queues.{count_to_send, each_behind, first_len, len_behind, lens_to_send}
-use Rattle.egress_schedule.specs.Rounds.{after_round, before_round, with_long_put_back, with_long_set_aside, with_turns_taken, with_waits_ended}
-use Rattle.egress_schedule.specs.Turns.{after_hold_at, after_taking_turns, if_held, is_held, next_to_ask, plan_asked, waiting_asked, with_wait_longer}
+use Rattle.egress_schedule.specs.Rounds.{after_round, before_round, with_waits_put_back, with_long_set_aside, with_turns_taken, with_waits_ended}
+use Rattle.egress_schedule.specs.Turns.{after_hold_at, after_taking_turns, comes_before, if_held, is_held, next_to_ask, plan_asked, waiting_asked, with_wait_longer}
 use Rattle.egress_schedule.specs.Laws.{IsTold, LongPacketsExpected, NoneIsLong, OnlyTaken}
 use Rattle.egress_schedule.proofs.Ends.{kept, len_set}
 use Rattle.egress_schedule.proofs.First.{below}
@@ -122,8 +123,12 @@ module _ {L : Type 0} where
   module _ (now : ℤ) where
     hold_size : (next i : ℕ) (r : Planned L) → size_of (after_hold_at now next i r) ≡ size_of r
     hold_size next i r = by (waiting_at i r) where
+      none : (b : Bool) → size_of (if b then with_wait_aside now i r else r) ≡ size_of r
+      none false = refl
+      none true = ap (λ (n : ℕ). (n, r.plan.may_have_long)) (len_set r.plan.watches i _)
+
       by : (o : Option Waiting) → size_of (if_held now next i r o) ≡ size_of r
-      by None = refl
+      by None = none (comes_before now next i r)
       by (Some w) = two (is_held r.plan.patience now (must_go now i r w) (nat_lt i next) w) where
         two : (b : Bool) → size_of (if b then with_wait_longer now i w r else r) ≡ size_of r
         two false = refl
@@ -163,8 +168,8 @@ module _ {L : Type 0} where
       by None = refl
       by (Some wait) = ap (λ (n : ℕ). (n, r.plan.may_have_long)) (len_set r.plan.watches i _)
 
-    put_back_size : (r : Planned L) → size_of (with_long_put_back r) ≡ size_of r
-    put_back_size r = by r.plan.may_have_long where
+    put_back_size : (r : Planned L) → size_of (with_waits_put_back r) ≡ size_of r
+    put_back_size r = by (r.plan.may_have_long || r.plan.is_waiting) where
       by : (b : Bool) → size_of (if b then after_putting_all_back r else r) ≡ size_of r
       by false = refl
       by true = kept size_of after_putting_back_at back_size (length r.plan.watches) r
@@ -185,7 +190,7 @@ module _ {L : Type 0} where
       by true = kept size_of (after_patience_at now) give_size (length (after_alignment r).plan.watches) (after_alignment r) ∙ aligned_size r
 
     round_size : (r : Planned L) → size_of (after_round now r) ≡ size_of r
-    round_size r = ended_size (after_look now (with_long_put_back r)) ∙ (looked_size (with_long_put_back r) ∙ put_back_size r)
+    round_size r = ended_size (after_look now (with_waits_put_back r)) ∙ (looked_size (with_waits_put_back r) ∙ put_back_size r)
 
     module _ (mtu n : ℕ) where
       -- the packets of the first n sockets fit the link's
@@ -214,19 +219,19 @@ module _ {L : Type 0} where
           two true = fits_without mtu n r.sockets i fits there
 
       round_fits : (r : Planned L) → length r.plan.watches ≡ n → FitsAll r → FitsAll (after_round now r)
-      round_fits r is fits = ended (after_look now (with_long_put_back r)) looked_count looked where
+      round_fits r is fits = ended (after_look now (with_waits_put_back r)) looked_count looked where
         put : (b : Bool) → FitsAll (if b then after_putting_all_back r else r)
         put false = fits
         put true = keeps FitsAll after_putting_back_at (length r.plan.watches) (λ i s there holds. back_fits i s holds)
             (length r.plan.watches) (omega arith) r fits
 
-        looked : FitsAll (after_look now (with_long_put_back r))
-        looked = keeps FitsAll (after_look_at now) (length (with_long_put_back r).plan.watches) (λ i s there holds. holds)
-            (length (with_long_put_back r).plan.watches) (omega arith)
-            (record (with_long_put_back r) { plan = record (with_long_put_back r).plan { is_waiting = false } }) (put r.plan.may_have_long)
+        looked : FitsAll (after_look now (with_waits_put_back r))
+        looked = keeps FitsAll (after_look_at now) (length (with_waits_put_back r).plan.watches) (λ i s there holds. holds)
+            (length (with_waits_put_back r).plan.watches) (omega arith)
+            (record (with_waits_put_back r) { plan = record (with_waits_put_back r).plan { is_waiting = false } }) (put (r.plan.may_have_long || r.plan.is_waiting))
 
-        looked_count : length (after_look now (with_long_put_back r)).plan.watches ≡ n
-        looked_count = ap (λ (s : ℕ × Bool). s.0) (looked_size (with_long_put_back r) ∙ put_back_size r) ∙ is
+        looked_count : length (after_look now (with_waits_put_back r)).plan.watches ≡ n
+        looked_count = ap (λ (s : ℕ × Bool). s.0) (looked_size (with_waits_put_back r) ∙ put_back_size r) ∙ is
 
         ended : (s : Planned L) → length s.plan.watches ≡ n → FitsAll s → FitsAll (with_waits_ended now s)
         ended s count holds = by s.plan.is_waiting where

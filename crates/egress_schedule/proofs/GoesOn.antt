@@ -18,17 +18,17 @@ use Rattle.socket_set.specs.SocketMeta.{Wait}
 use Rattle.socket_set.specs.SocketSet.{socket_at, wait_at, wait_of, with_wait}
 use Rattle.egress_schedule.specs.declared.watch.Waiting.{Waiting}
 use Rattle.egress_schedule.specs.declared.watch.Watch.{Watch}
-use Rattle.egress_schedule.specs.LongPackets.{after_putting_all_back, after_putting_back_at, after_setting_aside, after_setting_aside_at, has_long}
-use Rattle.egress_schedule.specs.LongPackets.{if_set_aside, is_long, may_have_long, next_long, nobody, own_wait, some_may_have_long}
-use Rattle.egress_schedule.specs.LongPackets.{until_unasked, waiting_unasked, with_wait_aside}
+use Rattle.egress_schedule.specs.LongPackets.{after_setting_aside, after_setting_aside_at, has_long}
+use Rattle.egress_schedule.specs.Asides.{after_putting_all_back, after_putting_back_at, if_set_aside, is_over, nobody, own_wait, until_unasked, waiting_unasked, with_wait_aside}
+use Rattle.egress_schedule.specs.LongPackets.{is_long, may_have_long, next_long, some_may_have_long}
 use Rattle.egress_schedule.specs.Patience.{after_alignment, after_alignment_at, after_alignment_to, after_giving_up, after_look, after_look_at}
 use Rattle.egress_schedule.specs.Patience.{after_patience, after_patience_at, earliest_end, if_given_up, if_waiting, is_at_end, is_given_up, must_go}
 use Rattle.egress_schedule.specs.Patience.{unreachable_after, waiting_after, watch_after_giving_up, without_first}
 use Rattle.egress_schedule.specs.Plan.{Planned, each_of, first_from, idle, waiting_at, watch_at, with_watch}
 use Rattle.egress_schedule.specs.Queues.{has_others}
-use Rattle.egress_schedule.specs.Rounds.{after_round, with_long_put_back, with_long_set_aside, with_turns_taken, with_waits_ended}
+use Rattle.egress_schedule.specs.Rounds.{after_round, with_waits_put_back, with_long_set_aside, with_turns_taken, with_waits_ended}
 use Rattle.egress_schedule.specs.Runs.{IsSameAs, MayGiveUp, Asked, IsGivenUp, IsWaiting, StillWaits, Unasked, ended, prepared}
-use Rattle.egress_schedule.specs.Turns.{after_hold_at, after_taking_turns, if_held, is_held, is_over, next_to_ask, first_asked, plan_asked}
+use Rattle.egress_schedule.specs.Turns.{after_hold_at, after_taking_turns, comes_before, first_asked, if_held, is_held, next_to_ask, plan_asked}
 use Rattle.egress_schedule.specs.Turns.{turn_after, waiting_asked, with_wait_longer}
 use Rattle.egress_schedule.specs.Laws.{WaitsGoOn}
 use Rattle.egress_schedule.proofs.Apart.{lasts_longer}
@@ -231,8 +231,12 @@ module _ (now since : ℤ) (mtu : ℕ) (d : IpAddress) where
 
   hold_leaves : (next i j : ℕ) (r : Planned L) → i ≢ j → seen i (after_hold_at now next j r) ≡ seen i r
   hold_leaves next i j r other = by (waiting_at j r) where
+    none : (b : Bool) → seen i (if b then with_wait_aside now j r else r) ≡ seen i r
+    none false = refl
+    none true = change i j r _ _ other
+
     by : (o : Option Waiting) → seen i (if_held now next j r o) ≡ seen i r
-    by None = refl
+    by None = none (comes_before now next j r)
     by (Some w) = two (is_held r.plan.patience now (must_go now j r w) (nat_lt j next) w) where
       two : (b : Bool) → seen i (if b then with_wait_longer now j w r else r) ≡ seen i r
       two false = refl
@@ -469,16 +473,17 @@ module _ (now since : ℤ) (mtu : ℕ) (d : IpAddress) where
       has_wait = rw (len_set r.sockets.waits i (Some (d, left.w.until))) left.has_wait;
     }
 
-  put_back_own : (s0 : Start) (i : ℕ) (r : Planned L) → Settled s0 i (seen i r) → Settled s0 i (seen i (with_long_put_back r))
-  put_back_own s0 i r settled = by r.plan.may_have_long where
+  put_back_own : (s0 : Start) (i : ℕ) (r : Planned L) → Settled s0 i (seen i r) → Settled s0 i (seen i (with_waits_put_back r))
+  put_back_own s0 i r settled = by (r.plan.may_have_long || r.plan.is_waiting) where
     by : (b : Bool) → Settled s0 i (seen i (if b then after_putting_all_back r else r))
     by false = settled
     by true = (fold_seen (Settled s0 i) (Settled s0 i) after_putting_back_at i (back_leaves i) (back_own s0 i)
         (length r.plan.watches) r settled).1 settled.is_watched
 
   put_back_left : (s0 : Start) (i : ℕ) (r : Planned L) → r.plan.may_have_long ≡ true → Left s0 i (seen i r) →
-      Settled s0 i (seen i (with_long_put_back r))
-  put_back_left s0 i r may left = subst (λ (b : Bool). Settled s0 i (seen i (if b then after_putting_all_back r else r))) (sym may)
+      Settled s0 i (seen i (with_waits_put_back r))
+  put_back_left s0 i r may left = subst (λ (b : Bool). Settled s0 i (seen i (if b then after_putting_all_back r else r)))
+      (sym (or_left r.plan.may_have_long r.plan.is_waiting may))
       ((fold_seen (Left s0 i) (Settled s0 i) after_putting_back_at i (back_leaves i) (back_left s0 i) (length r.plan.watches) r left).1 left.is_watched)
 
   -- it is written down
@@ -659,8 +664,8 @@ module _ (now since : ℤ) (mtu : ℕ) (d : IpAddress) where
     by true = (fold_seen (Noted s0 i) (Last s0 i) (after_patience_at now) i (give_leaves i) (give_here s0 i) (length (after_alignment r).plan.watches)
         (after_alignment r) aligned).1 aligned.0.is_watched
 
-  all_ended : (s0 : Start) (i : ℕ) (r : Planned L) → Settled s0 i (seen i (with_long_put_back r)) → Last s0 i (seen i (after_round now r))
-  all_ended s0 i r settled = waits_end s0 i (after_look now (with_long_put_back r)) (looked s0 i (with_long_put_back r) settled)
+  all_ended : (s0 : Start) (i : ℕ) (r : Planned L) → Settled s0 i (seen i (with_waits_put_back r)) → Last s0 i (seen i (after_round now r))
+  all_ended s0 i r settled = waits_end s0 i (after_look now (with_waits_put_back r)) (looked s0 i (with_waits_put_back r) settled)
 
 pub waits_go_on : WaitsGoOn
 waits_go_on p r i d since else_than has_wait is waits = result (all_ended p.now since p.mtu d s0 i ready (settled kept waits)) where
@@ -705,7 +710,7 @@ waits_go_on p r i d since else_than has_wait is waits = result (all_ended p.now 
   same_wait end other o e f = ap first_or (sym e ∙ f)
 
   settled : Kept p.now since p.mtu d i (seen i (prepared p r)) → StillWaits i d p r →
-      Settled p.now since p.mtu d s0 i (seen i (with_long_put_back ready))
+      Settled p.now since p.mtu d s0 i (seen i (with_waits_put_back ready))
   settled (inl k) (Unasked unasked left) = absurd (else_than (same_wait k.w.until (silence_from p.now) (wait_of (prepared p r).sockets i) k.is_set unasked))
   settled (inl k) (Asked until asked set is_later) = put_back_own p.now since p.mtu d s0 i ready (record {
     w = k.w;

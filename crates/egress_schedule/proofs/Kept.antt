@@ -8,12 +8,13 @@ use Rattle.std.proofs.lemmas.Bool.{and_from, ne_eqb, not_from_false, or_left}
 use Rattle.ip_address.specs.declared.ip.IpAddress.{IpAddress}
 use Rattle.egress_schedule.specs.declared.watch.Waiting.{Waiting}
 use Rattle.egress_schedule.specs.declared.watch.Watch.{Watch}
-use Rattle.egress_schedule.specs.LongPackets.{after_setting_aside, after_setting_aside_at, has_long, next_long, nobody, with_wait_aside}
+use Rattle.egress_schedule.specs.LongPackets.{after_setting_aside, after_setting_aside_at, has_long, next_long}
+use Rattle.egress_schedule.specs.Asides.{nobody, with_wait_aside}
 use Rattle.egress_schedule.specs.Patience.{is_at_end, must_go}
 use Rattle.egress_schedule.specs.Plan.{Plan, Planned, each_of, idle, waiting_at, with_watch}
 use Rattle.egress_schedule.specs.Rounds.{with_long_set_aside, with_turns_taken}
 use Rattle.egress_schedule.specs.Runs.{Ends, IsGivenUp, IsLeft, IsWaiting, MayGiveUp, Round, Then, WaitsThrough, ended, prepared}
-use Rattle.egress_schedule.specs.Turns.{after_hold_at, after_taking_turns, if_held, is_held, next_to_ask, plan_asked, waiting_asked, with_wait_longer}
+use Rattle.egress_schedule.specs.Turns.{after_hold_at, after_taking_turns, comes_before, if_held, is_held, next_to_ask, plan_asked, waiting_asked, with_wait_longer}
 use Rattle.egress_schedule.specs.Laws.{PatienceIsKept}
 use Rattle.egress_schedule.proofs.Ends.{after_patience_of, kept, patience_ends}
 use Rattle.egress_schedule.proofs.GoesOn.{waits_go_on}
@@ -27,8 +28,12 @@ patience_of r = r.plan.patience
 -- the patience is the same in a round
 held_patience : (now : ℤ) (next i : ℕ) (r : Planned L) → patience_of (after_hold_at now next i r) ≡ patience_of r
 held_patience now next i r = by (waiting_at i r) where
+  none : (b : Bool) → patience_of (if b then with_wait_aside now i r else r) ≡ patience_of r
+  none false = refl
+  none true = refl
+
   by : (o : Option Waiting) → patience_of (if_held now next i r o) ≡ patience_of r
-  by None = refl
+  by None = none (comes_before now next i r)
   by (Some w) = two (is_held r.plan.patience now (must_go now i r w) (nat_lt i next) w) where
     two : (b : Bool) → patience_of (if b then with_wait_longer now i w r else r) ≡ patience_of r
     two false = refl

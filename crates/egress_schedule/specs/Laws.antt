@@ -8,7 +8,8 @@ use Rattle.ip_address.specs.declared.ip.IpAddress.{IpAddress}
 use Rattle.sockets.specs.declared.socket.SocketOf.{SocketOf}
 use Rattle.socket_set.specs.SocketMeta.{Wait, is_permitted}
 use Rattle.socket_set.specs.SocketSet.{Sockets, socket_at, wait_of}
-use Rattle.egress_schedule.specs.LongPackets.{has_long, nobody}
+use Rattle.egress_schedule.specs.LongPackets.{has_long}
+use Rattle.egress_schedule.specs.Asides.{nobody}
 use Rattle.egress_schedule.specs.Plan.{Planned, waiting_at}
 use Rattle.egress_schedule.specs.Queues.{lens_to_send}
 use Rattle.egress_schedule.specs.Patience.{is_at_end, must_go}

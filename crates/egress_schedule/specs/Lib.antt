@@ -1,6 +1,7 @@
 pub mod Plan
 pub mod Queues
 pub mod Patience
+pub mod Asides
 pub mod Turns
 pub mod LongPackets
 pub mod Rounds

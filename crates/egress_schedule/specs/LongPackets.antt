@@ -2,16 +2,12 @@
 -- sends such a packet, and none while a piece is left.
 use Rattle.std.specs.Prelude.{ℕ, ◌==◌, ◌&&◌, ◌||◌, not, nat_lt, Bool, false}
 use Rattle.std.specs.Prelude.{length, ℤ, Option, Some, None, if◌then◌else◌}
-use Rattle.net_base.specs.Time.{silence_from}
-use Rattle.ip_address.specs.declared.ip.IpAddress.{IpAddress}
-use Rattle.ip_address.specs.declared.ip.IpAddress.TheVariants as address
 use Rattle.sockets.specs.declared.socket.SocketOf.{SocketOf}
-use Rattle.socket_set.specs.SocketMeta.{Wait}
-use Rattle.socket_set.specs.SocketSet.{Sockets, socket_at, wait_of, with_wait}
-use Rattle.egress_schedule.specs.Plan.{Plan, Planned, each_of, first_from, watch_at, with_watch}
+use Rattle.socket_set.specs.SocketSet.{Sockets, socket_at}
+use Rattle.egress_schedule.specs.Asides.{with_wait_aside}
+use Rattle.egress_schedule.specs.Plan.{Plan, Planned, each_of, first_from}
 use Rattle.egress_schedule.specs.Queues.{first_len, has_others}
-use Rattle.egress_schedule.specs.Turns.{is_over, next_in_turn, turn_after}
-use Rattle.egress_schedule.specs.declared.watch.Waiting.{Waiting}
+use Rattle.egress_schedule.specs.Turns.{next_in_turn, turn_after}
 
 -- the first packet is longer than the link's packets
 abbrev pub is_long : {L : Type 0} → ℕ → Option (SocketOf L) → Bool
@@ -21,25 +17,6 @@ is_long mtu (Some socket) = nat_lt mtu (first_len socket)
 -- it is, or one behind it may be
 abbrev pub may_be_long : {L : Type 0} → ℕ → Option (SocketOf L) → Bool
 may_be_long mtu socket = is_long mtu socket || has_others socket
-
--- nobody has this address, so who waits for it isn't asked before the end of the wait
-abbrev pub nobody : IpAddress
-nobody = address.Ipv4 (record { bits = 0 })
-
--- when a socket asks again that isn't asked in a round: if its wait is over, a second later
-abbrev pub until_unasked : ℤ → Waiting → ℤ
-until_unasked now w = if is_over now w then silence_from now else w.until
-
--- for whom it waits then
-abbrev pub waiting_unasked : ℤ → Option Waiting → Option Waiting
-waiting_unasked now None = None
-waiting_unasked now (Some w) = Some (record w { until = until_unasked now w })
-
--- the own wait of a socket, if it has one: of one that waits for somebody, until that wait's end
-abbrev pub own_wait : Option Waiting → Wait → Wait
-own_wait None wait = wait
-own_wait (Some w) None = None
-own_wait (Some w) (Some wait) = Some (w.neighbor, w.until)
 
 -- the turn to send a long packet, after the one that had it; it stays while a piece is left
 abbrev pub fragment_turn_after : Bool → ℕ → Plan → ℕ
@@ -52,16 +29,6 @@ module _ {L : Type 0} where
 
   abbrev pub may_have_long : ℕ → Sockets L → ℕ → Bool
   may_have_long mtu s i = may_be_long mtu (socket_at s i)
-
-  -- the own wait of a socket is set aside, so that it isn't asked in this round; it goes on waiting for whom it waits
-  abbrev pub with_wait_aside : ℤ → ℕ → Planned L → Planned L
-  with_wait_aside now i r =
-      let waiting = waiting_unasked now (watch_at i r).waiting in
-      record {
-        plan = with_watch i
-            (record (watch_at i r) { waiting = waiting; set_aside = Some (own_wait waiting (wait_of r.sockets i)) }) r.plan;
-        sockets = with_wait r.sockets i (Some (nobody, silence_from now));
-      }
 
   -- a socket with a long packet isn't asked in this round
   abbrev pub after_setting_aside_at : ℕ → ℤ → ℕ → ℕ → Planned L → Planned L
@@ -92,17 +59,3 @@ module _ {L : Type 0} where
           may_have_long = some_may_have_long mtu r;
         };
       }
-
-  abbrev pub if_set_aside : ℕ → Planned L → Option Wait → Planned L
-  if_set_aside i r None = r
-  if_set_aside i r (Some wait) = record {
-    plan = with_watch i (record (watch_at i r) { set_aside = None }) r.plan;
-    sockets = with_wait r.sockets i wait;
-  }
-
-  -- after the round each has its own wait again
-  abbrev pub after_putting_back_at : ℕ → Planned L → Planned L
-  after_putting_back_at i r = if_set_aside i r (watch_at i r).set_aside
-
-  abbrev pub after_putting_all_back : Planned L → Planned L
-  after_putting_all_back r = each_of after_putting_back_at (length r.plan.watches) r

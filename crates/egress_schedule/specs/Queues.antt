@@ -35,6 +35,11 @@ count_to_send (Icmp s) = length s.tx.packets
 count_to_send (Udp s) = length s.tx.packets
 count_to_send (Tcp s) = length s.tx.packets
 
+-- a socket has something to send
+abbrev pub has_packets : {L : Type 0} → Option (SocketOf L) → Bool
+has_packets None = false
+has_packets (Some s) = nat_lt 0 (count_to_send s)
+
 -- others wait behind a socket's first packet
 abbrev pub has_others : {L : Type 0} → Option (SocketOf L) → Bool
 has_others None = false

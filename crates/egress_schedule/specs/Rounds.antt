@@ -1,9 +1,10 @@
 -- What is done before a round of an interface, and after it.
-use Rattle.std.specs.Prelude.{ℕ, ℤ, Bool, if◌then◌else◌}
+use Rattle.std.specs.Prelude.{ℕ, ℤ, Bool, ◌||◌, if◌then◌else◌}
 use Rattle.egress_schedule.specs.Plan.{Planned}
 use Rattle.egress_schedule.specs.Patience.{after_alignment, after_look, after_patience}
 use Rattle.egress_schedule.specs.Turns.{after_taking_turns}
-use Rattle.egress_schedule.specs.LongPackets.{after_putting_all_back, after_setting_aside}
+use Rattle.egress_schedule.specs.Asides.{after_putting_all_back}
+use Rattle.egress_schedule.specs.LongPackets.{after_setting_aside}
 
 module _ {L : Type 0} where
   abbrev pub with_turns_taken : ℤ → Planned L → Planned L
@@ -17,8 +18,9 @@ module _ {L : Type 0} where
   abbrev pub before_round : ℤ → ℕ → Bool → Planned L → Planned L
   before_round now mtu is_piece_left r = with_turns_taken now (with_long_set_aside mtu now is_piece_left r)
 
-  abbrev pub with_long_put_back : Planned L → Planned L
-  with_long_put_back r = if r.plan.may_have_long then after_putting_all_back r else r
+  -- where some may not have been asked, these have their own waits again
+  abbrev pub with_waits_put_back : Planned L → Planned L
+  with_waits_put_back r = if r.plan.may_have_long || r.plan.is_waiting then after_putting_all_back r else r
 
   abbrev pub with_waits_ended : ℤ → Planned L → Planned L
   with_waits_ended now r = if r.plan.is_waiting then after_patience now (after_alignment r) else r
@@ -26,4 +28,4 @@ module _ {L : Type 0} where
   -- the sockets have their own waits again, these are written down, and the packets whose patience
   -- has ended are given up
   abbrev pub after_round : ℤ → Planned L → Planned L
-  after_round now r = with_waits_ended now (after_look now (with_long_put_back r))
+  after_round now r = with_waits_ended now (after_look now (with_waits_put_back r))

@@ -10,7 +10,7 @@ use Rattle.sockets.specs.Source.{is_same}
 use Rattle.sockets.specs.Kinds.{socket_after_told}
 use Rattle.socket_set.specs.SocketSet.{Sockets, socket_at, wait_of}
 use Rattle.egress_schedule.specs.declared.watch.Waiting.{Waiting}
-use Rattle.egress_schedule.specs.LongPackets.{nobody}
+use Rattle.egress_schedule.specs.Asides.{nobody}
 use Rattle.egress_schedule.specs.Plan.{Planned, watch_at}
 use Rattle.egress_schedule.specs.Queues.{has_others}
 use Rattle.egress_schedule.specs.Rounds.{after_round, before_round}

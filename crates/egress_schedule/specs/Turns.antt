@@ -1,13 +1,16 @@
 -- Turns among sockets that wait for neighbours. One request is sent in a second, for all of them, so the sockets whose
 -- waits are over ask in turn.
-use Rattle.std.specs.Prelude.{ℕ, ◌+◌, ◌-◌, ◌||◌, ◌&&◌, not, nat_lt, Bool, false}
+use Rattle.std.specs.Prelude.{ℕ, ◌+◌, ◌-◌, ◌||◌, ◌&&◌, not, nat_lt, Bool, true, false}
 use Rattle.std.specs.Prelude.{length, get_or, ℤ, Option, Some, None, if◌then◌else◌}
 use Rattle.std.specs.Ordering.{int_cmp, is_le}
 use Rattle.net_base.specs.Time.{silence_from}
-use Rattle.socket_set.specs.SocketSet.{with_wait}
+use Rattle.socket_set.specs.SocketMeta.{Wait}
+use Rattle.socket_set.specs.SocketSet.{socket_at, wait_of, with_wait}
 use Rattle.egress_schedule.specs.declared.watch.Waiting.{Waiting}
+use Rattle.egress_schedule.specs.Asides.{is_over, with_wait_aside}
 use Rattle.egress_schedule.specs.Patience.{is_at_end, must_go}
 use Rattle.egress_schedule.specs.Plan.{Plan, Planned, each_of, first_from, idle, waiting_at, watch_at, with_watch}
+use Rattle.egress_schedule.specs.Queues.{has_packets}
 
 -- the first of n indices from the turn on that has a property, else the first of all; n where none has it
 abbrev pub next_in_turn : (ℕ → Bool) → ℕ → ℕ → ℕ
@@ -19,10 +22,6 @@ next_in_turn p turn n =
 abbrev pub turn_after : ℕ → ℕ → ℕ → ℕ
 turn_after n turn had = if nat_lt had n then had + 1 else turn
 
--- a wait is over
-abbrev pub is_over : ℤ → Waiting → Bool
-is_over now w = is_le (int_cmp w.until now)
-
 -- a socket asks again: its wait is over, and has not lasted long enough
 abbrev pub asks_again : ℕ → ℤ → Bool → Waiting → Bool
 asks_again patience now must_go w = is_over now w && not (is_at_end patience now must_go w)
@@ -30,6 +29,11 @@ asks_again patience now must_go w = is_over now w && not (is_at_end patience now
 -- a socket isn't to ask in this round: its wait is over, and it isn't its turn, or its packet will be given up
 abbrev pub is_held : ℕ → ℤ → Bool → Bool → Waiting → Bool
 is_held patience now must_go is_before w = is_over now w && (is_before || is_at_end patience now must_go w)
+
+-- a socket of this wait may be asked, whomever it waits for: it doesn't wait, or its wait has passed
+abbrev pub is_free : ℤ → Wait → Bool
+is_free now None = true
+is_free now (Some wait) = is_le (int_cmp wait.1 now)
 
 -- when the neighbour of a wait was first asked for
 abbrev pub first_asked : ℤ → Option ℤ → Option ℤ
@@ -68,8 +72,15 @@ module _ {L : Type 0} where
     sockets = with_wait r.sockets i (Some (w.neighbor, silence_from now));
   }
 
+  -- a socket that doesn't wait has something to send, and would be asked before the one whose turn it is
+  abbrev pub comes_before : ℤ → ℕ → ℕ → Planned L → Bool
+  comes_before now next i r =
+      is_free now (wait_of r.sockets i)
+      && (nat_lt i next && (nat_lt next (length r.plan.watches) && has_packets (socket_at r.sockets i)))
+
+  -- so it isn't asked in this round
   abbrev pub if_held : ℤ → ℕ → ℕ → Planned L → Option Waiting → Planned L
-  if_held now next i r None = r
+  if_held now next i r None = if comes_before now next i r then with_wait_aside now i r else r
   if_held now next i r (Some w) =
       if is_held r.plan.patience now (must_go now i r w) (nat_lt i next) w
       then with_wait_longer now i w r
@@ -78,8 +89,8 @@ module _ {L : Type 0} where
   abbrev pub after_hold_at : ℤ → ℕ → ℕ → Planned L → Planned L
   after_hold_at now next i r = if_held now next i r (waiting_at i r)
 
-  -- those before the one whose turn it is, which would ask before it, wait a second more; those after it find the
-  -- silence that it begins
+  -- of those before the one whose turn it is, which would ask before it, those that wait do so a second more, and the
+  -- others aren't asked; those after it find the silence that it begins
   abbrev pub after_taking_turns : ℤ → Planned L → Planned L
   after_taking_turns now r =
       let n = length r.plan.watches in

@@ -8,6 +8,7 @@
 //! queues of sockets alone, as their owner may.
 #![tactic(auto)]
 
+pub mod asides;
 pub mod laws;
 pub mod long_packets;
 pub mod patience;

@@ -42,6 +42,13 @@ fn count_to_send<L: Drop>(socket: &SocketOf<L>) -> usize
     }
 }
 
+/// Whether a socket has something to send.
+pub(crate) fn has_packets<L: Drop>(socket: &SocketOf<L>) -> bool
+    ensures { result ≡ spec.has_packets (Some socket.now) }
+{
+    0 < count_to_send(socket)
+}
+
 /// Whether others wait behind the first packet that a socket has to send.
 pub(crate) fn has_others<L: Drop>(socket: &SocketOf<L>) -> bool
     ensures { result ≡ spec.has_others (Some socket.now) }

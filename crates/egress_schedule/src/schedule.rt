@@ -154,6 +154,7 @@ impl Schedule {
     /// Prepares a round of an interface, which polls at a moment. Of the sockets whose first packet is longer than the
     /// link's packets, only the one whose turn it is will be asked, and none while a piece of a packet is left. Of the
     /// sockets whose waits are over, those that aren't asked and those before the one whose turn it is wait a second more.
+    /// Where one has its turn, those before it that don't wait aren't asked, so a packet of theirs goes in the next round.
     pub fn before_round<L: Drop>(
         &mut self,
         now: Instant,
@@ -201,7 +202,7 @@ impl Schedule {
     pub fn after_round<L: Drop>(&mut self, now: Instant, sockets: &mut SocketSetOf<L>)
         ensures { planned self.new sockets.new ≡ after_round now (planned self.old sockets.old) }
     {
-        if self.may_have_long {
+        if self.may_have_long || self.is_waiting {
             self.put_all_back(sockets);
         }
         self.end_waits(now, sockets);

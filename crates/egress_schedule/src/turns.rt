@@ -2,16 +2,21 @@
 ghost use Rattle.std.specs.Prelude.{◌≡◌, ◌-◌, length};
 ghost use Rattle.net_base.specs.Time.{IsMoment};
 ghost use Rattle.egress_schedule.specs.Plan.{each_of, first_from, planned};
+ghost use Rattle.egress_schedule.specs.Queues.{has_packets};
 ghost use Rattle.egress_schedule.specs.Turns as spec;
-ghost use Rattle.egress_schedule.specs.Turns.{after_hold_at, asks_at, next_to_ask, plan_asked, with_wait_longer};
+ghost use Rattle.egress_schedule.specs.Turns.{after_hold_at, asks_at, comes_before, next_to_ask, plan_asked, with_wait_longer};
+ghost use Rattle.socket_set.specs.SocketSet.{socket_at};
 
+use crate::queues::has_packets;
 use crate::schedule::Schedule;
 use crate::watch::Waiting;
+use ip_wire::IpAddress;
 use net_base::time::Instant;
 use socket_set::{Meta, SocketSetOf, by_index};
 
 impl Schedule {
-    /// Lets the sockets before the one whose turn it is to ask for its neighbour wait a second more.
+    /// Lets the sockets before the one whose turn it is to ask for its neighbour wait a second more; those of them that don't
+    /// wait aren't asked in this round.
     #[inline(never)]
     pub(crate) fn take_turns<L: Drop>(&mut self, now: Instant, sockets: &mut SocketSetOf<L>)
         requires { IsMoment now }
@@ -93,7 +98,8 @@ impl Schedule {
         }
     }
 
-    /// The socket at an index waits a second more, if its wait is over and it isn't to ask.
+    /// The socket at an index waits a second more, if its wait is over and it isn't to ask. If it doesn't wait, it isn't asked
+    /// in this round where it would ask before the one whose turn it is.
     fn hold_at<L: Drop>(
         &mut self,
         index: usize,
@@ -105,6 +111,9 @@ impl Schedule {
         ensures { planned self.new sockets.new ≡ after_hold_at now next index (planned self.old sockets.old) }
     {
         let Some(waiting) = self.waiting_at(sockets, index) else {
+            if self.comes_before(index, next, now, sockets) {
+                self.set_wait_aside(index, now, sockets);
+            }
             return;
         };
         if !waiting.is_over(now) {
@@ -114,6 +123,23 @@ impl Schedule {
         if waiting.is_held(self.patience, now, must_go, index < next) {
             self.wait_longer(index, now, waiting, sockets);
         }
+    }
+
+    /// Whether the socket at an index, which doesn't wait, has something to send, and would be asked before the one whose
+    /// turn it is, if there is one.
+    fn comes_before<L: Drop>(
+        &self,
+        index: usize,
+        next: usize,
+        now: Instant,
+        sockets: &SocketSetOf<L>,
+    ) -> bool
+        ensures { result ≡ comes_before now next index (planned self.now sockets.now) }
+    {
+        is_free(now, by_index::wait(sockets, index))
+            && index < next
+            && next < self.watches.len()
+            && has_packets_at(index, sockets)
     }
 
     /// The socket at an index waits a second more, unless its neighbour is known.
@@ -133,6 +159,26 @@ impl Schedule {
         };
         self.set_waiting(index, Some(longer));
         by_index::neighbor_missing(sockets, index, now, waiting.neighbor);
+    }
+}
+
+/// Whether the socket at an index has something to send.
+fn has_packets_at<L: Drop>(index: usize, sockets: &SocketSetOf<L>) -> bool
+    ensures { result ≡ has_packets (socket_at sockets.now index) }
+{
+    match by_index::socket(sockets, index) {
+        None => false,
+        Some(socket) => has_packets(socket),
+    }
+}
+
+/// Whether a socket of this wait may be asked, whomever it waits for.
+fn is_free(now: Instant, wait: Option<(IpAddress, Instant)>) -> bool
+    ensures { result ≡ spec.is_free now wait }
+{
+    match wait {
+        None => true,
+        Some((_, until)) => until <= now,
     }
 }
 

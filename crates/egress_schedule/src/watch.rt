@@ -3,6 +3,7 @@ ghost use Rattle.std.specs.Prelude.{◌≡◌, ◌≤ℤ◌, ◌+ℤ◌, pos, fa
 ghost use Rattle.std.specs.Ordering.{int_cmp, is_le};
 ghost use Rattle.egress_schedule.specs.Patience as spec;
 ghost use Rattle.egress_schedule.specs.Plan.{idle};
+ghost use Rattle.egress_schedule.specs.Asides as asides;
 ghost use Rattle.egress_schedule.specs.Turns as turns;
 
 use ip_wire::IpAddress;
@@ -178,7 +179,7 @@ pub(crate) fn is_new(waiting: &Option<Waiting>, before: &Option<Waiting>) -> boo
 impl Waiting {
     /// Whether the wait is over.
     pub(crate) fn is_over(&self, now: Instant) -> bool
-        ensures { result ≡ turns.is_over now self.now }
+        ensures { result ≡ asides.is_over now self.now }
     {
         self.until <= now
     }

@@ -1,5 +1,5 @@
 use Rattle.std.proofs.Common.{◌≡◌}
-use Rattle.egress_schedule.specs.LongPackets.{after_putting_back_at}
+use Rattle.egress_schedule.specs.Asides.{after_putting_back_at}
 use Rattle.egress_schedule.specs.Plan.{each_of, planned}
 use Rattle.egress_schedule.proofs.schedule.Schedule.put_all_back.Given as goal
 
