@@ -32,7 +32,7 @@ use Rattle.egress_schedule.specs.Laws.{IsTold, LongPacketsApart, MayBegin, may_b
 use Rattle.egress_schedule.proofs.Ends.{here_set, kept, len_set, other_set}
 
 -- a second later isn't yet
-later_than : (t : ℤ) → is_le (int_cmp (silence_from t) t) ≡ false
+pub later_than : (t : ℤ) → is_le (int_cmp (silence_from t) t) ≡ false
 later_than t = by (int_cmp (silence_from t) t) (int_ranks (silence_from t) t) where
   by : (o : Ordering) → MatchOrdering o (silence_from t <ℤ t) (silence_from t ≡ t) (t <ℤ silence_from t) → is_le o ≡ false
   by Less m = absurd (omega (arith, ints, m))

@@ -63,7 +63,7 @@ abbrev L : Type 0
 L = Bor (Unit {0})
 
 -- what is known of the socket at an index, and how long the lists are
-record Seen : Type 0 where
+pub record Seen : Type 0 where
   pub watch : Watch
   pub wait : Wait
   pub socket : Option (SocketOf L)
@@ -72,7 +72,7 @@ record Seen : Type 0 where
   pub may_have_long : Bool
   pub patience : ℕ
 
-abbrev seen : ℕ → Planned L → Seen
+abbrev pub seen : ℕ → Planned L → Seen
 seen i r = record {
   watch = watch_at i r;
   wait = wait_at r.sockets i;
@@ -83,7 +83,7 @@ seen i r = record {
   patience = r.plan.patience;
 }
 
-abbrev wait_in : Seen → Wait
+abbrev pub wait_in : Seen → Wait
 wait_in x = option_and_then (λ it. x.wait) x.socket
 
 -- a change at another index isn't seen
@@ -101,7 +101,7 @@ change_watch : (i j : ℕ) (r : Planned L) (w : Watch) → i ≢ j → seen i (r
 change_watch i j r w other = rw (other_set r.plan.watches j i w idle other, len_set r.plan.watches j w) refl
 
 -- what holds of an index before its step, and what after it
-fold_seen : (P Q : Seen → Type 0) (step : ℕ → Planned L → Planned L) (i : ℕ) →
+pub fold_seen : (P Q : Seen → Type 0) (step : ℕ → Planned L → Planned L) (i : ℕ) →
     ((j : ℕ) (r : Planned L) → i ≢ j → seen i (step j r) ≡ seen i r) → ((r : Planned L) → P (seen i r) → Q (seen i (step i r))) →
     (n : ℕ) (r : Planned L) → P (seen i r) → (n ≤ i → P (seen i (each_of step n r))) × (i < n → Q (seen i (each_of step n r)))
 fold_seen P Q step i leaves here zero r holds = (λ h. holds, λ h. absurd (omega (arith, h)))
@@ -186,7 +186,7 @@ module _ (now since : ℤ) (mtu : ℕ) (d : IpAddress) where
   abbrev Kept : ℕ → Seen → Type 0
   Kept i x = Own i x ⊎ Aside i x
 
-  aside_leaves : (next i j : ℕ) (r : Planned L) → i ≢ j → seen i (after_setting_aside_at mtu now next j r) ≡ seen i r
+  pub aside_leaves : (next i j : ℕ) (r : Planned L) → i ≢ j → seen i (after_setting_aside_at mtu now next j r) ≡ seen i r
   aside_leaves next i j r other = by (has_long mtu r.sockets j && not (j == next)) where
     by : (b : Bool) → seen i (if b then with_wait_aside now j r else r) ≡ seen i r
     by false = refl
@@ -229,7 +229,7 @@ module _ (now since : ℤ) (mtu : ℕ) (d : IpAddress) where
       has_wait = rw (len_set r.sockets.waits i (Some (nobody, silence_from now))) own.has_wait;
     })
 
-  hold_leaves : (next i j : ℕ) (r : Planned L) → i ≢ j → seen i (after_hold_at now next j r) ≡ seen i r
+  pub hold_leaves : (next i j : ℕ) (r : Planned L) → i ≢ j → seen i (after_hold_at now next j r) ≡ seen i r
   hold_leaves next i j r other = by (waiting_at j r) where
     none : (b : Bool) → seen i (if b then with_wait_aside now j r else r) ≡ seen i r
     none false = refl

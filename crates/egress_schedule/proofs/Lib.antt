@@ -4,6 +4,7 @@ mod Ends
 mod Apart
 mod Expected
 mod GoesOn
+mod InTurn
 mod Kept
 mod AllSettled
 mod Unchanged

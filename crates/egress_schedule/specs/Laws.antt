@@ -11,9 +11,9 @@ use Rattle.socket_set.specs.SocketSet.{Sockets, socket_at, wait_of}
 use Rattle.egress_schedule.specs.LongPackets.{has_long}
 use Rattle.egress_schedule.specs.Asides.{nobody}
 use Rattle.egress_schedule.specs.Plan.{Planned, waiting_at}
-use Rattle.egress_schedule.specs.Queues.{lens_to_send}
+use Rattle.egress_schedule.specs.Queues.{has_packets, lens_to_send}
 use Rattle.egress_schedule.specs.Patience.{is_at_end, must_go}
-use Rattle.egress_schedule.specs.Rounds.{after_round, before_round}
+use Rattle.egress_schedule.specs.Rounds.{after_round, before_round, with_long_set_aside}
 use Rattle.egress_schedule.specs.Runs.{IsGivenUp, IsWaiting, MayGiveUp, Round, StillWaits, WaitsThrough, ended}
 use Rattle.egress_schedule.specs.Turns.{after_taking_turns, asks_at, next_in_turn, next_to_ask, turn_after}
 
@@ -102,6 +102,26 @@ AskersHaveTurns =
     (next_to_ask now r ≡ i)
     ⊎ (ahead (length r.plan.watches) (after_taking_turns now r).plan.discovery_turn i
     < ahead (length r.plan.watches) r.plan.discovery_turn i)
+
+-- it is written down of a socket that waits whom it waits for, and until when
+abbrev pub IsWritten : ℕ → Planned (Bor (Unit {0})) → Type 0
+IsWritten i r = IfSome (waiting_at i r) (λ w. wait_of r.sockets i ≡ Some (w.neighbor, w.until))
+
+-- a socket waits for a neighbour that is known
+abbrev pub WaitsForKnown : (IpAddress → Bool) → Wait → Type 0
+WaitsForKnown known None = ⊥
+WaitsForKnown known (Some wait) = known wait.0 ≡ true
+
+-- where a socket has its turn to ask in a round, no socket before it that has something to send is asked, whether it waited
+-- or not, but one whose neighbour is known by now; nobody's address is known
+abbrev pub TurnsAreKept : Type 0
+TurnsAreKept =
+    (known : IpAddress → Bool) (now : ℤ) (mtu : ℕ) (is_piece_left : Bool) (r : Planned (Bor (Unit {0}))) (i : ℕ) →
+    let asker = next_to_ask now (with_long_set_aside mtu now is_piece_left r) in
+    let wait = wait_of (before_round now mtu is_piece_left r).sockets i in
+    known nobody ≡ false → r.plan.is_waiting ≡ true → IsWritten i r → i < length r.sockets.waits →
+    i < asker → asker < length r.plan.watches → has_packets (socket_at r.sockets i) ≡ true →
+    may_be_asked known now wait ≡ true → WaitsForKnown known wait
 
 -- where none has the property, the turn stays; and it is always one of n indices, or the one after them
 abbrev pub TurnsStay : Type 0

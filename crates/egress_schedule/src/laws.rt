@@ -1,6 +1,6 @@
 //! What a schedule promises, whatever comes, each law as the contract of an empty function.
 ghost use Rattle.egress_schedule.specs.Laws.{AskersHaveTurns, LongPacketsApart, LongPacketsExpected, PatienceEnds};
-ghost use Rattle.egress_schedule.specs.Laws.{PatienceIsKept, TurnsCome, TurnsStay, WaitsEndTogether, WaitsGoOn};
+ghost use Rattle.egress_schedule.specs.Laws.{PatienceIsKept, TurnsAreKept, TurnsCome, TurnsStay, WaitsEndTogether, WaitsGoOn};
 
 /// After a round no socket waits for a neighbour that it has waited for as long as the patience: its packet was given
 /// up. So whatever a stranger sends, a packet stops those after it for that long at most, until the next round.
@@ -55,4 +55,11 @@ pub fn patience_is_kept()
 /// turn after at most as many rounds in which it asks as there are sockets.
 pub fn askers_have_turns()
     ensures { AskersHaveTurns }
+{}
+
+/// Where a socket has its turn to ask in a round, no socket before it is asked that has something to send, whether it waited
+/// or not, but one whose neighbour is known by now. So whoever comes with packets for neighbours that aren't there, however
+/// often, takes no turn of a socket that waits.
+pub fn turns_are_kept()
+    ensures { TurnsAreKept }
 {}
