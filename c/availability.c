@@ -2,6 +2,7 @@
  *
  *  - A datagram from an absent neighbour: a service that answers it answers others again after a second.
  *  - An absent neighbour of the first socket: the neighbour of the second one is asked for in turn.
+ *  - Two sockets that send to absent neighbours again and again: the neighbour of a third is found.
  *  - Datagrams from absent neighbours, one every three seconds and more: a service answers others all the while.
  *  - Datagrams for neighbours that aren't known yet, behind one another: all arrive.
  *  - Bursts of eight datagrams in three and four pieces, of two sockets at once: all arrive, in order, beside small ones.
@@ -65,6 +66,8 @@ static uint8_t guarded;
 
 /* How many neighbours a host knows at once; 0 is what iface_config_init writes. */
 static uint32_t room;
+/* How long a packet waits for its neighbour, in microseconds; 0 is what iface_config_init writes. */
+static uint64_t patience;
 /* How many packets in fragments it puts together at once; 0 is what iface_config_init writes. */
 static uint32_t slots;
 
@@ -77,6 +80,7 @@ static void make(iface *host, uint8_t last, uint32_t frame_len) {
     config.seed = last, config.frame_len = frame_len, config.hardware_address[0] = 2, config.hardware_address[5] = last;
     if (room > 0) config.neighbors = room;
     if (slots > 0) config.fragmented = slots;
+    if (patience > 0) config.patience = patience, config.sockets = 16;
     must("host", iface_new(host, &config));
     must("address", iface_add_address(host, &own, 24));
 }
@@ -374,6 +378,50 @@ static void absent_neighbor_first(void) {
     printf("an absent neighbour of the first socket: the second one's datagram arrives after %lld ms\n", (long long)(now - begun) / 1000);
     wants("it arrives within two seconds", has_come && now - begun <= 2 * SECOND);
     must("free", iface_free(&host)), must("free", iface_free(&peer));
+}
+
+/* How long it takes until a datagram of the last socket arrives at a neighbour that is there, and that isn't known yet, beside so many
+ * sockets that each send a datagram to an absent neighbour each `every`; 60 seconds where none does. */
+static int64_t found_beside(unsigned absent, int64_t every) {
+    iface host = IFACE_NONE, peer = IFACE_NONE;
+    make(&host, 1, 1514), make(&peer, 2, 1514);
+    uint32_t others[9], at = udp_at(&peer, 9, 8, 4096);
+    for (unsigned i = 0; i < absent; i++) others[i] = udp_at(&host, (uint16_t)(1001 + i), 8, 4096);
+    uint32_t last = udp_at(&host, 1100, 8, 4096);
+    struct iface_endpoint there = {v4(2), 9}, from;
+    int64_t begun = now += 10 * SECOND, sends = begun;
+    int has_come = 0;
+    while (!has_come && now < begun + 60 * SECOND) {
+        if (now >= sends) {
+            for (unsigned i = 0; i < absent; i++)
+                (void)iface_udp_send(&host, others[i], &(struct iface_endpoint){v4((uint8_t)(70 + i)), 9}, (const uint8_t *)"a", 1);
+            (void)iface_udp_send(&host, last, &there, (const uint8_t *)"c", 1), sends += every;
+        }
+        uint8_t got[16];
+        size_t n;
+        drain(&host, &peer), drain(&peer, &host), drain(&host, &peer);
+        has_come = iface_udp_receive(&peer, at, &from, got, sizeof got, &n) == IFACE_OK;
+        int64_t next = due(&host, &peer);
+        if (!has_come) now = next == IFACE_NEVER || next <= now || next > sends ? sends : next;
+    }
+    must("free", iface_free(&host)), must("free", iface_free(&peer));
+    return now - begun;
+}
+
+static void found_beside_absent(void) {
+    static const int64_t every[] = {2 * SECOND, SECOND, 2 * SECOND / 3, SECOND / 2, SECOND / 3, SECOND / 5, SECOND / 10, SECOND / 100, SECOND / 1000};
+    int64_t latest = 0;
+    for (unsigned seconds = 3; seconds <= 9; seconds += 6) {
+        patience = seconds * (uint64_t)SECOND;
+        for (unsigned i = 0; i < sizeof every / sizeof every[0]; i++) {
+            int64_t found = found_beside(2, every[i]);
+            if (found > latest) latest = found;
+        }
+    }
+    patience = 0;
+    printf("two sockets that send to absent neighbours, at rates from one datagram in two seconds to 1,000 a second: the neighbour of a third is "
+           "found after %lld ms at most\n", (long long)latest / 1000);
+    wants("it is found within three seconds", latest <= 3 * SECOND);
 }
 
 /* Two sockets with eight long datagrams each, and one with eight short ones: all arrive, each socket's in order. */
@@ -961,6 +1009,7 @@ int main(void) {
     spoofed_datagram();
     spoofed_datagrams();
     absent_neighbor_first();
+    found_beside_absent();
     neighbors_in_turn();
     many_neighbors(8, 1, 0, 1), many_neighbors(60, 0, 0, 1), many_neighbors(60, 1, 0, 1);
     many_neighbors(5, 0, 4, 0), many_neighbors(8, 1, 4, 0);

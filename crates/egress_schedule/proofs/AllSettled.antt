@@ -16,7 +16,7 @@ use Rattle.egress_schedule.specs.declared.watch.Waiting.{Waiting}
 use Rattle.egress_schedule.specs.declared.watch.Watch.{Watch}
 use Rattle.egress_schedule.specs.Patience.{after_alignment, after_alignment_at, after_alignment_to, after_look, after_look_at, after_patience}
 use Rattle.egress_schedule.specs.Patience.{after_patience_at, begun_or_before, earlier_of, earliest_end, earliest_with, if_asked, if_given_up, if_waiting}
-use Rattle.egress_schedule.specs.Patience.{is_given_up, is_new, may_ask, must_go, plan_after_look, unreachable_after, waiting_after}
+use Rattle.egress_schedule.specs.Patience.{is_given_up, is_new, may_ask, must_go, plan_after_look, turn_if, unreachable_after, waiting_after}
 use Rattle.egress_schedule.specs.Plan.{Plan, Planned, each_of, first_from, idle, watch_at, with_watch}
 use Rattle.egress_schedule.specs.Queues.{has_packets}
 use Rattle.egress_schedule.specs.Rounds.{with_waits_ended}
@@ -102,6 +102,7 @@ same_look now i plan end wait w at later is = ap looked goes ∙ (ap asks new �
   looked : Option Waiting → Plan
   looked o = record (with_watch i (record watch { waiting = o; unreachable = unreachable_after o watch.unreachable }) plan) {
     asked = if_asked (is_new o watch.waiting && may_ask now plan.asked) now plan.asked;
+    discovery_turn = turn_if (is_new o watch.waiting && may_ask now plan.asked) (length plan.watches) plan.discovery_turn i;
     is_waiting = plan.is_waiting || is_some o;
   }
 
@@ -111,6 +112,7 @@ same_look now i plan end wait w at later is = ap looked goes ∙ (ap asks new �
   asks : Bool → Plan
   asks b = record (with_watch i (record watch { waiting = Some w }) plan) {
     asked = if_asked (b && may_ask now plan.asked) now plan.asked;
+    discovery_turn = turn_if (b && may_ask now plan.asked) (length plan.watches) plan.discovery_turn i;
     is_waiting = plan.is_waiting || true;
   }
 

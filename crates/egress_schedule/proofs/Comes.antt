@@ -3,8 +3,8 @@ use Rattle.std.specs.Prelude.{ℕ, ◌≡◌, ◌<◌, ◌≤◌, ◌+◌, ◌-�
 use Rattle.std.proofs.Common.{inl, inr, sym, ap, ◌∙◌, subst, arith}
 use Rattle.std.proofs.lemmas.Bool.{cases_eq, cases_lt, le-ltb, lt-ltb}
 use Rattle.egress_schedule.specs.Laws.{AskersHaveTurns, TurnsCome, TurnsStay, ahead}
-use Rattle.egress_schedule.specs.Plan.{first_from}
-use Rattle.egress_schedule.specs.Turns.{asks_at, next_in_turn, turn_after}
+use Rattle.egress_schedule.specs.Plan.{first_from, next_in_turn, turn_after}
+use Rattle.egress_schedule.specs.Turns.{asks_at}
 use Rattle.egress_schedule.proofs.First.{above, below}
 
 turn_is : (n turn had : ℕ) → had < n → turn_after n turn had ≡ had + 1

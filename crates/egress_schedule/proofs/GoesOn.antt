@@ -24,12 +24,12 @@ use Rattle.egress_schedule.specs.LongPackets.{is_long, may_have_long, next_long,
 use Rattle.egress_schedule.specs.Patience.{after_alignment, after_alignment_at, after_alignment_to, after_giving_up, after_look, after_look_at}
 use Rattle.egress_schedule.specs.Patience.{after_patience, after_patience_at, earliest_end, if_given_up, if_waiting, is_at_end, is_given_up, must_go}
 use Rattle.egress_schedule.specs.Patience.{unreachable_after, waiting_after, watch_after_giving_up, without_first}
-use Rattle.egress_schedule.specs.Plan.{Planned, each_of, first_from, idle, waiting_at, watch_at, with_watch}
+use Rattle.egress_schedule.specs.Plan.{Planned, each_of, first_from, idle, turn_after, waiting_at, watch_at, with_watch}
 use Rattle.egress_schedule.specs.Queues.{has_others}
 use Rattle.egress_schedule.specs.Rounds.{after_round, with_waits_put_back, with_long_set_aside, with_turns_taken, with_waits_ended}
 use Rattle.egress_schedule.specs.Runs.{IsSameAs, MayGiveUp, Asked, IsGivenUp, IsWaiting, StillWaits, Unasked, ended, prepared}
 use Rattle.egress_schedule.specs.Turns.{after_hold_at, after_taking_turns, comes_before, first_asked, if_held, is_held, next_to_ask, plan_asked}
-use Rattle.egress_schedule.specs.Turns.{turn_after, waiting_asked, with_wait_longer}
+use Rattle.egress_schedule.specs.Turns.{waiting_asked, with_wait_longer}
 use Rattle.egress_schedule.specs.Laws.{WaitsGoOn}
 use Rattle.egress_schedule.proofs.Apart.{lasts_longer}
 use Rattle.egress_schedule.proofs.Ends.{here_set, kept, len_set, other_get, other_set}

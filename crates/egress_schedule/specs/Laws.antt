@@ -10,12 +10,12 @@ use Rattle.socket_set.specs.SocketMeta.{Wait, is_permitted}
 use Rattle.socket_set.specs.SocketSet.{Sockets, socket_at, wait_of}
 use Rattle.egress_schedule.specs.LongPackets.{has_long}
 use Rattle.egress_schedule.specs.Asides.{nobody}
-use Rattle.egress_schedule.specs.Plan.{Planned, waiting_at}
+use Rattle.egress_schedule.specs.Plan.{Planned, next_in_turn, turn_after, waiting_at}
 use Rattle.egress_schedule.specs.Queues.{has_packets, lens_to_send}
 use Rattle.egress_schedule.specs.Patience.{is_at_end, must_go}
 use Rattle.egress_schedule.specs.Rounds.{after_round, before_round, with_long_set_aside}
 use Rattle.egress_schedule.specs.Runs.{IsGivenUp, IsWaiting, MayGiveUp, Round, StillWaits, WaitsThrough, ended}
-use Rattle.egress_schedule.specs.Turns.{after_taking_turns, asks_at, next_in_turn, next_to_ask, turn_after}
+use Rattle.egress_schedule.specs.Turns.{after_taking_turns, asks_at, next_to_ask}
 
 -- after a round no socket waits that has waited long enough, for the patience or since its packet has to make room
 abbrev pub PatienceEnds : Type 0

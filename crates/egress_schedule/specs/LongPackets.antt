@@ -5,9 +5,8 @@ use Rattle.std.specs.Prelude.{length, ℤ, Option, Some, None, if◌then◌else�
 use Rattle.sockets.specs.declared.socket.SocketOf.{SocketOf}
 use Rattle.socket_set.specs.SocketSet.{Sockets, socket_at}
 use Rattle.egress_schedule.specs.Asides.{with_wait_aside}
-use Rattle.egress_schedule.specs.Plan.{Plan, Planned, each_of, first_from}
+use Rattle.egress_schedule.specs.Plan.{Plan, Planned, each_of, first_from, next_in_turn, turn_after}
 use Rattle.egress_schedule.specs.Queues.{first_len, has_others}
-use Rattle.egress_schedule.specs.Turns.{next_in_turn, turn_after}
 
 -- the first packet is longer than the link's packets
 abbrev pub is_long : {L : Type 0} → ℕ → Option (SocketOf L) → Bool

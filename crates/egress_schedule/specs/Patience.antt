@@ -12,7 +12,7 @@ use Rattle.socket_set.specs.SocketMeta.{Wait}
 use Rattle.socket_set.specs.SocketSet.{Sockets, socket_at, wait_of, with_place, with_wait}
 use Rattle.egress_schedule.specs.declared.watch.Waiting.{Waiting}
 use Rattle.egress_schedule.specs.declared.watch.Watch.{Watch}
-use Rattle.egress_schedule.specs.Plan.{Plan, Planned, each_of, idle, waiting_at, watch_at, with_watch}
+use Rattle.egress_schedule.specs.Plan.{Plan, Planned, each_of, idle, turn_after, waiting_at, watch_at, with_watch}
 use Rattle.egress_schedule.specs.Queues.{has_others, is_crowded}
 
 -- a second after an instant, if there is one, has come: so long a host is silent after a request (RFC 1122 2.3.2.1)
@@ -51,6 +51,10 @@ is_new None waiting = false
 is_new (Some w) None = true
 is_new (Some w) (Some before) = not (is_same before.neighbor w.neighbor)
 
+-- the turn, of so many, after the one at an index asked; where it doesn't ask, the turn stays
+abbrev pub turn_if : (asks : Bool) → ℕ → ℕ → ℕ → ℕ
+turn_if asks count turn i = if asks then turn_after count turn i else turn
+
 -- less than ten seconds after an instant, if there is one
 abbrev pub is_recent : ℤ → Option ℤ → Bool
 is_recent now None = false
@@ -86,9 +90,11 @@ abbrev pub plan_after_look : ℤ → ℕ → Wait → Plan → Plan
 plan_after_look now i wait plan =
     let watch = get_or plan.watches i idle in
     let waiting = waiting_after now plan.asked wait watch.waiting in
+    let asks = is_new waiting watch.waiting && may_ask now plan.asked in
     record (with_watch i
     (record watch { waiting = waiting; unreachable = unreachable_after waiting watch.unreachable }) plan) {
-      asked = if_asked (is_new waiting watch.waiting && may_ask now plan.asked) now plan.asked;
+      asked = if_asked asks now plan.asked;
+      discovery_turn = turn_if asks (length plan.watches) plan.discovery_turn i;
       is_waiting = plan.is_waiting || is_some waiting;
     }
 

@@ -1,6 +1,6 @@
 -- What is kept from one round to the next beside a set of sockets: for each socket whom it waits for,
 -- and whose turn it is.
-use Rattle.std.specs.Prelude.{ℕ, ℤ, zero, suc, Bool, false, is_some, List, get_or}
+use Rattle.std.specs.Prelude.{ℕ, ℤ, zero, suc, ◌+◌, ◌-◌, nat_lt, Bool, false, is_some, List, get_or}
 use Rattle.std.specs.Prelude.{slice_set, replicate, Option, None, if◌then◌else◌}
 use Rattle.ip_address.specs.declared.ip.IpAddress.{IpAddress}
 use Rattle.socket_set.specs.SocketSet.{Sockets, wait_of}
@@ -77,3 +77,13 @@ each_of step (suc n) a = step n (each_of step n a)
 abbrev pub first_from : (ℕ → Bool) → ℕ → ℕ → ℕ
 first_from p from zero = from
 first_from p from (suc n) = if p from then from else first_from p (suc from) n
+
+-- the first of n indices from the turn on that has a property, else the first of all; n where none has it
+abbrev pub next_in_turn : (ℕ → Bool) → ℕ → ℕ → ℕ
+next_in_turn p turn n =
+    let next = first_from p turn (n - turn) in
+    if nat_lt next n then next else first_from p 0 n
+
+-- the turn after the one of n that had it; where none had it, it stays
+abbrev pub turn_after : ℕ → ℕ → ℕ → ℕ
+turn_after n turn had = if nat_lt had n then had + 1 else turn

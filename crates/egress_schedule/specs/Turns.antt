@@ -9,18 +9,8 @@ use Rattle.socket_set.specs.SocketSet.{socket_at, wait_of, with_wait}
 use Rattle.egress_schedule.specs.declared.watch.Waiting.{Waiting}
 use Rattle.egress_schedule.specs.Asides.{is_over, with_wait_aside}
 use Rattle.egress_schedule.specs.Patience.{is_at_end, must_go}
-use Rattle.egress_schedule.specs.Plan.{Plan, Planned, each_of, first_from, idle, waiting_at, watch_at, with_watch}
+use Rattle.egress_schedule.specs.Plan.{Plan, Planned, each_of, first_from, idle, next_in_turn, turn_after, waiting_at, watch_at, with_watch}
 use Rattle.egress_schedule.specs.Queues.{has_packets}
-
--- the first of n indices from the turn on that has a property, else the first of all; n where none has it
-abbrev pub next_in_turn : (ℕ → Bool) → ℕ → ℕ → ℕ
-next_in_turn p turn n =
-    let next = first_from p turn (n - turn) in
-    if nat_lt next n then next else first_from p 0 n
-
--- the turn after the one of n that had it; where none had it, it stays
-abbrev pub turn_after : ℕ → ℕ → ℕ → ℕ
-turn_after n turn had = if nat_lt had n then had + 1 else turn
 
 -- a socket asks again: its wait is over, and has not lasted long enough
 abbrev pub asks_again : ℕ → ℤ → Bool → Waiting → Bool

@@ -3,8 +3,7 @@ ghost use Rattle.std.specs.Prelude.{◌≡◌, ◌-◌, length};
 ghost use Rattle.net_base.specs.Time.{IsMoment};
 ghost use Rattle.egress_schedule.specs.LongPackets as spec;
 ghost use Rattle.egress_schedule.specs.LongPackets.{after_setting_aside_at, has_long, may_have_long, some_may_have_long};
-ghost use Rattle.egress_schedule.specs.Plan.{each_of, first_from, planned};
-ghost use Rattle.egress_schedule.specs.Turns.{next_in_turn};
+ghost use Rattle.egress_schedule.specs.Plan.{each_of, first_from, next_in_turn, planned};
 
 use crate::queues::{first_len, has_others};
 use crate::schedule::Schedule;

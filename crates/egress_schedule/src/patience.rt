@@ -11,6 +11,7 @@ ghost use Rattle.socket_set.specs.SocketSet.{socket_at};
 
 use crate::queues::{has_others, is_crowded};
 use crate::schedule::Schedule;
+use crate::turns::turn_if;
 use crate::watch::{
     Waiting, if_asked, is_given_up, is_new, is_recent, is_second_over, may_ask, waiting_after,
 };
@@ -90,6 +91,7 @@ impl Schedule {
         let asks = is_new(&waiting, &before) && may_ask(now, self.asked);
         self.note_wait(index, waiting);
         self.asked = if_asked(asks, now, self.asked);
+        self.discovery_turn = turn_if(asks, self.watches.len(), self.discovery_turn, index);
         self.is_waiting |= waiting.is_some();
     }
 

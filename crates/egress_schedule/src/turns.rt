@@ -1,7 +1,8 @@
 //! Turns among sockets that wait for neighbours.
 ghost use Rattle.std.specs.Prelude.{◌≡◌, ◌-◌, length};
 ghost use Rattle.net_base.specs.Time.{IsMoment};
-ghost use Rattle.egress_schedule.specs.Plan.{each_of, first_from, planned};
+ghost use Rattle.egress_schedule.specs.Patience.{turn_if};
+ghost use Rattle.egress_schedule.specs.Plan.{each_of, first_from, planned, turn_after};
 ghost use Rattle.egress_schedule.specs.Queues.{has_packets};
 ghost use Rattle.egress_schedule.specs.Turns as spec;
 ghost use Rattle.egress_schedule.specs.Turns.{after_hold_at, asks_at, comes_before, next_to_ask, plan_asked, with_wait_longer};
@@ -205,9 +206,20 @@ fn first_asked(now: Instant, asked: Option<Instant>) -> Option<Instant>
     }
 }
 
+/// The turn, of so many, after the one at an index asked; where it doesn't ask, the turn stays.
+pub(crate) fn turn_if(asks: bool, count: usize, turn: usize, index: usize) -> usize
+    ensures { result ≡ turn_if asks count turn index }
+{
+    if asks {
+        turn_after(count, turn, index)
+    } else {
+        turn
+    }
+}
+
 /// The turn after the one of so many that had it; where none had it, it stays.
 pub(crate) fn turn_after(count: usize, turn: usize, had: usize) -> usize
-    ensures { result ≡ spec.turn_after count turn had }
+    ensures { result ≡ turn_after count turn had }
 {
     if had < count { had + 1 } else { turn }
 }
