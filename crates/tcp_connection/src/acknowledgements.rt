@@ -14,7 +14,7 @@ use tcp_machine::estimator::Estimator;
 use tcp_machine::timers::{Measured, Pending, Timers};
 
 /// What is known of the round trip, once a position is acknowledged.
-fn after_measured(
+pub(crate) fn after_measured(
     shortest: u64,
     now: u64,
     position: u64,
@@ -214,7 +214,7 @@ impl Connection {
         ensures { result ≡ tells_nothing position window is_empty self.now.transmission }
     {
         let una = self.transmission.una();
-        una < self.transmission.top()
+        self.transmission.is_waited_for()
             && is_empty
             && position == una
             && position + window == self.transmission.told_edge()

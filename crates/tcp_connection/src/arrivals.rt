@@ -10,10 +10,10 @@ ghost use Rattle.tcp_machine.specs.Acknowledgements.{is_believed};
 ghost use Rattle.tcp_connection.specs.Segments.{segment_of, piece_of};
 ghost use Rattle.tcp_connection.specs.Details.Parts.{after_ack_of_syn};
 
+use crate::acknowledgements::after_measured;
 use crate::connection::Connection;
 use crate::segment::Segment;
 use crate::states::{is_syn_received, is_time_wait};
-use tcp_machine::estimator::Estimator;
 use tcp_machine::positions::{number_at, position_near};
 use tcp_machine::state::State;
 use tcp_machine::timers::{Ending, Owed, Pending, Timers};
@@ -217,11 +217,15 @@ impl Connection {
         let nxt = self.transmission.nxt();
         let _una = self.transmission.una();
         self.transmission.go_back(nxt.max(1));
+        self.estimator = after_measured(
+            self.settings.shortest_timeout,
+            self.timers.heard_at,
+            1,
+            self.timers.measured,
+            &self.estimator,
+        );
         if self.timers.tries != 0 {
-            self.estimator = Estimator {
-                round_trip: self.estimator.round_trip,
-                timeout: TIMEOUT_AFTER_SYN,
-            };
+            self.estimator.timeout = TIMEOUT_AFTER_SYN;
         }
         self.timers = Timers {
             resend_at: None,

@@ -121,6 +121,6 @@ impl Connection {
             .take_syn(segment.window, scale_from(segment.scale), default, mss);
         let own_scale = own_scale_for(self.settings.own_scale, segment.scale);
         self.reception.take_syn(own_scale, segment.sack_permitted);
-        self.congestion = Congestion::new(mss);
+        self.congestion = Congestion::first(self.timers.tries, mss);
     }
 }

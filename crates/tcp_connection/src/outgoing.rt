@@ -164,7 +164,11 @@ impl Connection {
         let told = self.transmission.told_edge();
         if self.settings.congestion_control {
             let una = self.transmission.una();
-            told.min(una.saturating_add(self.congestion.window))
+            let beyond = self.congestion.beyond_window(self.transmission.mss());
+            told.min(
+                una.saturating_add(self.congestion.window)
+                    .saturating_add(beyond),
+            )
         } else {
             told
         }
@@ -374,6 +378,7 @@ impl Connection {
         let told = self.reception.promised().max(1 + room.min(65_535));
         self.reception.told(told);
         self.pending = Pending::Empty;
+        self.timers.measured = measured_syn(now, &self.timers);
         self.start_resend_timer(now);
         let _una = self.transmission.una();
         self.transmission.go_back(1);
@@ -476,5 +481,19 @@ fn reset_header(number: u32) -> Header
         syn: false,
         fin: false,
         rst: true,
+    }
+}
+
+/// The own SYN, if its round trip is measured: unless it was sent before.
+fn measured_syn(now: u64, timers: &Timers) -> Option<Measured>
+    ensures { result ≡ outgoing.measured_syn now timers.now }
+{
+    if timers.tries == 0 && timers.resend_at.is_none() {
+        Some(Measured {
+            position: 1,
+            sent_at: now,
+        })
+    } else {
+        None
     }
 }

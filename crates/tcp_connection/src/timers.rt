@@ -97,7 +97,11 @@ impl Connection {
         let flight = self.transmission.flight();
         let top = self.transmission.top();
         let is_first = self.timers.tries == 0;
-        self.congestion = self.congestion.after_timeout(is_first, mss, flight, top);
+        self.congestion = if is_opening(self.state) {
+            self.congestion.after_lost_syn(mss)
+        } else {
+            self.congestion.after_timeout(is_first, mss, flight, top)
+        };
         self.estimator = self.estimator.after_timeout();
         self.transmission
             .go_back(if is_opening(self.state) { 0 } else { una });

@@ -81,7 +81,8 @@ module _ (now n : ℕ) (c : Connection) (may : MaySendOctets c.state) (none : c.
 
   limit : x + n ≤ limit_of c
   limit =
-      within_limit n x c.transmission.told_edge s.una c.congestion.window c.settings.congestion_control room.window room.congestion
+      within_limit n x c.transmission.told_edge s.una (c.congestion.window + congestion.beyond_window c.transmission.mss c.congestion)
+      c.settings.congestion_control room.window (λ h. let b = room.congestion h in omega (arith, b))
 
   abbrev most : ℕ
   most = min c.transmission.mss (limit_of c - x)

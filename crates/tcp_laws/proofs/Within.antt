@@ -7,6 +7,7 @@ use Rattle.tcp_machine.specs.declared.timers.Pending.{Pending}
 use Rattle.tcp_machine.specs.declared.timers.Pending.TheVariants.{Empty, Challenge, Resend, Probe, KeepAlive, Reset, SynAgain}
 use Rattle.tcp_machine.specs.Pieces.{after_octets}
 use Rattle.tcp_machine.specs.States.{is_opening, is_synchronized, sends_octets}
+use Rattle.tcp_machine.specs.Congestion.{beyond_window}
 use Rattle.tcp_machine.specs.Connection.{Connection}
 use Rattle.tcp_machine.specs.Outgoing.{Action, SendReset, SendSyn, SendNext, SendAgain, SendProbe, SendKeepAlive, SendAck, action_in_opening, is_challenge, is_syn_sent}
 use Rattle.tcp_machine.specs.Outgoing.{limit_of, next_piece, first_piece, most_again, has_octets, is_worth_sending, ack_if, tells_something}
@@ -45,7 +46,7 @@ module _ (now : ℕ) (c : Connection) where
       let xs = drop (t.nxt - t.sender.una) t.sender.ring in
       let l = taken (min t.mss (limit_of c - t.nxt)) xs in
       below t.nxt (length (next_piece c).octets) t.mss (limit_of c) t.told_edge l
-      (limit_below t.told_edge (t.sender.una + c.congestion.window) c.settings.congestion_control) some
+      (limit_below t.told_edge (t.sender.una + (c.congestion.window + beyond_window t.mss c.congestion)) c.settings.congestion_control) some
 
   within_again : Within (Some (SendAgain (first_piece (most_again c) c)))
   within_again some =

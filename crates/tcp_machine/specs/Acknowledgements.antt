@@ -89,11 +89,15 @@ after_progress now a window c =
       pending = if congestion.shows_a_loss a c.congestion then Resend else c.pending;
     }
 
+-- Whether something that was sent, and for which the peer's window has room, waits to be acknowledged
+abbrev pub is_waited_for : Transmission → Bool
+is_waited_for t = nat_lt t.sender.una (min t.sender.top t.told_edge)
+
 -- A segment tells nothing new: something is unacknowledged, it carries neither octets nor the end, it acknowledges what is
--- acknowledged already, and tells the window that was told last (RFC 5681 2)
+-- acknowledged already, and tells the window that was told last (RFC 5681 2). What answers a probe of a closed window is none
 abbrev pub is_duplicate : (a window : ℕ) → Piece → Transmission → Bool
 is_duplicate a window p t =
-    nat_lt t.sender.una t.sender.top && (length p.octets == 0) && not p.ends && (a == t.sender.una) && (a + window == t.told_edge)
+    is_waited_for t && (length p.octets == 0) && not p.ends && (a == t.sender.una) && (a + window == t.told_edge)
 
 abbrev pub after_duplicate : (a window : ℕ) → Piece → Connection → Connection
 after_duplicate a window p c =
@@ -121,10 +125,6 @@ after_told a s p c d =
 abbrev pub after_end : Connection → Connection
 after_end c =
     if is_end_acknowledged c.transmission.sender then record c { state = after_end_acknowledged c.state } else c
-
--- Whether something that was sent, and for which the peer's window has room, waits to be acknowledged
-abbrev pub is_waited_for : Transmission → Bool
-is_waited_for t = nat_lt t.sender.una (min t.sender.top t.told_edge)
 
 -- The peer has let something wait from the first segment on that it didn't answer. An acknowledgement ends that, unless something
 -- for which the window has room stays unacknowledged; and where the window had no room before, the wait begins anew

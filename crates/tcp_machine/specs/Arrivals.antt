@@ -20,7 +20,7 @@ use Rattle.tcp_machine.specs.declared.estimator.Estimator.{Estimator}
 use Rattle.tcp_machine.specs.States.{is_synchronized, takes_octets, after_peers_end}
 use Rattle.tcp_machine.specs.Connection.{Connection, Reception, Transmission}
 use Rattle.tcp_machine.specs.Segments.{Segment, acceptable_piece, acknowledged_in}
-use Rattle.tcp_machine.specs.Acknowledgements.{with_pending, empty_position, is_believed, after_acknowledgement}
+use Rattle.tcp_machine.specs.Acknowledgements.{with_pending, empty_position, is_believed, after_acknowledgement, after_measured}
 
 abbrev pub is_time_wait : State → Bool
 is_time_wait TimeWait = true
@@ -105,8 +105,8 @@ is_own_syn_acknowledged s c = is_at s.ack (number_at c.local 1) && (s.number == 
 abbrev pub is_syn_again : Segment → Connection → Bool
 is_syn_again s c = (s.number == c.remote) && is_none s.ack && is_syn_received c.state
 
--- Fifth: an acknowledgement of the own SYN (RFC 9293 3.10.7.4); its timer is off. If it had run out, octets wait for 3 s
--- at first (RFC 6298 5.7). What is sent next is behind it, though it was to be sent again. If the program has closed, the
+-- Fifth: an acknowledgement of the own SYN (RFC 9293 3.10.7.4); its timer is off, and its round trip is measured (RFC 6298 2.2).
+-- If the timer had run out, octets wait for 3 s at first (5.7). What is sent next is behind it, though it was to be sent again. If the program has closed, the
 -- end follows
 abbrev pub timeout_after_syn : ℕ → Estimator → Estimator
 timeout_after_syn tries e = if tries == 0 then e else record e { timeout = 3000000 }
@@ -119,7 +119,8 @@ abbrev pub established : Connection → Connection
 established c = record c {
   state = state_after_handshake c.transmission.sender.stop;
   transmission = record c.transmission { nxt = max 1 c.transmission.nxt };
-  estimator = timeout_after_syn c.timers.tries c.estimator;
+  estimator = timeout_after_syn c.timers.tries
+      (after_measured c.settings.shortest_timeout c.timers.heard_at 1 c.timers.measured c.estimator);
   timers = record c.timers { resend_at = None; tries = 0; measured = None; waiting_since = None };
 }
 

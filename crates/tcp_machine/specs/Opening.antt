@@ -11,7 +11,7 @@ use Rattle.tcp_machine.specs.Positions.{number_at}
 use Rattle.tcp_machine.specs.Sending.{open_sender}
 use Rattle.tcp_machine.specs.Receiving.{Receiver, open_receiver, is_at}
 use Rattle.tcp_machine.specs.Estimator.{new_estimator}
-use Rattle.tcp_machine.specs.Congestion.{new_congestion}
+use Rattle.tcp_machine.specs.Congestion.{first_congestion, new_congestion}
 use Rattle.tcp_machine.specs.Path.{new_path}
 use Rattle.tcp_machine.specs.Connection.{Connection, Transmission, Reception}
 use Rattle.tcp_machine.specs.Pieces.{Piece}
@@ -106,7 +106,7 @@ with_syn default link s c =
         scale = own_scale_for c.settings.own_scale s.options.scale;
         sack_permitted = s.options.sack_permitted;
       };
-      congestion = new_congestion mss;
+      congestion = first_congestion c.timers.tries mss;
     }
 
 -- a SYN arrives at a listener (RFC 9293 3.10.7.2): the connection that it begins. What else the segment carries is left,

@@ -2,6 +2,7 @@
 use Rattle.std.specs.Prelude.{ℕ, ◌+◌, ◌-◌, ◌*◌, min, max, nat_lt, nat_le, ◌==◌, ◌&&◌, ◌||◌, not, Bool, true, false}
 use Rattle.std.specs.Prelude.{List, [], map, length, take, drop, Option, Some, None, is_none, if◌then◌else◌}
 use Rattle.tcp_machine.specs.Instants.{later}
+use Rattle.tcp_machine.specs.declared.timers.Measured.{Measured}
 use Rattle.tcp_machine.specs.declared.timers.Timers.{Timers}
 use Rattle.tcp_machine.specs.declared.timers.Owed.{Owed}
 use Rattle.tcp_machine.specs.declared.timers.Owed.TheVariants.{Nothing, By, AtOnce}
@@ -14,6 +15,7 @@ use Rattle.tcp_machine.specs.Pieces.{Piece, after_octets, after_piece}
 use Rattle.tcp_machine.specs.Sending.{Sender, after_send}
 use Rattle.tcp_machine.specs.Receiving.{expected, is_at}
 use Rattle.tcp_machine.specs.States.{is_synchronized, is_opening, sends_octets}
+use Rattle.tcp_machine.specs.Congestion.{beyond_window}
 use Rattle.tcp_machine.specs.Connection.{Connection, Reception}
 use Rattle.tcp_machine.specs.Acknowledgements.{empty_position, since_first}
 use Rattle.tcp_machine.specs.Windows.{next_promise, window_field, is_update_due}
@@ -47,7 +49,7 @@ piece_from p most s = record {
 abbrev pub limit_of : Connection → ℕ
 limit_of c =
     if c.settings.congestion_control
-    then min c.transmission.told_edge (c.transmission.sender.una + c.congestion.window) else c.transmission.told_edge
+    then min c.transmission.told_edge (c.transmission.sender.una + (c.congestion.window + beyond_window c.transmission.mss c.congestion)) else c.transmission.told_edge
 
 abbrev pub next_piece : Connection → Piece
 next_piece c =
@@ -250,12 +252,16 @@ probe_sent now p c = record (told_to_peer c) {
   };
 }
 
--- the own SYN was sent
+-- The own SYN was sent. Its round trip is measured, unless it was sent before (Karn's rule, RFC 6298 3)
+abbrev pub measured_syn : ℕ → Timers → Option Measured
+measured_syn now t = if (t.tries == 0) && is_none t.resend_at then Some (record { position = 1; sent_at = now }) else None
+
 abbrev pub syn_sent : ℕ → Connection → Connection
 syn_sent now c = record (told_to_peer c) {
   transmission = record c.transmission { nxt = 1 };
   timers = record c.timers {
     resend_at = if is_none c.timers.resend_at then Some (later now c.estimator.timeout) else c.timers.resend_at;
+    measured = measured_syn now c.timers;
     waiting_since = since_first now c.timers.waiting_since;
   };
   reception = record c.reception {

@@ -68,7 +68,8 @@ after_loss_of_all c = record c {
   };
   estimator = estimator.after_timeout c.estimator;
   congestion =
-      congestion.after_timeout (c.timers.tries == 0) (mss_after_loss c) (flight c.transmission) c.transmission.sender.top
+      if is_opening c.state then congestion.after_lost_syn (mss_after_loss c) c.congestion
+      else congestion.after_timeout (c.timers.tries == 0) (mss_after_loss c) (flight c.transmission) c.transmission.sender.top
       c.congestion;
   timers = with_next_try c.timers;
 }

@@ -1,5 +1,5 @@
-//! How much may be on its way (RFC 5681, RFC 6582, RFC 6928).
-ghost use Rattle.std.specs.Prelude.{◌≡◌};
+//! How much may be on its way (RFC 3042, RFC 3465, RFC 5681, RFC 6582, RFC 6928).
+ghost use Rattle.std.specs.Prelude.{◌≡◌, ◌≤◌};
 ghost use Rattle.tcp_machine.specs.Congestion as spec;
 
 use crate::estimator::plus_at_most;
@@ -14,6 +14,8 @@ pub struct Congestion {
     pub window: u64,
     /// ssthresh (RFC 5681 2).
     pub threshold: u64,
+    /// The octets that were acknowledged since the window grew last, from the threshold on (bytes_acked, RFC 3465 2.1).
+    pub credit: u64,
     /// How many acknowledgements in a row told nothing new, up to 3.
     pub duplicates: u64,
     /// The position after all that had been sent when a loss was noticed last (`recover`, RFC 6582 3.2).
@@ -31,9 +33,46 @@ impl Congestion {
         Congestion {
             window: (10 * mss).min((2 * mss).max(14_600)),
             threshold: LARGEST,
+            credit: 0,
             duplicates: 0,
             recover: 0,
             is_recovering: false,
+        }
+    }
+
+    /// After a handshake in which the own SYN was sent again so often: one segment at first, if it was (RFC 5681 3.1; RFC 6928 2).
+    pub fn first(tries: u64, mss: u16) -> Congestion
+        ensures { result ≡ spec.first_congestion tries mss }
+    {
+        let first = Congestion::new(mss);
+        if tries == 0 {
+            first
+        } else {
+            first.after_lost_syn(mss)
+        }
+    }
+
+    /// What is kept after the own SYN stayed unacknowledged: the threshold, as no octet was lost.
+    pub fn after_lost_syn(&self, mss: u16) -> Congestion
+        ensures { result ≡ spec.after_lost_syn mss self.now }
+    {
+        Congestion {
+            window: u64::from(mss),
+            ..*self
+        }
+    }
+
+    /// How many octets beyond the window may be on their way: a segment more for each of the first two acknowledgements that
+    /// tell nothing new (RFC 3042 2).
+    #[inline(always)]
+    pub fn beyond_window(&self, mss: u16) -> u64
+        ensures value { result ≡ spec.beyond_window mss self.now }
+        ensures few { result ≤ 131070 }
+    {
+        if self.is_recovering {
+            0
+        } else {
+            self.duplicates.min(2) * u64::from(mss)
         }
     }
 
@@ -49,7 +88,7 @@ impl Congestion {
         ensures { result ≡ spec.after_acknowledged mss acknowledged position flight self.now }
     {
         if !self.is_recovering {
-            self.grown(mss, acknowledged)
+            self.grown(mss, acknowledged, position)
         } else if self.recover <= position {
             self.recovered(mss, flight)
         } else {
@@ -79,7 +118,7 @@ impl Congestion {
         ensures { result ≡ spec.after_duplicate mss position flight top self.now }
     {
         if self.is_third(position) {
-            return after_loss(mss, flight, top);
+            return after_loss(mss, flight.min(self.window), top);
         }
         if self.is_recovering {
             return Congestion {
@@ -105,6 +144,7 @@ impl Congestion {
             } else {
                 self.threshold
             },
+            credit: 0,
             duplicates: 0,
             recover: top,
             is_recovering: false,
@@ -112,17 +152,47 @@ impl Congestion {
     }
 
     /// Slow start, and congestion avoidance from the threshold on.
-    fn grown(&self, mss: u16, acknowledged: u64) -> Congestion
-        ensures { result ≡ spec.grown mss acknowledged self.now }
+    fn grown(&self, mss: u16, acknowledged: u64, position: u64) -> Congestion
+        ensures { result ≡ spec.grown mss acknowledged position self.now }
     {
-        let mss = u64::from(mss);
-        let growth = if self.window < self.threshold {
-            acknowledged.min(mss)
+        if self.window < self.threshold {
+            self.started(mss, acknowledged, position)
         } else {
-            (mss * mss / self.window.max(1)).max(1)
+            self.avoided(mss, acknowledged)
+        }
+    }
+
+    /// Slow start: the window grows by what was acknowledged, up to the threshold (RFC 5681 3.1; RFC 3465 2.3).
+    fn started(&self, mss: u16, acknowledged: u64, position: u64) -> Congestion
+        ensures { result ≡ spec.started mss acknowledged position self.now }
+    {
+        let growth = if position < self.recover {
+            acknowledged.min(2 * u64::from(mss))
+        } else {
+            acknowledged
         };
         Congestion {
-            window: plus_at_most(LARGEST, self.window, growth),
+            window: plus_at_most(self.threshold.min(LARGEST), self.window, growth),
+            duplicates: 0,
+            ..*self
+        }
+    }
+
+    /// Congestion avoidance: the window grows by a segment once a whole one was acknowledged (RFC 3465 2.1).
+    fn avoided(&self, mss: u16, acknowledged: u64) -> Congestion
+        ensures { result ≡ spec.avoided mss acknowledged self.now }
+    {
+        let credit = plus_at_most(LARGEST, self.credit, acknowledged);
+        if credit < self.window {
+            return Congestion {
+                credit,
+                duplicates: 0,
+                ..*self
+            };
+        }
+        Congestion {
+            window: plus_at_most(LARGEST, self.window, u64::from(mss)),
+            credit: credit - self.window,
             duplicates: 0,
             ..*self
         }
@@ -170,6 +240,7 @@ fn after_loss(mss: u16, flight: u64, top: u64) -> Congestion
     Congestion {
         window: plus_at_most(LARGEST, half, 3 * u64::from(mss)),
         threshold: half,
+        credit: 0,
         duplicates: 3,
         recover: top,
         is_recovering: true,

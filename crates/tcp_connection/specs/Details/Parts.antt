@@ -12,7 +12,7 @@ use Rattle.tcp_machine.specs.Acknowledgements.{flight, after_progress, with_pend
 
 -- an acknowledgement tells nothing new, if the segment is empty
 abbrev pub tells_nothing : (a window : ℕ) → (is_empty : Bool) → Transmission → Bool
-tells_nothing a window is_empty t = nat_lt t.sender.una t.sender.top && is_empty && (a == t.sender.una) && (a + window == t.told_edge)
+tells_nothing a window is_empty t = is_waited_for t && is_empty && (a == t.sender.una) && (a + window == t.told_edge)
 
 abbrev pub after_old_position : (a window : ℕ) → (is_empty : Bool) → Connection → Connection
 after_old_position a window is_empty c =

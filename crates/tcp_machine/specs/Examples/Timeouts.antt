@@ -1,4 +1,4 @@
--- Time-outs and losses: RFC 6298 with given measurements, RFC 5681 and 6582 with segments of 1,000 octets.
+-- Time-outs and losses: RFC 6298 with given measurements, RFC 3042, 3465, 5681 and 6582 with segments of 1,000 octets.
 use Rattle.std.specs.Prelude.{◌≡◌, true, false}
 use Rattle.tcp_machine.specs.declared.estimator.Estimator.{Estimator}
 use Rattle.tcp_machine.specs.declared.congestion.Congestion.{Congestion}
@@ -30,9 +30,21 @@ lost = congestion.after_duplicate 1000 1 10000 10001
 pub record Losses : Type 0 where
   pub initial : start.window ≡ 10000
   pub slow_start : (congestion.after_acknowledged 1000 1000 1001 9000 start).window ≡ 11000
+  -- one acknowledgement of eight segments is worth as much as eight; while what a time-out sends again is acknowledged, two
+  pub at_once : (congestion.after_acknowledged 1000 8000 8001 2000 start).window ≡ 18000
+  pub again : (congestion.after_acknowledged 1000 8000 8001 0 (congestion.after_timeout true 1000 10000 10001 start)).window ≡ 3000
+  pub to_the_threshold : (congestion.after_acknowledged 1000 8000 8001 2000 (record start { threshold = 12000 })).window ≡ 12000
+  -- the first two acknowledgements that tell nothing new let a segment go each, and the window stays (RFC 3042)
+  pub first_goes : congestion.beyond_window 1000 (congestion.after_duplicate 1000 1 10000 10001 start) ≡ 1000
+  pub second_goes : congestion.beyond_window 1000
+      (congestion.after_duplicate 1000 1 10000 10001 (congestion.after_duplicate 1000 1 10000 10001 start)) ≡ 2000
   pub two_are_none : (congestion.after_duplicate 1000 1 10000 10001 (congestion.after_duplicate 1000 1 10000 10001 start)).window
       ≡ 10000
   pub third : lost.window ≡ 8000
+  pub third_goes : congestion.beyond_window 1000 lost ≡ 0
+  -- those two segments don't count as on their way
+  pub limited : (congestion.after_duplicate 1000 1 12000 12001
+      (congestion.after_duplicate 1000 1 11000 11001 (congestion.after_duplicate 1000 1 10000 10001 start))).window ≡ 8000
   pub threshold : lost.threshold ≡ 5000
   pub fourth : (congestion.after_duplicate 1000 1 10000 10001 lost).window ≡ 9000
   -- a partial acknowledgement of two segments: the window loses them and gets one back
@@ -42,8 +54,13 @@ pub record Losses : Type 0 where
   pub full : (congestion.after_acknowledged 1000 10000 10001 0 lost).window ≡ 2000
   pub over : (congestion.after_acknowledged 1000 10000 10001 0 lost).is_recovering ≡ false
   pub timer : (congestion.after_timeout true 1000 10000 10001 start).window ≡ 1000
-  -- congestion avoidance: a segment in a round trip
-  pub avoidance : (congestion.after_acknowledged 1000 1000 1001 9000 (record start { threshold = 10000 })).window ≡ 10100
+  -- congestion avoidance: a segment once a window was acknowledged, by however many acknowledgements, and not before
+  pub avoidance : (congestion.after_acknowledged 1000 9000 9001 1000 (record start { threshold = 10000 })).window ≡ 10000
+  pub avoided : (congestion.after_acknowledged 1000 1000 10001 9000
+      (congestion.after_acknowledged 1000 9000 9001 1000 (record start { threshold = 10000 }))).window ≡ 11000
+  -- after a SYN was lost one segment goes at first, and slow start goes on as far as ever
+  pub lost_syn : (congestion.first_congestion 1 1000).window ≡ 1000
+  pub lost_syn_threshold : (congestion.first_congestion 1 1000).threshold ≡ congestion.largest
   -- duplicates of what was recovered aren't taken for another loss (RFC 6582 3.2, step 2)
   pub no_second : congestion.is_third 10001 (record lost { is_recovering = false; duplicates = 2 }) ≡ false
   pub next_one : congestion.is_third 10002 (record lost { is_recovering = false; duplicates = 2 }) ≡ true
