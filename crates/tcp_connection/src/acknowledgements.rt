@@ -4,7 +4,7 @@ ghost use Rattle.tcp_machine.specs.Instants as instants;
 ghost use Rattle.tcp_machine.specs.Acknowledgements as acknowledgements;
 ghost use Rattle.tcp_machine.specs.Segments as segments;
 ghost use Rattle.tcp_connection.specs.Segments.{segment_of, piece_of};
-ghost use Rattle.tcp_connection.specs.Details.Parts.{tells_nothing, after_old_position, after_position_of, with_waiting_from};
+ghost use Rattle.tcp_connection.specs.Details.Parts.{tells_nothing, after_old_position, after_position_of, with_opening_from, with_waiting_from};
 
 use crate::connection::Connection;
 use crate::instants::{later, since_first};
@@ -103,11 +103,13 @@ impl Connection {
         let _top = self.transmission.top();
         let window = self.window_in(segment);
         let was_waited_for = self.transmission.is_waited_for();
+        let was_closed = self.is_window_closed();
         self.take_position(now, position, window, octets.len(), segment.fin);
         if una <= position {
             self.transmission.take_window(start, position, window);
         }
         self.wait(now, was_waited_for);
+        self.take_opening(now, was_closed);
         self.take_own_end();
     }
 
@@ -124,6 +126,29 @@ impl Connection {
         } else {
             Some(now)
         };
+    }
+
+    /// The window, which was closed, may be open: what waits goes now, and has the time-out that was measured.
+    fn take_opening(&mut self, now: u64, was_closed: bool)
+        ensures value { self.new ≡ with_opening_from now was_closed self.old }
+        ensures kept { self.new.reception ≡ self.old.reception }
+    {
+        if !was_closed || self.is_window_closed() {
+            return;
+        }
+        self.estimator = self
+            .estimator
+            .without_doubling(self.settings.shortest_timeout);
+        if self.timers.resend_at.is_some() {
+            self.timers.resend_at = Some(later(now, self.estimator.timeout));
+        }
+    }
+
+    /// Whether the peer's window is closed.
+    fn is_window_closed(&self) -> bool
+        ensures { result ≡ acknowledgements.is_closed_window self.now.transmission }
+    {
+        self.transmission.told_edge() <= self.transmission.una()
     }
 
     /// The state moves on if the own end is acknowledged.

@@ -28,6 +28,7 @@ pub(crate) fn timers_at(now: u64) -> Timers
         heard_at: now,
         probes: 0,
         idle_since: now,
+        sent_at: now,
         waiting_since: None,
         ends_at: None,
     }

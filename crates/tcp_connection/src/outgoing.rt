@@ -409,6 +409,7 @@ impl Connection {
                 sent_at: now,
             });
         }
+        self.timers.sent_at = now;
         self.start_resend_timer(now);
         self.tell();
         self.transmission.send(part, nxt);

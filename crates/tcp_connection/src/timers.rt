@@ -32,6 +32,7 @@ impl Connection {
         self.expire_resend_timer(now);
         self.expire_keep_alive(now);
         self.start_probe_timer(now);
+        self.restart_window(now);
     }
 
     /// TIME-WAIT ends.
@@ -177,6 +178,23 @@ impl Connection {
         is_synchronized(self.state)
             && !is_time_wait(self.state)
             && self.transmission.top() <= self.transmission.una()
+    }
+
+    /// Nothing was sent for a time-out, and all is acknowledged: less may be on its way at once (RFC 5681 4.1).
+    fn restart_window(&mut self, now: u64)
+        ensures { self.new ≡ timers.with_restart_window now self.old }
+    {
+        if self.is_unpaced(now) {
+            self.congestion.restart(self.transmission.mss());
+        }
+    }
+
+    /// Whether all is acknowledged, and nothing was sent for a time-out.
+    fn is_unpaced(&self, now: u64) -> bool
+        ensures { result ≡ timers.is_unpaced now self.now }
+    {
+        self.transmission.top() <= self.transmission.una()
+            && later(self.timers.sent_at, self.estimator.timeout) <= now
     }
 
     /// The timer runs while all that waits is held back, too.

@@ -18,11 +18,11 @@ use Rattle.tcp_machine.specs.Sending.{Sender, after_position, after_close}
 use Rattle.tcp_machine.specs.Receiving.{expected, is_at, is_in_window}
 use Rattle.tcp_machine.specs.States.{is_synchronized, is_opening, sends_octets, takes_octets, after_program_closes, after_peers_end}
 use Rattle.tcp_machine.specs.States.{after_end_acknowledged}
-use Rattle.tcp_machine.specs.Connection.{Connection}
+use Rattle.tcp_machine.specs.Connection.{Connection, Transmission}
 use Rattle.tcp_machine.specs.Segments.{Segment, window_in, acceptable_piece, acknowledged_in}
 use Rattle.tcp_machine.specs.Windows.{tells_window, with_window, after_window}
 use Rattle.tcp_machine.specs.Congestion as congestion
-use Rattle.tcp_machine.specs.Acknowledgements.{rank, with_pending, empty_position, is_believed, is_end_acknowledged, is_duplicate, with_waiting}
+use Rattle.tcp_machine.specs.Acknowledgements.{rank, with_pending, empty_position, is_believed, is_end_acknowledged, is_duplicate, opens, resend_after, timeout_after, with_waiting}
 use Rattle.tcp_machine.specs.Acknowledgements.{after_measured, after_progress, after_duplicate, after_acked, after_told, after_end}
 use Rattle.tcp_machine.specs.Acknowledgements.{after_acknowledgement, flight}
 use Rattle.tcp_machine.specs.Arrivals.{is_time_wait, is_syn_received, is_closed, with_owed, ended, aborted, with_time_wait, after_entering, after_syn_once_more, is_syn_again}
@@ -309,10 +309,28 @@ module _ (now a : ℕ) (s : Segment) (p : Piece) where
       (λ _. moved d.state (after_end_acknowledged d.state) d.transmission.sender.una d.transmission.sender.top d.transmission.nxt
       d.timers.resend_at (end_moves d.state) h) (λ _. h)
 
+  timed_waiting : (t : Transmission) (d : Connection) → IsTimed d → IsTimed (with_waiting now t d)
+  timed_waiting t d h = record {
+    begun = h.begun;
+    una = h.una;
+    nxt = h.nxt;
+    first = h.first;
+    octets = λ e f. h.octets (was d.timers.resend_at e) f;
+    syn = λ e f. h.syn (was d.timers.resend_at e) f;
+  } where
+    opened : Bool
+    opened = opens t d.transmission
+
+    was : (at : Option ℕ) → is_none (resend_after opened now (timeout_after opened d.settings.shortest_timeout d.estimator) at) ≡ true →
+        is_none at ≡ true
+    was None e = refl
+    was (Some at) e = e
+
   timed_acknowledgement : (d : Connection) → is_opening d.state ≡ false → is_believed a d.transmission ≡ true → IsTimed d →
       IsTimed (after_acknowledgement now a s p d)
   timed_acknowledgement d o b h =
-      timed_end (with_waiting now d.transmission (after_told a s p d (after_acked now a s p d))) (timed_told d (after_acked now a s p d) (timed_acked d o b h))
+      timed_end (with_waiting now d.transmission (after_told a s p d (after_acked now a s p d)))
+      (timed_waiting d.transmission (after_told a s p d (after_acked now a s p d)) (timed_told d (after_acked now a s p d) (timed_acked d o b h)))
 
 timed_entering : (now : ℕ) (before : State) (d : Connection) → IsTimed d → IsTimed (after_entering now before d)
 timed_entering now before d h =

@@ -9,7 +9,7 @@ use Rattle.tcp_machine.specs.declared.timers.Pending.TheVariants.{Empty, Challen
 use Rattle.tcp_machine.specs.Pieces.{Piece}
 use Rattle.tcp_machine.specs.Sending.{Sender, after_position}
 use Rattle.tcp_machine.specs.declared.estimator.Estimator.{Estimator}
-use Rattle.tcp_machine.specs.Estimator.{after_sample}
+use Rattle.tcp_machine.specs.Estimator.{after_sample, without_doubling}
 use Rattle.tcp_machine.specs.Congestion as congestion
 use Rattle.tcp_machine.specs.Path.{mss_acknowledged, path_acknowledged}
 use Rattle.tcp_machine.specs.Connection.{Connection, Transmission}
@@ -135,10 +135,32 @@ abbrev pub waiting_after : ℕ → (before after : Transmission) → Option ℕ 
 waiting_after now before after since =
     if is_waited_for after then (if is_waited_for before then since_first now since else Some now) else None
 
+-- The peer's window was closed, and is open. What waits goes now, so it has the time-out that was measured, not the one that
+-- probes doubled
+abbrev pub is_closed_window : Transmission → Bool
+is_closed_window t = nat_le t.told_edge t.sender.una
+
+abbrev pub opens : (before after : Transmission) → Bool
+opens before after = is_closed_window before && not (is_closed_window after)
+
+abbrev pub timeout_after : (opened : Bool) → (shortest : ℕ) → Estimator → ℕ
+timeout_after opened shortest e = if opened then (without_doubling shortest e).timeout else e.timeout
+
+abbrev pub resend_after : (opened : Bool) → (now timeout : ℕ) → Option ℕ → Option ℕ
+resend_after opened now timeout None = None
+resend_after opened now timeout (Some t) = Some (if opened then later now timeout else t)
+
 abbrev pub with_waiting : ℕ → (before : Transmission) → Connection → Connection
-with_waiting now before c = record c {
-  timers = record c.timers { waiting_since = waiting_after now before c.transmission c.timers.waiting_since };
-}
+with_waiting now before c =
+    let opened = opens before c.transmission in
+    let timeout = timeout_after opened c.settings.shortest_timeout c.estimator in
+    record c {
+      estimator = record c.estimator { timeout = timeout };
+      timers = record c.timers {
+        resend_at = resend_after opened now timeout c.timers.resend_at;
+        waiting_since = waiting_after now before c.transmission c.timers.waiting_since;
+      };
+    }
 
 -- what an acknowledgement that is believed changes
 abbrev pub after_acknowledgement : (now a : ℕ) → Segment → Piece → Connection → Connection

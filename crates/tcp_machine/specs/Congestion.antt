@@ -128,3 +128,7 @@ after_timeout is_first mss flight top c = record {
 -- nothing new (RFC 3042 2)
 abbrev pub beyond_window : ℕ → Congestion → ℕ
 beyond_window mss c = if c.is_recovering then 0 else min 2 c.duplicates * mss
+
+-- the window after nothing was sent for a time-out: that of a new connection at most (RFC 5681 4.1)
+abbrev pub restart_window : (mss window : ℕ) → ℕ
+restart_window mss window = min window (initial_window mss)

@@ -43,3 +43,11 @@ after_sample shortest r e = record {
 -- the time ran out: it is doubled (5.5)
 abbrev pub after_timeout : Estimator → Estimator
 after_timeout e = record e { timeout = min longest_timeout (e.timeout + e.timeout) }
+
+-- the time-out as it was measured last, whatever it was doubled since
+abbrev pub measured_timeout : ℕ → Option RoundTrip → ℕ → ℕ
+measured_timeout shortest None timeout = timeout
+measured_timeout shortest (Some t) timeout = timeout_for shortest t
+
+abbrev pub without_doubling : ℕ → Estimator → Estimator
+without_doubling shortest e = record e { timeout = measured_timeout shortest e.round_trip e.timeout }

@@ -67,6 +67,7 @@ timers_at now = record {
   heard_at = now;
   probes = 0;
   idle_since = now;
+  sent_at = now;
   waiting_since = None;
   ends_at = None;
 }

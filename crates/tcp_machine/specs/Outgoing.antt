@@ -226,6 +226,7 @@ abbrev pub timers_sent : (now after : ℕ) → (is_new : Bool) → Connection �
 timers_sent now after is_new c = record c.timers {
   resend_at = if is_none c.timers.resend_at then Some (later now c.estimator.timeout) else c.timers.resend_at;
   measured = if is_new && is_none c.timers.measured then Some (record { position = after; sent_at = now }) else c.timers.measured;
+  sent_at = now;
   waiting_since = since_first now c.timers.waiting_since;
 }
 

@@ -124,6 +124,20 @@ after_keep_alive now c =
 abbrev pub after_time_wait : ℕ → Connection → Connection
 after_time_wait now c = if has_passed c.timers.ends_at now then ended None c else c
 
+-- Where all is acknowledged, and nothing was sent for a time-out, no acknowledgements pace what is sent next (RFC 5681 4.1)
+abbrev pub is_unpaced : ℕ → Connection → Bool
+is_unpaced now c = is_all_acknowledged c.transmission.sender && nat_le (later c.timers.sent_at c.estimator.timeout) now
+
+abbrev pub with_restart_window : ℕ → Connection → Connection
+with_restart_window now c = record c {
+  congestion = record c.congestion {
+    window =
+        if is_unpaced now c then congestion.restart_window c.transmission.mss c.congestion.window else c.congestion.window;
+  };
+}
+
 -- all timers, at an instant
 abbrev pub after_timers : ℕ → Connection → Connection
-after_timers now c = with_probe_timer now (after_keep_alive now (after_resend_timer now (after_user_timeout now (after_time_wait now c))))
+after_timers now c =
+    with_restart_window now
+    (with_probe_timer now (after_keep_alive now (after_resend_timer now (after_user_timeout now (after_time_wait now c)))))

@@ -29,9 +29,8 @@ impl Congestion {
     pub fn new(mss: u16) -> Congestion
         ensures { result ≡ spec.new_congestion mss }
     {
-        let mss = u64::from(mss);
         Congestion {
-            window: (10 * mss).min((2 * mss).max(14_600)),
+            window: initial_window(mss),
             threshold: LARGEST,
             credit: 0,
             duplicates: 0,
@@ -60,6 +59,13 @@ impl Congestion {
             window: u64::from(mss),
             ..*self
         }
+    }
+
+    /// Nothing was sent for a time-out: the window is that of a new connection at most (RFC 5681 4.1).
+    pub fn restart(&mut self, mss: u16)
+        ensures { self.new ≡ record self.old { window = spec.restart_window mss self.old.window } }
+    {
+        self.window = self.window.min(initial_window(mss));
     }
 
     /// How many octets beyond the window may be on their way: a segment more for each of the first two acknowledgements that
@@ -223,6 +229,14 @@ impl Congestion {
             ..*self
         }
     }
+}
+
+/// How much may be on its way at first (RFC 6928 2).
+fn initial_window(mss: u16) -> u64
+    ensures { result ≡ spec.initial_window mss }
+{
+    let mss = u64::from(mss);
+    (10 * mss).min((2 * mss).max(14_600))
 }
 
 /// Half of what is on its way, two segments at least (RFC 5681 3.1, equation 4).

@@ -59,6 +59,19 @@ impl Estimator {
             timeout: plus_at_most(LONGEST_TIMEOUT, self.timeout, self.timeout),
         }
     }
+
+    /// The estimator with the time-out as it was measured last, whatever it was doubled since; before any measurement it stays.
+    pub fn without_doubling(&self, shortest: u64) -> Estimator
+        ensures { result ≡ spec.without_doubling shortest self.now }
+    {
+        Estimator {
+            round_trip: self.round_trip,
+            timeout: match &self.round_trip {
+                None => self.timeout,
+                Some(round_trip) => timeout_for(shortest, round_trip),
+            },
+        }
+    }
 }
 
 /// SRTT and RTTVAR after a measurement.

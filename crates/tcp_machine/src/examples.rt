@@ -7,7 +7,7 @@ ghost use Rattle.tcp_machine.specs.Examples.Timeouts.{Estimates, Losses};
 ghost use Rattle.tcp_machine.specs.Examples.Transfers.{InOrder, OutOfOrder, OneCell, Nagle, Retransmission, ClosedWindow, SmallWindow, Wraps, SynOptions};
 ghost use Rattle.tcp_machine.specs.Examples.Sack.{Rfc2018, MoreSack, SackOfRing};
 ghost use Rattle.tcp_machine.specs.Examples.Paths.{PathsTold, BlackHoles, Unreachables};
-ghost use Rattle.tcp_machine.specs.Examples.Silence.{KeepAlive, GivingUp, TimesOut, Recovery};
+ghost use Rattle.tcp_machine.specs.Examples.Silence.{GivingUp, HandshakesTimed, KeepAlive, Recovery, Reopens, TimesOut};
 
 /// Handshakes (RFC 9293 3.5, figures 6 to 8).
 pub fn handshakes()
@@ -65,6 +65,8 @@ pub fn silences()
     ensures giving_up { GivingUp }
     ensures times_out { TimesOut }
     ensures recovery { Recovery }
+    ensures reopens { Reopens }
+    ensures handshakes { HandshakesTimed }
 {}
 
 /// Blocks of selective acknowledgements (RFC 2018 4, 7).

@@ -24,6 +24,8 @@ pub struct Timers {
     pub probes: u64,
     /// When something arrived last, or a silent peer was asked whether it is still there, whichever came later.
     pub idle_since: u64,
+    /// When octets, or the end, were sent last.
+    pub sent_at: u64,
     /// Since when the peer has let something wait that was sent.
     pub waiting_since: Option<u64>,
     /// When TIME-WAIT ends.

@@ -8,7 +8,7 @@ use Rattle.tcp_machine.specs.Positions.{number_at}
 use Rattle.tcp_machine.specs.Sending.{after_position}
 use Rattle.tcp_machine.specs.Congestion as congestion
 use Rattle.tcp_machine.specs.Connection.{Connection, Transmission}
-use Rattle.tcp_machine.specs.Acknowledgements.{flight, after_progress, with_pending, is_waited_for, since_first}
+use Rattle.tcp_machine.specs.Acknowledgements.{flight, after_progress, with_pending, is_closed_window, is_waited_for, resend_after, since_first, timeout_after}
 
 -- an acknowledgement tells nothing new, if the segment is empty
 abbrev pub tells_nothing : (a window : ℕ) → (is_empty : Bool) → Transmission → Bool
@@ -38,6 +38,16 @@ with_waiting_from now was_waited_for c = record c {
         then (if was_waited_for then since_first now c.timers.waiting_since else Some now) else None;
   };
 }
+
+-- the window may have opened, where it is known whether it was closed before
+abbrev pub with_opening_from : (now : ℕ) → (was_closed : Bool) → Connection → Connection
+with_opening_from now was_closed c =
+    let opened = was_closed && not (is_closed_window c.transmission) in
+    let timeout = timeout_after opened c.settings.shortest_timeout c.estimator in
+    record c {
+      estimator = record c.estimator { timeout = timeout };
+      timers = record c.timers { resend_at = resend_after opened now timeout c.timers.resend_at };
+    }
 
 -- an acknowledgement arrives in SYN-RECEIVED
 abbrev pub after_ack_of_syn : (now : ℕ) → (keeps : Bool) → (number : ℕ) → Segment → Piece → Connection → Connection

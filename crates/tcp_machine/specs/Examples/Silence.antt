@@ -113,6 +113,38 @@ pub record TimesOut : Type 0 where
   pub anew : (after_timers 14999999 opens_at_last).ending ≡ None
   pub ends_anew : (after_timers 15000000 opens_at_last).ending ≡ Some TimedOut
 
+-- An octet waits for a closed window. It is probed with after 1, 3 and 7 s, and each probe is answered
+abbrev pub answers_closed : ℕ → Connection → Connection
+answers_closed now c = after_segment now (record (ack_segment 300 100) { window = 0 }) (again_at now c)
+
+abbrev pub thrice_probed : Connection
+thrice_probed = answers_closed 7000000 (answers_closed 3000000 (answers_closed 1000000 (after_timers 0 (after_writing (7 ∷ []) closed_at_once))))
+
+abbrev pub reopened : Connection
+reopened = after_segment 8000000 (record (ack_segment 300 100) { window = 1000 }) thrice_probed
+
+pub record Reopens : Type 0 where
+  -- what answers a probe is no duplicate
+  pub none_lost : thrice_probed.congestion.duplicates ≡ 0
+  pub same_threshold : thrice_probed.congestion.threshold ≡ closed_at_once.congestion.threshold
+  -- the octet goes at once when the window opens. It is sent again after the second that was measured, not after the eight of probes
+  pub doubled : thrice_probed.estimator.timeout ≡ 8000000
+  pub at_once : sends 8000000 reopened ≡ Some (record (sent_text 100 300 (7 ∷ [])) { window = 1000 })
+  pub measured : due_at 8000000 (after_sending 8000000 reopened) ≡ Some 9000000
+
+-- The round trip of the handshake is measured: a tenth of a second, and the time-out is three times that. It isn't, if the SYN was
+-- sent twice
+abbrev pub slow_answer : ℕ → Connection → Connection
+slow_answer now c = after_segment now (record (syn_segment 299 (Some 100)) { window = 1000 }) c
+
+abbrev pub asks_slowly : Connection
+asks_slowly = after_sending 0 (opened 0 99 1000 1000 100 (record settings { shortest_timeout = 200000 }))
+
+pub record HandshakesTimed : Type 0 where
+  pub quick : (slow_answer 100000 asks_slowly).estimator.timeout ≡ 300000
+  pub not_twice : (slow_answer 1100000 (again_at 1000000 asks_slowly)).estimator.round_trip ≡ None
+  pub after_a_loss : (slow_answer 1100000 (again_at 1000000 asks_slowly)).estimator.timeout ≡ 3000000
+
 -- Five segments of 100 octets, of which the second is lost. The first is acknowledged, and then thrice the same number
 abbrev pub five_sent : Connection
 five_sent =

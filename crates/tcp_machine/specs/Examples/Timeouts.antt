@@ -16,6 +16,9 @@ pub record Estimates : Type 0 where
   pub doubled : (estimator.after_timeout after_first).timeout ≡ 12000000
   -- a round trip of a millisecond waits for the shortest time-out, and none waits for more than a minute
   pub shortest : (estimator.after_sample 200000 1000 estimator.new_estimator).timeout ≡ 200000
+  -- once a closed window opens it is that of the round trip again; before a round trip was measured it stays doubled
+  pub without_doubling : (estimator.without_doubling 1000000 (estimator.after_timeout after_first)).timeout ≡ 6000000
+  pub not_measured : (estimator.without_doubling 1000000 (estimator.after_timeout estimator.new_estimator)).timeout ≡ 2000000
   pub longest : (estimator.after_timeout (record after_first { timeout = 50000000 })).timeout ≡ 60000000
 
 -- Ten segments are on their way at first (RFC 6928). In slow start each acknowledged one lets two go
@@ -61,6 +64,9 @@ pub record Losses : Type 0 where
   -- after a SYN was lost one segment goes at first, and slow start goes on as far as ever
   pub lost_syn : (congestion.first_congestion 1 1000).window ≡ 1000
   pub lost_syn_threshold : (congestion.first_congestion 1 1000).threshold ≡ congestion.largest
+  -- after silence the window is that of a new connection, if it was larger, and stays otherwise
+  pub restart : congestion.restart_window 1000 50000 ≡ 10000
+  pub small_stays : congestion.restart_window 1000 8000 ≡ 8000
   -- duplicates of what was recovered aren't taken for another loss (RFC 6582 3.2, step 2)
   pub no_second : congestion.is_third 10001 (record lost { is_recovering = false; duplicates = 2 }) ≡ false
   pub next_one : congestion.is_third 10002 (record lost { is_recovering = false; duplicates = 2 }) ≡ true
