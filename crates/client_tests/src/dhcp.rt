@@ -9,6 +9,7 @@ mod octets;
 mod options;
 mod refusals;
 mod renewals;
+mod returns;
 mod routes;
 mod servers;
 mod unusable;

@@ -22,7 +22,8 @@ use Rattle.dhcp_client.specs.Lease.{is_usable, lease_by, lease_of, mtu_of, spans
 use Rattle.dhcp_client.specs.Addresses.{is_mask, is_networks, is_other, mask_of, other_in, others_in, without_gaps}
 use Rattle.dhcp_client.specs.Client.{lease, lease_in, address_in, first_phase, after_reset, after_restart, after_giving_up, must_give_up, is_to_send}
 use Rattle.dhcp_client.specs.Messages.{after_sending, message, message_in, numbered, is_discover, asked_server, is_rebinding}
-use Rattle.dhcp_client.specs.Run.{Event, Receive, Ask, Tell, Reset, Sent, History, begun, after, after_all}
+use Rattle.dhcp_client.specs.Run.{Event, Receive, Ask, Tell, Reset, Claim, Leave, Sent, History, begun, after, after_all, sent_at}
+use Rattle.dhcp_client.specs.Returns.{declined_by, declining, numbered_if, released_by, releasing, with_number}
 use Rattle.dhcp_client.specs.Laws.{Agrees, IsAgreed, IsOther, AreOthers, IsUsable, Gives, LeasesAreAnswered, broadcast, end_of}
 use Rattle.dhcp_client.proofs.Ends.{same_lease, kept}
 
@@ -122,6 +123,16 @@ by_sending hw last true now random d k =
     let is = k.hardware in record { hardware = is; asked = asked_by d.phase now (numbered random d) }
 by_sending hw last false now random d k = k
 
+by_declining : (hw : EthernetAddress) (last : Option Sent) (l : Option DhcpLease) (now random : ℕ) (c : DhcpClient) → Known hw last c →
+    Known hw (option_or (sent_at now (declined_by l (with_number random c))) last) (declining l now (numbered_if l random c))
+by_declining hw last None now random c k = k
+by_declining hw last (Some l) now random c k = let is = k.hardware in record { hardware = is; asked = tt }
+
+by_releasing : (hw : EthernetAddress) (last : Option Sent) (l : Option DhcpLease) (now random : ℕ) (c : DhcpClient) → Known hw last c →
+    Known hw (option_or (sent_at now (released_by l (with_number random c))) last) (releasing l (numbered_if l random c))
+by_releasing hw last None now random c k = k
+by_releasing hw last (Some l) now random c k = let is = k.hardware in record { hardware = is; asked = tt }
+
 by_event : (hw : EthernetAddress) (e : Event) (h : History) → Known hw h.last h.client → Known hw (after e h).last (after e h).client
 by_event hw (Receive m) h k = by_answer hw h.last h.client.asked m h.client k
 by_event hw (Ask now random) h k =
@@ -129,6 +140,8 @@ by_event hw (Ask now random) h k =
     by_sending hw h.last (is_to_send now d) now random d (by_reset hw h.last (must_give_up now h.client) h.client k)
 by_event hw Tell h k = let is = k.hardware in let asked = k.asked in record { hardware = is; asked = asked }
 by_event hw Reset h k = let is = k.hardware in record { hardware = is; asked = tt }
+by_event hw (Claim now random) h k = by_declining hw h.last (lease h.client) now random h.client k
+by_event hw (Leave now random) h k = by_releasing hw h.last (lease h.client) now random h.client k
 
 by_all : (hw : EthernetAddress) (es : List Event) (h : History) → Known hw h.last h.client →
     Known hw (after_all es h).last (after_all es h).client
@@ -340,6 +353,17 @@ unleased (Some address) l e = cc
 begun_unleased : (c : DhcpClient) (l : DhcpLease) → lease (after_reset c) ≡ Some l → ⊥
 begun_unleased c l e = unleased (address_in c.phase) l e
 
+-- nor one that gives its lease back
+declined : (o : Option DhcpLease) (now random : ℕ) (c : DhcpClient) (l : DhcpLease) → lease c ≡ o →
+    lease (declining o now (numbered_if o random c)) ≡ Some l → lease c ≡ Some l
+declined None now random c l is e = e
+declined (Some m) now random c l is e = absurd (cc)
+
+left : (o : Option DhcpLease) (random : ℕ) (c : DhcpClient) (l : DhcpLease) → lease c ≡ o →
+    lease (releasing o (numbered_if o random c)) ≡ Some l → lease c ≡ Some l
+left None random c l is e = e
+left (Some m) random c l is e = absurd (cc)
+
 one_event : (hw : EthernetAddress) (h : History) (e : Event) (l : DhcpLease) → Known hw h.last h.client →
     lease (after e h).client ≡ Some l → (lease h.client ≡ Some l) ⊎ Gives hw h.last e l
 one_event hw h (Receive m) l k e = receives hw h.last h.client.asked h.client m l k.hardware k.asked refl e
@@ -350,6 +374,8 @@ one_event hw h (Ask now random) l k e =
     inl (kept now c l (must_give_up now c) refl there).1
 one_event hw h Tell l k e = inl e
 one_event hw h Reset l k e = absurd (begun_unleased h.client l e)
+one_event hw h (Claim now random) l k e = inl (declined (lease h.client) now random h.client l refl e)
+one_event hw h (Leave now random) l k e = inl (left (lease h.client) random h.client l refl e)
 
 first : (hw : EthernetAddress) (known : Option Ipv4Address) → Known hw None (begun hw known).client
 first hw known = record { hardware = refl; asked = tt }

@@ -6,4 +6,5 @@ pub mod Texts
 pub mod Ends
 pub mod Leases
 pub mod Spacing
+pub mod Declining
 pub mod Renewals

@@ -20,10 +20,11 @@ use Rattle.dhcp_client.specs.Answers.{after_answer, after_type, requesting, leas
 use Rattle.dhcp_client.specs.Answers.{is_answer, is_discovering, renewed_at}
 use Rattle.dhcp_client.specs.Lease.{is_usable, lease_by, lease_of, mtu_of, rebind_span, renew_span, spans_of, times_of}
 use Rattle.dhcp_client.specs.Addresses.{mask_of, other_in, others_in}
-use Rattle.dhcp_client.specs.Client.{lease_in, address_in, first_phase, after_reset, after_restart, after_giving_up, must_give_up, is_to_send, has_come, send_in, if_ending}
+use Rattle.dhcp_client.specs.Client.{lease, lease_in, address_in, first_phase, after_reset, after_restart, after_giving_up, must_give_up, is_to_send, has_come, send_in, if_ending}
 use Rattle.dhcp_client.specs.Messages.{after_sending, message, message_in, message_at, next_at, half_until, numbered}
 use Rattle.dhcp_client.specs.Messages.{are_rebinding, is_discover, renewal, renewal_after}
-use Rattle.dhcp_client.specs.Run.{Event, Receive, Ask, Tell, Reset, Sent, History, begun, after, after_all}
+use Rattle.dhcp_client.specs.Run.{Event, Receive, Ask, Tell, Reset, Claim, Leave, Sent, History, begun, after, after_all, sent_at}
+use Rattle.dhcp_client.specs.Returns.{declined_by, declining, numbered_if, released_by, releasing, with_number}
 use Rattle.dhcp_client.specs.Laws.{AsksFor, IsDue, RenewalsAreInTime, RenewalsWait}
 
 -- The instants of a client with a lease, by what it sent last.
@@ -296,6 +297,16 @@ begun_in : (known : Option Ipv4Address) (last : Option Sent) (c : DhcpClient) �
 begun_in None last c = tt
 begun_in (Some address) last c = tt
 
+by_declining : (last : Option Sent) (l : Option DhcpLease) (now random : ℕ) (c : DhcpClient) → Kept last c →
+    Kept (option_or (sent_at now (declined_by l (with_number random c))) last) (declining l now (numbered_if l random c))
+by_declining last None now random c k = k
+by_declining last (Some l) now random c k = record { asked = tt; phase = tt }
+
+by_releasing : (last : Option Sent) (l : Option DhcpLease) (now random : ℕ) (c : DhcpClient) → Kept last c →
+    Kept (option_or (sent_at now (released_by l (with_number random c))) last) (releasing l (numbered_if l random c))
+by_releasing last None now random c k = k
+by_releasing last (Some l) now random c k = record { asked = tt; phase = tt }
+
 by_event : (e : Event) (h : History) → Kept h.last h.client → Kept (after e h).last (after e h).client
 by_event (Receive m) h k = by_answer h.last h.client.asked m h.client k refl
 by_event (Ask now random) h k =
@@ -303,6 +314,8 @@ by_event (Ask now random) h k =
     by_sending (is_to_send now d) h.last now random d refl (by_reset h.last (must_give_up now h.client) h.client k)
 by_event Tell h k = told h.last h.client k
 by_event Reset h k = record { asked = tt; phase = begun_in (address_in h.client.phase) h.last (after_reset h.client) }
+by_event (Claim now random) h k = by_declining h.last (lease h.client) now random h.client k
+by_event (Leave now random) h k = by_releasing h.last (lease h.client) now random h.client k
 
 by_all : (es : List Event) (h : History) → Kept h.last h.client → Kept (after_all es h).last (after_all es h).client
 by_all [] h k = k

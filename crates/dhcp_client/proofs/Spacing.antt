@@ -15,9 +15,10 @@ use Rattle.dhcp_client.specs.declared.lease.DhcpLease.{DhcpLease}
 use Rattle.dhcp_client.specs.declared.lease.LeaseTimes.{LeaseTimes}
 use Rattle.dhcp_client.specs.Answers.{after_answer, after_type, requesting, leased, is_answer, is_discovering}
 use Rattle.dhcp_client.specs.Lease.{is_usable, lease_of}
-use Rattle.dhcp_client.specs.Client.{after_restart, after_giving_up, must_give_up, is_to_send, has_come, send_in, if_ending}
+use Rattle.dhcp_client.specs.Returns.{declining, numbered_if, releasing}
+use Rattle.dhcp_client.specs.Client.{after_restart, lease, after_giving_up, must_give_up, is_to_send, has_come, send_in, if_ending}
 use Rattle.dhcp_client.specs.Messages.{after_asking, after_sending, message, message_in, numbered, is_discover}
-use Rattle.dhcp_client.specs.Run.{Event, Receive, Ask, Tell, Reset, client_after, client_after_all}
+use Rattle.dhcp_client.specs.Run.{Event, Receive, Ask, Tell, Reset, Claim, Leave, client_after, client_after_all}
 use Rattle.dhcp_client.specs.Laws.{type_at, KindsAreSpaced}
 
 -- the two instants before which nothing is sent
@@ -111,11 +112,21 @@ by_asking now random c =
     let d = after_giving_up now c in
     over c d (after_asking now random c) (by_reset (must_give_up now c) c) (by_sending (is_to_send now d) now random d refl)
 
+by_declining : (l : Option DhcpLease) (now random : ℕ) (c : DhcpClient) → Gates c (declining l now (numbered_if l random c))
+by_declining None now random c = same c
+by_declining (Some l) now random c = (omega arith, omega arith)
+
+by_releasing : (l : Option DhcpLease) (random : ℕ) (c : DhcpClient) → Gates c (releasing l (numbered_if l random c))
+by_releasing None random c = same c
+by_releasing (Some l) random c = same c
+
 by_event : (e : Event) (c : DhcpClient) → Gates c (client_after e c)
 by_event (Receive m) c = by_answer c.asked m c
 by_event (Ask now random) c = by_asking now random c
 by_event Tell c = same c
 by_event Reset c = same c
+by_event (Claim now random) c = by_declining (lease c) now random c
+by_event (Leave now random) c = by_releasing (lease c) random c
 
 by_all : (es : List Event) (c : DhcpClient) → Gates c (client_after_all es c)
 by_all [] c = same c

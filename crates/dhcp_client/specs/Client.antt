@@ -26,6 +26,7 @@ new_client hardware_addr known = record {
   next_at = 0;
   discover_after = 0;
   request_after = 0;
+  declined = 0;
   has_changed = false;
 }
 

@@ -16,7 +16,8 @@ use Rattle.dhcp_client.specs.Answers.{after_receiving}
 use Rattle.dhcp_client.specs.Client.{lease, poll_at}
 use Rattle.dhcp_client.specs.Lease.{is_usable}
 use Rattle.dhcp_client.specs.Messages.{after_asking, message_at}
-use Rattle.dhcp_client.specs.Run.{Event, Receive, Ask, Tell, Reset, Sent, begun, after, after_all, client_after, client_after_all}
+use Rattle.dhcp_client.specs.Returns.{after_decline}
+use Rattle.dhcp_client.specs.Run.{Event, Receive, Ask, Tell, Reset, Claim, Leave, Sent, begun, after, after_all, client_after, client_after_all}
 
 abbrev pub broadcast : Ipv4Address
 broadcast = record { bits = 0xffff_ffff }
@@ -68,6 +69,8 @@ Gives hardware_addr last (Receive m) l = IsAgreed hardware_addr last m l
 Gives hardware_addr last (Ask now random) l = ⊥
 Gives hardware_addr last Tell l = ⊥
 Gives hardware_addr last Reset l = ⊥
+Gives hardware_addr last (Claim now random) l = ⊥
+Gives hardware_addr last (Leave now random) l = ⊥
 
 -- a lease was there before an event, or the event is a message that agrees to what was sent last
 abbrev pub LeasesAreAnswered : Type 0
@@ -211,3 +214,23 @@ abbrev pub ResetsAskAgain : Type 0
 ResetsAskAgain =
     (now random at : ℕ) (c : DhcpClient) (l : DhcpLease) → now < 0xffff_ffff_ffff_ffff → lease c ≡ Some l →
     poll_at (client_after Reset c) ≡ Some at → at ≤ now → AsksForOld (message_at now random (client_after Reset c)) l.address
+
+-- the owner asks for messages before an instant alone, and declines and releases before it
+abbrev pub IsEventBefore : ℕ → Event → Type 0
+IsEventBefore limit (Receive m) = Unit
+IsEventBefore limit (Ask now random) = now < limit
+IsEventBefore limit Tell = Unit
+IsEventBefore limit Reset = Unit
+IsEventBefore limit (Claim now random) = now < limit
+IsEventBefore limit (Leave now random) = now < limit
+
+abbrev pub AreBefore : ℕ → List Event → Type 0
+AreBefore limit [] = Unit
+AreBefore limit (e ∷ es) = IsEventBefore limit e × AreBefore limit es
+
+-- for ten seconds after a lease was declined the client sends nothing, whatever messages come, and has no lease
+abbrev pub DeclinesWait : Type 0
+DeclinesWait =
+    (now random later other : ℕ) (c : DhcpClient) (l : DhcpLease) (es : List Event) → lease c ≡ Some l → AreBefore (now + 10000000) es →
+    later < now + 10000000 → (message_at later other (client_after_all es (after_decline now random c)) ≡ None)
+    × (lease (client_after_all es (after_decline now random c)) ≡ None)

@@ -5,5 +5,7 @@ pub mod Client
 pub mod Laws
 pub mod Lease
 pub mod Messages
+pub mod Probing
+pub mod Returns
 pub mod Run
 pub mod Details

@@ -10,6 +10,7 @@ use Rattle.dhcp_client.specs.declared.messages.DhcpMessage.{DhcpMessage}
 use Rattle.dhcp_client.specs.Answers.{after_receiving}
 use Rattle.dhcp_client.specs.Client.{after_reset, after_telling, new_client}
 use Rattle.dhcp_client.specs.Messages.{after_asking, message_at}
+use Rattle.dhcp_client.specs.Returns.{after_decline, after_release, decline_at, release_at}
 
 pub data Event : Type 0 where
   -- a message comes
@@ -20,23 +21,33 @@ pub data Event : Type 0 where
   Tell : Event
   -- the owner lets the client begin anew
   Reset : Event
+  -- the owner has seen that another host uses the address of the lease, or needs it no more
+  Claim : (now random : ℕ) → Event
+  Leave : (now random : ℕ) → Event
 
 abbrev pub client_after : Event → DhcpClient → DhcpClient
 client_after (Receive message) c = after_receiving message c
 client_after (Ask now random) c = after_asking now random c
 client_after Tell c = after_telling c
 client_after Reset c = after_reset c
+client_after (Claim now random) c = after_decline now random c
+client_after (Leave now random) c = after_release random c
 
 -- a message that was sent, and when
 pub record Sent : Type 0 where
   pub at : ℕ
   pub message : DhcpMessage
 
+abbrev pub sent_at : ℕ → Option DhcpMessage → Option Sent
+sent_at now m = option_map (λ m. record { at = now; message = m }) m
+
 abbrev pub sent_by : Event → DhcpClient → Option Sent
 sent_by (Receive message) c = None
-sent_by (Ask now random) c = option_map (λ m. record { at = now; message = m }) (message_at now random c)
+sent_by (Ask now random) c = sent_at now (message_at now random c)
 sent_by Tell c = None
 sent_by Reset c = None
+sent_by (Claim now random) c = sent_at now (decline_at random c)
+sent_by (Leave now random) c = sent_at now (release_at random c)
 
 -- a client, and what it sent last
 pub record History : Type 0 where

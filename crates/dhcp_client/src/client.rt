@@ -56,6 +56,8 @@ pub struct DhcpClient {
     pub discover_after: u128,
     /// Before this instant no REQUEST is sent.
     pub request_after: u128,
+    /// How many leases were declined, up to 255.
+    pub declined: u8,
     /// Whether the lease has changed since the owner was told.
     pub has_changed: bool,
 }
@@ -78,6 +80,7 @@ impl DhcpClient {
             next_at: 0,
             discover_after: 0,
             request_after: 0,
+            declined: 0,
             has_changed: false,
         }
     }

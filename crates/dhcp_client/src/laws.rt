@@ -1,5 +1,5 @@
 //! What a client promises, whatever messages come and whenever it is asked, each law as the contract of an empty function.
-ghost use Rattle.dhcp_client.specs.Laws.{AgreementsAreTaken, DiscoveryGoesOn, KindsAreSpaced, LeasesAreAnswered, LeasesEnd};
+ghost use Rattle.dhcp_client.specs.Laws.{AgreementsAreTaken, DeclinesWait, DiscoveryGoesOn, KindsAreSpaced, LeasesAreAnswered, LeasesEnd};
 ghost use Rattle.dhcp_client.specs.Laws.{LeasesStay, NeverStuck, OffersAreTaken, PollAtIsExact, RenewalsAreAsked};
 ghost use Rattle.dhcp_client.specs.Laws.{RenewalsAreInTime, RenewalsWait, ResetsAskAgain};
 
@@ -75,4 +75,9 @@ pub fn agreements_are_taken()
 /// server's identifier (RFC 2131 4.3.2).
 pub fn resets_ask_again()
     ensures { ResetsAskAgain }
+{}
+
+/// A client that has declined its lease has none, and sends nothing for ten seconds, whatever messages come.
+pub fn declines_wait()
+    ensures { DeclinesWait }
 {}

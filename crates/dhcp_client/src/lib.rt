@@ -11,6 +11,8 @@ pub mod message;
 pub mod messages;
 pub mod options;
 pub mod packets;
+pub mod probing;
+pub mod returns;
 pub mod routes;
 pub mod wishes;
 
@@ -21,5 +23,6 @@ pub use message::{DhcpMessageType, DhcpRepr};
 pub use messages::DhcpMessage;
 pub use options::{DhcpOptions, OptionData};
 pub use packets::DhcpRoom;
+pub use probing::Probing;
 pub use routes::{DhcpRoute, DhcpRoutes};
 pub use wishes::DhcpWishes;

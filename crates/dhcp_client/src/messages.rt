@@ -112,7 +112,7 @@ impl DhcpClient {
     }
 
     /// A message of the client.
-    const fn repr(
+    pub(crate) const fn repr(
         &self,
         message_type: DhcpMessageType,
         broadcast: bool,

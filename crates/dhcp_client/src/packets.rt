@@ -2,9 +2,9 @@
 ghost use Rattle.std.specs.Prelude.{◌≡◌, ◌≤◌, ◌<◌, ◌+◌, ◌^◌, ◌++◌, [], length};
 ghost use Rattle.dhcp_client.specs.Details.Packets as spec;
 
-use crate::DhcpMessage;
 use crate::message::{CLIENT_PORT, SERVER_PORT};
 use crate::wishes::DhcpWishes;
+use crate::{DhcpMessage, DhcpMessageType};
 use ip_wire::emit::FrameBuffer;
 use ip_wire::{IpAddress, IpProtocol, Ipv4Address, Ipv4Fragment, Ipv4Repr, UdpRepr};
 
@@ -54,11 +54,25 @@ fn build_message(message: &DhcpMessage, wishes: &DhcpWishes, out: &mut FrameBuff
     ensures items { out.new ≡ spec.message_text wishes.now message.now }
     ensures len { length out.new ≤ 405 }
 {
-    let parameters = wishes.all_parameters();
     out.clear();
+    if !asks(&message.repr.message_type) {
+        message.repr.emit(&[], &[], out);
+        return;
+    }
+    let parameters = wishes.all_parameters();
     message
         .repr
         .emit(parameters.as_slice(), wishes.host_name.as_slice(), out);
+}
+
+/// Whether a message of a type asks for options, and tells the host's name (RFC 2131 table 5).
+const fn asks(message_type: &DhcpMessageType) -> bool
+    ensures { result ≡ spec.asks message_type.now }
+{
+    match message_type {
+        DhcpMessageType::Decline | DhcpMessageType::Release => false,
+        _ => true,
+    }
 }
 
 /// Builds a packet with these octets as its payload, from port 68 of an address to port 67 of another one, in place of what

@@ -1,5 +1,5 @@
 -- A client's messages as octets (RFC 2131 4.1): UDP from port 68 to port 67.
-use Rattle.std.specs.Prelude.{ℕ, ◌+◌, true, List, ◌++◌, length}
+use Rattle.std.specs.Prelude.{ℕ, ◌+◌, Bool, true, false, List, [], ◌++◌, length, if◌then◌else◌}
 use Rattle.ip_address.specs.declared.ipv4.Ipv4Address.{Ipv4Address}
 use Rattle.ip_address.specs.declared.ip.IpAddress.TheVariants.{Ipv4}
 use Rattle.ip_address.specs.declared.protocol.IpProtocol.TheVariants as protocol
@@ -8,13 +8,27 @@ use Rattle.ip_wire.specs.declared.udp.UdpRepr.{UdpRepr}
 use Rattle.ip_wire.specs.Ipv4Packet as ipv4
 use Rattle.ip_wire.specs.Udp as udp
 use Rattle.dhcp_client.specs.Details.Message as dhcp
+use Rattle.dhcp_client.specs.declared.message.DhcpMessageType.{DhcpMessageType}
+use Rattle.dhcp_client.specs.declared.message.DhcpMessageType.TheVariants.{Discover, Offer, Request, Decline, Ack, Nak, Release, Inform}
 use Rattle.dhcp_client.specs.declared.messages.DhcpMessage.{DhcpMessage}
 use Rattle.dhcp_client.specs.declared.wishes.DhcpWishes.{DhcpWishes}
 use Rattle.dhcp_client.specs.Details.Wishes.{parameters_of}
 
+-- a DECLINE and a RELEASE ask for nothing, and tell no name (RFC 2131 table 5)
+abbrev pub asks : DhcpMessageType → Bool
+asks Discover = true
+asks Offer = true
+asks Request = true
+asks Decline = false
+asks Ack = true
+asks Nak = true
+asks Release = false
+asks Inform = true
+
 -- a message, with what it asks for (RFC 2132 9.8), and the host's name
 abbrev pub message_text : DhcpWishes → DhcpMessage → List ℕ
-message_text w m = dhcp.text m.repr (parameters_of w) w.host_name.items
+message_text w m =
+    if asks m.repr.message_type then dhcp.text m.repr (parameters_of w) w.host_name.items else dhcp.text m.repr [] []
 
 abbrev pub header_of : Ipv4Address → Ipv4Address → ℕ → Ipv4Repr
 header_of src dst len = record { src_addr = src; dst_addr = dst; next_header = protocol.Udp; payload_len = 8 + len; hop_limit = 64 }
