@@ -31,6 +31,7 @@ use Rattle.iface_host.specs.Frames.{Gives, IsDue, IsWritten, Made, PollsInto, Ro
 use Rattle.iface_host.specs.Fragments.{MakesRoom}
 use Rattle.iface_host.specs.Guarded.{Admitted, Defends, Dropped, NextIs, Ordinary, Receives, Refused, TakesGuarded, is_ordinary_to, after_arrival, after_sending, hardware_addr_of, is_admitted}
 use Rattle.iface_host.specs.Counters.{after_handing, after_taking}
+use Rattle.iface_host.specs.Claims.{after_claim}
 use Rattle.iface_host.specs.LastErrors.{after_error}
 use Rattle.iface_host.specs.Outbox.{Tells, Waiting, with_room}
 use Rattle.iface_host.specs.RoundDevice as device
@@ -137,7 +138,7 @@ ordinary t frame n before after old mid new is mid_is takes =
 
 pub admitted : (t : ℤ) (frame : List ℕ) (n : ℕ) (before after : List ℕ) (old mid new : IfaceHost) →
     is_admitted t frame old ≡ true → mid ≡ after_arrival t frame old → (roomy : IfaceHost) → MakesRoom t frame true mid roomy →
-    TakesGuarded t frame n before after (after_error frame roomy) new → Receives t frame n before after old new
+    TakesGuarded t frame n before after (after_claim frame (after_error frame roomy)) new → Receives t frame n before after old new
 admitted t frame n before after old mid new is mid_is roomy makes takes =
     Admitted is roomy (subst (λ (h : IfaceHost). MakesRoom t frame true h roomy) mid_is makes) takes
 

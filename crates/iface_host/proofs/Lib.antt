@@ -1,3 +1,4 @@
+mod ClaimCalls
 mod ErrorCalls
 mod ErrorExamples
 mod ErrorLaws

@@ -17,6 +17,7 @@ use Rattle.host_machine.specs.Context.Host.{Host as Machine, with_igmp_report, w
 use Rattle.host_machine.specs.Interface.Config.{if_ethernet}
 use Rattle.guard.specs.Watch as guard
 use Rattle.iface_host.specs.Calls.{addresses_of}
+use Rattle.iface_host.specs.Claims.{after_claim}
 use Rattle.iface_host.specs.Counters.{after_handing}
 use Rattle.iface_host.specs.Fragments.{MakesRoom}
 use Rattle.iface_host.specs.Frames.{Gives, IsWritten, Takes}
@@ -135,13 +136,13 @@ pub record TakesGuarded (t : ℤ) (frame : List ℕ) (n : ℕ) (before after : L
   pub keeps : Changes (kept_by standing) taken new
 
 -- An ordinary frame is taken. Another one that is admitted may have taken a token of the guard's, and room is made for its fragment, if it
--- has one; one whose fragment is refused changes nothing else. What it says of a packet of the host is kept. One that isn't admitted changes nothing but what the guard keeps, and is
+-- has one; one whose fragment is refused changes nothing else. What it says of a packet of the host is kept, and what it says of a watched address. One that isn't admitted changes nothing but what the guard keeps, and is
 -- answered by an announcement if one is owed.
 pub data Receives (t : ℤ) (frame : List ℕ) (n : ℕ) (before after : List ℕ) (old new : IfaceHost) : Type 0 where
   Ordinary : is_ordinary_to frame old ≡ true → TakesGuarded t frame n before after (after_arrival t frame old) new →
       Receives t frame n before after old new
   Admitted : is_admitted t frame old ≡ true → (roomy : IfaceHost) → MakesRoom t frame true (after_arrival t frame old) roomy →
-      TakesGuarded t frame n before after (after_error frame roomy) new → Receives t frame n before after old new
+      TakesGuarded t frame n before after (after_claim frame (after_error frame roomy)) new → Receives t frame n before after old new
   Refused : is_admitted t frame old ≡ true → MakesRoom t frame false (after_arrival t frame old) new → n ≡ 0 → after ≡ before →
       Receives t frame n before after old new
   Dropped : is_admitted t frame old ≡ false → Defends n before after (after_arrival t frame old) new →

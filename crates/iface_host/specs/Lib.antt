@@ -4,6 +4,7 @@ pub mod RoundDevice
 pub mod Names
 pub mod Stands
 pub mod Calls
+pub mod Claims
 pub mod Properties
 pub mod Neighbors
 pub mod Sockets

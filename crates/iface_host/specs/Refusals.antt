@@ -1,9 +1,9 @@
 -- Why calls are refused: the first of the reasons that holds, in their order.
-use Rattle.std.specs.Prelude.{ℕ, ℤ, pos, ◌+◌, ◌==◌, ◌&&◌, nat_le, nat_lt, max, Bool}
+use Rattle.std.specs.Prelude.{ℕ, ℤ, pos, ◌+◌, ◌==◌, ◌&&◌, ◌||◌, not, nat_le, nat_lt, max, Bool}
 use Rattle.std.specs.Prelude.{is_some, List, length, Option, Some, None, if◌then◌else◌}
 use Rattle.std.specs.Option.{option_and_then}
 use Rattle.std.specs.Ordering.{int_cmp, is_le}
-use Rattle.ip_address.specs.Ip.{is_unspecified}
+use Rattle.ip_address.specs.Ip.{is_unicast, is_unspecified}
 use Rattle.ip_address.specs.Protocol.{version_of}
 use Rattle.ip_address.specs.declared.ip.IpAddress.{IpAddress}
 use Rattle.ip_address.specs.declared.protocol.IpVersion.{IpVersion}
@@ -15,12 +15,13 @@ use Rattle.sockets.specs.Queue.{first_of, is_room}
 use Rattle.sockets.specs.Kinds.{down_icmp, down_raw, down_udp}
 use Rattle.socket_set.specs.SocketSet.{socket_at}
 use Rattle.sockets.specs.Udp.{UdpSocket}
+use Rattle.iface_host.specs.Calls.{has_route}
 use Rattle.iface_host.specs.Names.{handle_named}
 use Rattle.iface_host.specs.Sockets.{Socket}
 use Rattle.iface_host.specs.declared.host.IfaceHost.{IfaceHost}
 use Rattle.iface_host.specs.declared.refusal.Refusal.{Refusal}
 use Rattle.iface_host.specs.declared.refusal.Refusal.TheVariants.{BadAddress, BadMoment, BadPort, Empty}
-use Rattle.iface_host.specs.declared.refusal.Refusal.TheVariants.{NoRoom, NoSocket, QueueFull, TooLong}
+use Rattle.iface_host.specs.declared.refusal.Refusal.TheVariants.{NoRoom, NoRoute, NoSocket, QueueFull, TooLong}
 
 -- the socket of a kind that a number names, if it names one
 abbrev pub kind_at : {S : Type 0} → (Socket → Option S) → IfaceHost → ℕ → Option S
@@ -54,6 +55,11 @@ abbrev pub may_send : ℕ → IpVersion → ℕ → ℕ → Bool
 may_send mtu Ipv4 header len = nat_le len 65495 && nat_le (len + header + 20) (max mtu 4096)
 may_send mtu Ipv6 header len = nat_le len 65495 && nat_le (len + header + 40) mtu
 
+-- a network of the host has the destination, or a route does, though its end may have passed; groups and everybody need none (RFC 1112
+-- 6.2, RFC 1122 3.3.1)
+abbrev pub is_reached : IfaceHost → IpAddress → Bool
+is_reached host a = not (is_unicast a) || has_route (pos 0) host a
+
 abbrev pub if_full : Bool → Option Refusal
 if_full is_room = if is_room then None else Some QueueFull
 
@@ -64,15 +70,18 @@ abbrev pub icmp_unsent : IfaceHost → ℕ → IpAddress → ℕ → Option Refu
 icmp_unsent host n remote len =
     if is_unspecified remote then Some BadAddress
     else (if may_send host.ip_mtu (version_of remote) 0 len
-    then of_socket (λ (s : IcmpSocket). if_full (is_room s.tx len)) (kind_at down_icmp host n) else Some TooLong)
+    then (if is_reached host remote
+    then of_socket (λ (s : IcmpSocket). if_full (is_room s.tx len)) (kind_at down_icmp host n) else Some NoRoute)
+    else Some TooLong)
 
 abbrev pub udp_unsent : IfaceHost → ℕ → IpEndpoint → ℕ → Option Refusal
 udp_unsent host n remote len =
     if remote.port == 0 then Some BadPort
     else (if is_unspecified remote.addr then Some BadAddress
     else (if may_send host.ip_mtu (version_of remote.addr) 8 len
+    then (if is_reached host remote.addr
     then of_socket (λ (s : UdpSocket). if s.endpoint.port == 0 then Some BadPort else if_full (is_room s.tx len))
-    (kind_at down_udp host n)
+    (kind_at down_udp host n) else Some NoRoute)
     else Some TooLong))
 
 -- no socket, of whatever kind, is named

@@ -69,7 +69,7 @@ abbrev pub watch_for : Settings → Watch
 watch_for s = watch_on s.hardware_addr s.watch
 
 -- it was just made: it stands for the machine's first host; its places are free, its numbers name none, no frame waits,
--- and no socket does; nothing changed, nothing was counted, its guard is that of the settings, and no error was told
+-- and no socket does; nothing changed, nothing was counted, its guard is that of the settings, no error was told, and no address is watched
 pub record IsFirst (s : Settings) (host : IfaceHost) : Type 0 where
   pub stands : StandsFor host (first_machine s host.sockets)
   pub some_time : 0 < s.reassembly_timeout
@@ -83,6 +83,7 @@ pub record IsFirst (s : Settings) (host : IfaceHost) : Type 0 where
   pub frames : host.frames ≡ no_frames
   pub watch : host.watch ≡ watch_for s
   pub errors : host.errors ≡ []
+  pub watched : host.watched ≡ None
 
 -- nothing but the interface changed, and by a rule: from each host that it stood for, the rule leads to
 -- one that it stands for

@@ -26,7 +26,8 @@ impl IfaceHost {
     /// nothing but what the guard keeps, and is answered by the announcement of an own address, if one is owed; of a
     /// response that it holds back nothing is written. Of one that it admits less may be left: the entry of its sender
     /// expires sooner, an answer to a query that waits stays, and neighbours stay where nothing is learnt of routers. What a
-    /// message of ICMP says of a packet of the host is kept for [`IfaceHost::take_packet_error`].
+    /// message of ICMP says of a packet of the host is kept for [`IfaceHost::take_packet_error`], and what one of ARP says of a watched
+    /// address for [`IfaceHost::take_watched`].
     /// `BadMoment` if the moment is out of range, `NoRoom` if the buffer has less than 1,514 octets.
     pub fn receive(&mut self, now: i64, frame: &[u8], out: &mut [u8]) -> Result<usize, Refusal>
         ensures why { result_err result ≡ frame_refusal now (length out.old) }
@@ -59,6 +60,7 @@ impl IfaceHost {
             return 0;
         }
         self.note_error(frame);
+        self.note_claim(frame);
         self.take_guarded(now, frame, out)
     }
 

@@ -11,6 +11,7 @@ ghost use Rattle.interface.specs.Stands.{Becomes};
 ghost use Rattle.iface_host.specs.Stands.{IsFirst, capabilities_of, free_storage, nodes_for, route_room, with_room};
 ghost use Rattle.iface_host.specs.TableRefusals.{settings_refusal, timeout_refusal};
 
+use crate::claims::Watched;
 use crate::counters::FrameCounts;
 use crate::frames::moment;
 use crate::guarded::watch_for;
@@ -86,8 +87,8 @@ pub struct Settings {
 }
 
 /// A host: an interface, its sockets, the numbers that name these, and the frames that wait to be handed over. Besides,
-/// whether its sockets may have changed since that was asked, how many frames it took and handed over, its guard, and the
-/// last errors about its packets. The interface has a box of its own, since it is large.
+/// whether its sockets may have changed since that was asked, how many frames it took and handed over, its guard, the
+/// last errors about its packets, and the address that it watches. The interface has a box of its own, since it is large.
 #[derive(Drop)]
 pub struct IfaceHost {
     pub(crate) alloc: Global,
@@ -101,6 +102,7 @@ pub struct IfaceHost {
     pub(crate) frames: FrameCounts,
     pub(crate) watch: Watch,
     pub(crate) errors: LastErrors,
+    pub(crate) watched: Option<Watched>,
 }
 
 impl IfaceHost {
@@ -149,6 +151,7 @@ impl IfaceHost {
                 frames: FrameCounts::NONE,
                 watch: watch_for(settings),
                 errors: LastErrors::new(),
+                watched: None,
             },
         );
         match host {

@@ -6,6 +6,7 @@
 #![tactic(auto)]
 
 pub mod addresses;
+pub mod claims;
 pub mod counters;
 pub mod errors;
 pub mod fragments;
@@ -29,6 +30,7 @@ pub mod segments;
 pub mod streams;
 pub mod waiting;
 
+pub use claims::Watched;
 pub use counters::{Counters, FrameCounts};
 pub use errors::{ErrorCause, PacketError};
 pub use host::{IfaceHost, Settings};

@@ -11,6 +11,7 @@ use crate::host::IfaceHost;
 use crate::outbox::write_front;
 use crate::refusal::Refusal;
 use ip_wire::{IpAddress, IpVersion};
+use net_base::time::Instant;
 use sockets::{IpEndpoint, icmp, raw, udp};
 
 /// The longest packet of IPv4 that is sent: it goes in pieces, where the link's packets are shorter.
@@ -21,7 +22,8 @@ const MAX_PAYLOAD: usize = 65_495;
 
 impl IfaceHost {
     /// Queues a datagram to an end. `BadPort` if its port is 0, `BadAddress` if its address is unspecified, `TooLong`
-    /// if the packet would be longer than is sent, `NoSocket` if no UDP socket has this number, and else `QueueFull`.
+    /// if the packet would be longer than is sent, `NoRoute` if it is unicast, and no network of the host and no route has it,
+    /// `NoSocket` if no UDP socket has this number, and else `QueueFull`.
     #[tactic(auto, using(crate::proofs::Places::udp_full, crate::proofs::Places::host_same))]
     pub fn send_udp(
         &mut self,
@@ -41,6 +43,9 @@ impl IfaceHost {
         }
         if !self.may_send(remote.addr.version(), 8, payload) {
             return Err(Refusal::TooLong);
+        }
+        if !self.is_reached(&remote.addr) {
+            return Err(Refusal::NoRoute);
         }
         let Some(handle) = self.names.get(number) else {
             return Err(Refusal::NoSocket);
@@ -75,6 +80,9 @@ impl IfaceHost {
         }
         if !self.may_send(remote.version(), 0, message) {
             return Err(Refusal::TooLong);
+        }
+        if !self.is_reached(&remote) {
+            return Err(Refusal::NoRoute);
         }
         let Some(handle) = self.names.get(number) else {
             return Err(Refusal::NoSocket);
@@ -235,6 +243,13 @@ impl IfaceHost {
         if self.ip_mtu < len {
             self.schedule.expect_long_packet();
         }
+    }
+
+    /// Whether a network of the host or a route has a destination, or it needs none. A route whose end has passed counts too.
+    fn is_reached(&self, remote: &IpAddress) -> bool
+        ensures { result ≡ refusals.is_reached self.now remote.now }
+    {
+        !remote.is_unicast() || self.has_route(remote, Instant::ZERO)
     }
 
     /// Whether a payload after a header of so many octets, in a packet of this version, isn't too long to be sent.

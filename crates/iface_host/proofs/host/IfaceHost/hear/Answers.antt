@@ -1,4 +1,5 @@
 use Rattle.std.proofs.Common.{◌≡◌, ◌∙◌, ap, sym, subst, true, false, rules}
+use Rattle.iface_host.specs.Claims.{after_claim}
 use Rattle.iface_host.specs.Fragments.{MakesRoom}
 use Rattle.iface_host.specs.Guarded.{TakesGuarded, is_admitted, is_ordinary_to}
 use Rattle.iface_host.proofs.FrameCalls.{ordinary, admitted, refused, dropped}
@@ -24,7 +25,7 @@ returns-then-not-makes_room c =
 
 pub take_guarded-requires-clause-special : goal.take_guarded-requires-clause-special
 take_guarded-requires-clause-special c =
-    ap (is_ordinary_to c.args.frame.now) c.note_error.ensures ∙ c.makes_room.ensures.ordinary ∙ c.admits.ensures.ordinary ∙ sym c.is_ordinary.ensures ∙ c.if-is_ordinary.false
+    ap (is_ordinary_to c.args.frame.now) c.note_claim.ensures ∙ ap (is_ordinary_to c.args.frame.now) c.note_error.ensures ∙ c.makes_room.ensures.ordinary ∙ c.admits.ensures.ordinary ∙ sym c.is_ordinary.ensures ∙ c.if-is_ordinary.false
 
 pub returns : goal.returns
 returns c =
@@ -33,4 +34,4 @@ returns c =
     c.admits.new.self c.take_guarded.new.self is c.admits.ensures.rest c.makes_room.new.self
     (subst (λ b. MakesRoom c.args.now c.args.frame.now b c.admits.new.self c.makes_room.new.self) c.if-not-makes_room.false c.makes_room.ensures.room)
     (subst (λ h. TakesGuarded c.args.now c.args.frame.now c.take_guarded.result c.args.out.now c.take_guarded.new.out h c.take_guarded.new.self)
-    c.note_error.ensures c.take_guarded.ensures)
+    (c.note_claim.ensures ∙ ap (after_claim c.args.frame.now) c.note_error.ensures) c.take_guarded.ensures)

@@ -27,4 +27,5 @@ returns-in-Ok-host-clause-made c = rw c.in-Ok-host.ensures.ok (record {
   frames = refl;
   watch = c.watch_for.ensures;
   errors = c.new-4.ensures;
+  watched = refl;
 })
