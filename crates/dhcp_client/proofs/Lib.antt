@@ -7,4 +7,5 @@ pub mod Ends
 pub mod Leases
 pub mod Spacing
 pub mod Declining
+pub mod Testing
 pub mod Renewals

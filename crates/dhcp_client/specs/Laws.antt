@@ -11,11 +11,14 @@ use Rattle.dhcp_client.specs.declared.client.DhcpClient.{DhcpClient}
 use Rattle.dhcp_client.specs.declared.lease.DhcpLease.{DhcpLease}
 use Rattle.dhcp_client.specs.declared.lease.LeaseTimes.{LeaseTimes}
 use Rattle.dhcp_client.specs.declared.messages.DhcpMessage.{DhcpMessage}
+use Rattle.dhcp_client.specs.declared.probing.Probing.{Probing}
 use Rattle.dhcp_client.specs.Addresses.{is_host_address, is_mask, is_networks}
 use Rattle.dhcp_client.specs.Answers.{after_receiving}
 use Rattle.dhcp_client.specs.Client.{lease, poll_at}
 use Rattle.dhcp_client.specs.Lease.{is_usable}
 use Rattle.dhcp_client.specs.Messages.{after_asking, message_at}
+use Rattle.dhcp_client.specs.Probing as probing
+use Rattle.dhcp_client.specs.Probing.{after_request, is_tested}
 use Rattle.dhcp_client.specs.Returns.{after_decline}
 use Rattle.dhcp_client.specs.Run.{Event, Receive, Ask, Tell, Reset, Claim, Leave, Sent, begun, after, after_all, client_after, client_after_all}
 
@@ -234,3 +237,18 @@ DeclinesWait =
     (now random later other : ℕ) (c : DhcpClient) (l : DhcpLease) (es : List Event) → lease c ≡ Some l → AreBefore (now + 10000000) es →
     later < now + 10000000 → (message_at later other (client_after_all es (after_decline now random c)) ≡ None)
     × (lease (client_after_all es (after_decline now random c)) ≡ None)
+
+-- the instants at which the owner asks for the request that is due, one after another, with random numbers
+abbrev pub after_turns : List (ℕ × ℕ) → Probing → Probing
+after_turns [] p = p
+after_turns (t ∷ ts) p = after_turns ts (after_request t.0 t.1 p)
+
+abbrev pub TurnsAreBefore : ℕ → List (ℕ × ℕ) → Type 0
+TurnsAreBefore limit [] = Unit
+TurnsAreBefore limit (t ∷ ts) = (t.0 < limit) × TurnsAreBefore limit ts
+
+-- an address is not in use before four seconds have passed since its test began, however often the owner asks (RFC 5227 2.1.1)
+abbrev pub TestsTakeFourSeconds : Type 0
+TestsTakeFourSeconds =
+    (address : Ipv4Address) (now random : ℕ) (turns : List (ℕ × ℕ)) → TurnsAreBefore (now + 4000000) turns →
+    is_tested (after_turns turns (probing.begun address now random)) ≡ false

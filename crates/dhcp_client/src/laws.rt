@@ -1,7 +1,7 @@
 //! What a client promises, whatever messages come and whenever it is asked, each law as the contract of an empty function.
 ghost use Rattle.dhcp_client.specs.Laws.{AgreementsAreTaken, DeclinesWait, DiscoveryGoesOn, KindsAreSpaced, LeasesAreAnswered, LeasesEnd};
 ghost use Rattle.dhcp_client.specs.Laws.{LeasesStay, NeverStuck, OffersAreTaken, PollAtIsExact, RenewalsAreAsked};
-ghost use Rattle.dhcp_client.specs.Laws.{RenewalsAreInTime, RenewalsWait, ResetsAskAgain};
+ghost use Rattle.dhcp_client.specs.Laws.{RenewalsAreInTime, RenewalsWait, ResetsAskAgain, TestsTakeFourSeconds};
 
 /// A lease comes only from an agreement (ACK) to the request that was sent last: with its number, the client's hardware
 /// address, and the identifier of a server, which is the one that the request named, or went to. It ends as many seconds
@@ -80,4 +80,10 @@ pub fn resets_ask_again()
 /// A client that has declined its lease has none, and sends nothing for ten seconds, whatever messages come.
 pub fn declines_wait()
     ensures { DeclinesWait }
+{}
+
+/// An address that is tested isn't in use before four seconds have passed since its test began, however often the client is asked for
+/// the request that is due.
+pub fn tests_take_four_seconds()
+    ensures { TestsTakeFourSeconds }
 {}
