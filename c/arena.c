@@ -115,7 +115,7 @@ static uint64_t block_of(uint64_t octets) {
 /* What the blocks of a host take, as the library asks for them. The tests compare it with what is taken. */
 static uint64_t taken_by(const struct iface_config *c) {
     uint64_t sockets = c->sockets, neighbors = c->neighbors, routes = c->routes < 32 ? c->routes : 32, slots = c->fragmented;
-    return block_of(23344) + block_of(3952) + block_of(448 * sockets) + block_of(16 * sockets) + block_of(272 * sockets)
+    return block_of(23344) + block_of(3968) + block_of(448 * sockets) + block_of(16 * sockets) + block_of(272 * sockets)
            + block_of(48 * neighbors) + block_of(8 * neighbors) + block_of(112 * routes) + block_of(routes ? 1024 * routes + 16 : 0)
            + block_of(16 * slots) + block_of(4208 * slots);
 }

@@ -445,6 +445,10 @@ static void holds_two_sizes(void) {
         wants("for what comes", received.most_packets == 3 && received.most_octets == 500, 1);
         wants("for what goes", to_send.most_packets == 2 && to_send.most_octets == 40, 1);
     }
+    const struct iface_address own = v4(192, 168, 69, 1);
+    wants("no network has it, and no route", iface_udp_send(&host, socket[0], &to, frame, 40), IFACE_NO_ROUTE);
+    wants("nor its address", iface_icmp_send(&host, socket[2], &to.address, frame, 8), IFACE_NO_ROUTE);
+    must("address", iface_add_address(&host, &own, 24));
     wants("41 octets", iface_udp_send(&host, socket[0], &to, frame, 41), IFACE_QUEUE_FULL);
     must("40 octets", iface_udp_send(&host, socket[0], &to, frame, 40));
     must("free", iface_free(&host));

@@ -124,7 +124,7 @@ enum kind {
     ADDRESS, NO_ADDRESS, ADDRESSES, GROUP, NO_GROUP, HARDWARE, REASSEMBLY, ANY_IP, DEFAULT, ROUTE, ROUTE_UNTIL, NO_ROUTE, PIN, UNPIN,
     UDP_OPEN, RAW_OPEN, IDENT_OPEN, PORT_OPEN, TCP_OPEN, CLOSE, HOPS, UDP_SEND, RAW_SEND, ICMP_SEND, TCP_SEND, HOLD, TCP_ABORT,
     UDP_RECEIVE, RAW_RECEIVE, ICMP_RECEIVE, TCP_RECEIVE, UDP_PEEK, RAW_PEEK, ICMP_PEEK, TCP_PEEK, GIVEN_UP, CHANGED,
-    APPLY, RESET, LISTEN, ACCEPT, NEWS, CONNECT, SEND, RECEIVE, PEEK, END, ABORT, RELEASE, NAGLE, ACK_DELAY, KEEP_ALIVE, TIMEOUT,
+    APPLY, RESET, PROBING, GIVE_BACK, LISTEN, ACCEPT, NEWS, CONNECT, SEND, RECEIVE, PEEK, END, ABORT, RELEASE, NAGLE, ACK_DELAY, KEEP_ALIVE, TIMEOUT,
     CLOSE_LISTENER, HOP_LIMIT, SERVERS, START, CANCEL, RESULT, KINDS
 };
 
@@ -307,6 +307,8 @@ static uint32_t call_services(struct world *w, const struct choice *c, struct ou
     case RESULT: return iface_dns_result(&w->dns, c->other % 4, &o->found);
     case APPLY: return iface_dhcp_apply(&w->client, h);
     case RESET: return iface_dhcp_reset(&w->client);
+    case PROBING: return iface_dhcp_set_probing(&w->client, (uint8_t)(c->other % 2));
+    case GIVE_BACK: return iface_dhcp_release(&w->client, h);
     case LISTEN: return iface_stream_listen(t, &c->end, c->other % 5, &o->size);
     case ACCEPT: return iface_stream_accept(t, c->other % LISTENERS, &o->name);
     case NEWS: return iface_streams_changed(t, &o->name);
@@ -771,7 +773,7 @@ static void leases(struct world *w, int64_t now) {
     uint8_t lease[400], asked[LONGEST];
     uint32_t event;
     struct iface_lease got;
-    must("client", iface_dhcp_new(&w->client, &w->host, 1, &usual[8]));
+    must("client", iface_dhcp_new(&w->client, &w->host, 1, &usual[8])), must("no test", iface_dhcp_set_probing(&w->client, 0));
     for (int i = 0; i < 2; i++) {
         must("poll", iface_dhcp_poll(&w->client, &w->host, now, &event));
         if (next_of(w, now, 17, 240) == 0) wants("a message of DHCP", 0, 1);

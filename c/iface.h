@@ -60,7 +60,7 @@ enum iface_code {
     IFACE_IN_USE = 23,       /* iface_stream_connect: a connection has these ends */
     IFACE_BAD_NAME = 24,     /* iface_dns_start: the text is no name */
     IFACE_NO_SERVER = 25,    /* iface_dns_start: the client knows no server */
-    IFACE_NO_ROUTE = 26      /* iface_stream_connect: no network and no route of the host has the destination */
+    IFACE_NO_ROUTE = 26      /* no network and no route of the host has the destination */
 };
 
 /* The version of this header, an octet each: 0.15.0, and the header's number, which grows with each change of a call or
@@ -420,13 +420,13 @@ uint32_t iface_queues(iface *host, uint32_t socket, struct iface_queue *received
 
 /* A datagram with this payload: over IPv4 of at most 4096 octets with its headers (28), in pieces if the link's
  * packets are shorter, over IPv6 of at most one packet of the link with its headers (48).
- * BAD_ARGUMENT, BAD_PORT, BAD_ADDRESS (unspecified), TOO_LONG. */
+ * BAD_ARGUMENT, BAD_PORT, BAD_ADDRESS (unspecified), TOO_LONG, NO_ROUTE (one that is unicast; a route whose end has passed counts). */
 uint32_t iface_udp_send(iface *host, uint32_t socket, const struct iface_endpoint *remote, const uint8_t *payload,
                         size_t payload_len);
 
 /* A message of ICMP, over IPv4 of at most 4096 octets with its header (20), over IPv6 of at most one packet of the link
  * with its header (40). One that isn't an echo message of the address's family is dropped later.
- * BAD_ARGUMENT, BAD_ADDRESS (unspecified), TOO_LONG. */
+ * BAD_ARGUMENT, BAD_ADDRESS (unspecified), TOO_LONG, NO_ROUTE (likewise). */
 uint32_t iface_icmp_send(iface *host, uint32_t socket, const struct iface_address *remote, const uint8_t *message,
                          size_t message_len);
 
@@ -553,8 +553,8 @@ uint32_t iface_poll_at(iface *host, int64_t now, int64_t *at);
  * before its first call, not copied, and in one call at a time. It goes with the host that it was made for.
  *
  * The client takes two places for sockets: one for its UDP socket, and one for a raw socket, which is open while a message to all
- * servers waits to be sent and, from the first one on, as long as there is no lease: by it the client takes answers to the address
- * that a server offers. A socket that gets nothing keeps that place meanwhile. A program that calls none of these is linked without
+ * servers waits to be sent and, from the first one on, as long as there is no lease and the host has no IPv4 address: by it the client
+ * takes answers to the address that a server offers. A socket that gets nothing keeps that place meanwhile. A program that calls none of these is linked without
  * any of it by --gc-sections. */
 
 /* A handle, which owns a client or none. Its fields are the library's. */
@@ -581,7 +581,7 @@ struct iface_lease {
 enum iface_dhcp_event {
     IFACE_DHCP_NOTHING = 0,     /* nothing, since the last call */
     IFACE_DHCP_CONFIGURED = 1,  /* there is a lease: a new one, or one that was renewed */
-    IFACE_DHCP_DECONFIGURED = 2 /* there is none any more: its address must not be used */
+    IFACE_DHCP_DECONFIGURED = 2 /* there is none any more, or it was declined: its address must not be used */
 };
 
 /* Makes a client for a host with a hardware address, which the handle owns from then on. The seed is of the numbers by which its
@@ -613,7 +613,7 @@ uint32_t iface_dhcp_poll_at(iface_dhcp *client, int64_t *at);
  * next message is due at the instant of iface_dhcp_poll_at. NO_CLIENT. */
 uint32_t iface_dhcp_lost(iface_dhcp *client, uint32_t *why);
 
-/* Writes the lease that the client has. NO_CLIENT, EMPTY (it has none). */
+/* Writes the lease that the client has. NO_CLIENT, EMPTY (it has none, or tests its address). */
 uint32_t iface_dhcp_lease(iface_dhcp *client, struct iface_lease *lease);
 
 /* Writes the octets of an option of the lease, put together (RFC 3396), and how many there are. Of more than 256 the first ones count.
@@ -626,6 +626,22 @@ uint32_t iface_dhcp_option(iface_dhcp *client, uint8_t code, uint8_t *out, size_
  * left out where there is no room for it, and where its router is 0.0.0.0, which says that its network is on the link.
  * NO_CLIENT, NO_HOST, TABLE_FULL, NOT_UNICAST (one of all own addresses can't be one). */
 uint32_t iface_dhcp_apply(iface_dhcp *client, iface *host);
+
+/* Lets the address of each lease be tested before it is used, and announced (RFC 2131 4.4.1, RFC 5227 2.1.1, 2.3), unless it is 0. It
+ * is on by default. Three ARP probes then go, the first one within a second, then a second or two apart. Two seconds later, if no other
+ * host has the address or probes for it, iface_dhcp_poll tells IFACE_DHCP_CONFIGURED, and two announcements go, two seconds apart.
+ * Otherwise the client declines the lease (DHCPDECLINE), and asks for offers after ten seconds, or after a minute from the tenth on. A
+ * probe of another host for the address in use is answered by an announcement, one each two seconds at most. Where it is off, a host
+ * has its address four to seven seconds sooner, and nobody is asked. It belongs behind iface_dhcp_new. NO_CLIENT. */
+uint32_t iface_dhcp_set_probing(iface_dhcp *client, uint8_t on);
+
+/* Writes how many leases the client has declined, 255 at most. NO_CLIENT. */
+uint32_t iface_dhcp_declined(iface_dhcp *client, uint8_t *count);
+
+/* Releases the lease (DHCPRELEASE): the message to its server waits at the client's UDP socket, and the lease is given up. Call iface_next
+ * until it has gone, then iface_dhcp_apply, which takes the address, and iface_dhcp_free: a client that is polled again asks for offers.
+ * iface_dhcp_lost tells why the message is lost. NO_CLIENT, NO_HOST, EMPTY (no lease). */
+uint32_t iface_dhcp_release(iface_dhcp *client, iface *host);
 
 /* Is called once a link came up. Gives up the lease, if there is one, and asks for its address again (RFC 2131, 3.2): where the link
  * leads to another network the server refuses it, and the client asks for offers. Without a lease the client begins anew. The next

@@ -381,7 +381,11 @@ static void refuses_segments(void) {
     wants("no segments", iface_tcp_send(&host, other, &segment, big, 0), IFACE_NO_SOCKET);
     wants("no segments", iface_tcp_receive(&host, other, &got, big, sizeof big, &n), IFACE_NO_SOCKET);
     wants("no segments", iface_tcp_peek(&host, other, &got, big, sizeof big, &n), IFACE_NO_SOCKET);
-    wants("no datagrams", iface_udp_send(&host, socket, &peer, big, 0), IFACE_NO_SOCKET);
+    wants("no route", iface_udp_send(&host, other, &peer, big, 0), IFACE_NO_ROUTE);
+    peer.address = v4(239, 1, 1, 1), wants("no datagrams", iface_udp_send(&host, socket, &peer, big, 0), IFACE_NO_SOCKET);
+    wants("to a group", iface_udp_send(&host, other, &peer, big, 0), IFACE_OK);
+    peer.address = v4(255, 255, 255, 255), wants("to everybody", iface_udp_send(&host, other, &peer, big, 0), IFACE_OK);
+    peer.address = v4(192, 168, 69, 2);
     wants("unopened socket", iface_tcp_abort(&host, 7), IFACE_NO_SOCKET);
     wants("unopened socket", iface_tcp_hold(&host, 0xffffffff, 0), IFACE_NO_SOCKET);
     wants("hold until -1", iface_tcp_hold(&host, socket, -1), IFACE_BAD_MOMENT);

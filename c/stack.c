@@ -195,6 +195,9 @@ static size_t listener, writable;
     each(dhcp_lease, iface_dhcp_lease(&client, &lease)) \
     each(dhcp_option, iface_dhcp_option(&client, 6, payload, sizeof payload, &length)) \
     each(dhcp_apply, iface_dhcp_apply(&client, &host)) \
+    each(dhcp_set_probing, iface_dhcp_set_probing(&client, 0)) \
+    each(dhcp_declined, iface_dhcp_declined(&client, &flag)) \
+    each(dhcp_release, iface_dhcp_release(&client, &host)) \
     each(dhcp_reset, iface_dhcp_reset(&client)) \
     each(dhcp_free, iface_dhcp_free(&client, &host)) \
     each(dns_new, iface_dns_new(&dns, number, dns_key, servers)) \
@@ -465,12 +468,13 @@ static void take_leases(void) {
     config.hardware_address[0] = 2, config.hardware_address[5] = 1;
     MUST(new_for);
     address.version = 0, MUST(dhcp_new);
-    given = 4, MUST(dhcp_parameters), MUST(dhcp_host_name);
+    given = 4, MUST(dhcp_parameters), MUST(dhcp_host_name), MUST(dhcp_set_probing);
     lease_step(OFFER), lease_step(ACK);
     MUST(dhcp_poll), MUST(dhcp_lease), MUST(dhcp_option), MUST(dhcp_apply);
     now = at, now += 60000000, MUST(dhcp_poll), MUST(next);
     now += 55000000, lease_step(NAK);
     MUST(dhcp_poll), MUST(dhcp_apply), MUST(next);
+    now += 60000000, lease_step(OFFER), now += 5000000, lease_step(ACK), MUST(dhcp_poll), MUST(dhcp_release), MUST(dhcp_declined);
     MUST(dhcp_reset), MUST(dhcp_free), MUST(free);
 }
 

@@ -73,7 +73,7 @@ pub enum Error {
     BadName,
     /// There is no server of names to ask.
     NoServer,
-    /// No network and no route of the host has the peer of a connection.
+    /// No network and no route of the host has the destination.
     NoRoute,
     /// There are no secrets for connections of TCP: none are set, and without the feature `std` there is no source of them.
     NoSecrets,
@@ -1140,7 +1140,7 @@ impl Host {
     /// the link with its headers (48).
     ///
     /// # Errors
-    /// [`Error::BadPort`], [`Error::BadAddress`], [`Error::TooLong`], [`Error::QueueFull`], [`Error::NoSocket`].
+    /// [`Error::BadPort`], [`Error::BadAddress`], [`Error::TooLong`], [`Error::NoRoute`], [`Error::QueueFull`], [`Error::NoSocket`].
     #[inline]
     pub fn udp_send(&mut self, socket: u32, remote: IpEndpoint, payload: &[u8]) -> Result<(), Error> {
         call!(self.iface_udp_send(socket, &end_to_c(&remote), payload.as_ptr(), payload.len()))
@@ -1150,7 +1150,7 @@ impl Host {
     /// later.
     ///
     /// # Errors
-    /// [`Error::BadAddress`], [`Error::TooLong`], [`Error::QueueFull`], [`Error::NoSocket`].
+    /// [`Error::BadAddress`], [`Error::TooLong`], [`Error::NoRoute`], [`Error::QueueFull`], [`Error::NoSocket`].
     #[inline]
     pub fn icmp_send(&mut self, socket: u32, remote: IpAddress, message: &[u8]) -> Result<(), Error> {
         call!(self.iface_icmp_send(socket, &to_c(&remote), message.as_ptr(), message.len()))

@@ -2,7 +2,7 @@
 //!
 //! Calling any of it is `unsafe`: the header says what the caller keeps. [`Host`](crate::Host) keeps it.
 //!
-//! Sum of the header: 0x380539c60932d14e
+//! Sum of the header: 0xc6bf25af2038b6b5
 #![allow(non_camel_case_types)]
 
 use core::ffi::{c_char, c_void};
@@ -59,7 +59,7 @@ pub const IFACE_IN_USE: u32 = 23;
 pub const IFACE_BAD_NAME: u32 = 24;
 /// `iface_dns_start`: the client knows no server
 pub const IFACE_NO_SERVER: u32 = 25;
-/// `iface_stream_connect`: no network and no route of the host has the destination
+/// no network and no route of the host has the destination
 pub const IFACE_NO_ROUTE: u32 = 26;
 
 /// `iface_control`.
@@ -91,7 +91,7 @@ pub const IFACE_NEITHER: u8 = 3;
 pub const IFACE_DHCP_NOTHING: u8 = 0;
 /// there is a lease: a new one, or one that was renewed
 pub const IFACE_DHCP_CONFIGURED: u8 = 1;
-/// there is none any more: its address must not be used
+/// there is none any more, or it was declined: its address must not be used
 pub const IFACE_DHCP_DECONFIGURED: u8 = 2;
 
 /// its IPv4 addresses
@@ -627,9 +627,9 @@ unsafe extern "C" {
     pub fn iface_hop_limit(host: *mut iface, socket: u32, hop_limit: *mut u8) -> u32;
     /// Writes what waits in the two queues of a socket of whatever kind: what was received, and what is to be sent. NO_SOCKET.
     pub fn iface_queues(host: *mut iface, socket: u32, received: *mut iface_queue, to_send: *mut iface_queue) -> u32;
-    /// A datagram with this payload: over IPv4 of at most 4096 octets with its headers (28), in pieces if the link's packets are shorter, over IPv6 of at most one packet of the link with its headers (48). BAD_ARGUMENT, BAD_PORT, BAD_ADDRESS (unspecified), TOO_LONG.
+    /// A datagram with this payload: over IPv4 of at most 4096 octets with its headers (28), in pieces if the link's packets are shorter, over IPv6 of at most one packet of the link with its headers (48). BAD_ARGUMENT, BAD_PORT, BAD_ADDRESS (unspecified), TOO_LONG, NO_ROUTE (one that is unicast; a route whose end has passed counts).
     pub fn iface_udp_send(host: *mut iface, socket: u32, remote: *const iface_endpoint, payload: *const u8, payload_len: usize) -> u32;
-    /// A message of ICMP, over IPv4 of at most 4096 octets with its header (20), over IPv6 of at most one packet of the link with its header (40). One that isn't an echo message of the address's family is dropped later. BAD_ARGUMENT, BAD_ADDRESS (unspecified), TOO_LONG.
+    /// A message of ICMP, over IPv4 of at most 4096 octets with its header (20), over IPv6 of at most one packet of the link with its header (40). One that isn't an echo message of the address's family is dropped later. BAD_ARGUMENT, BAD_ADDRESS (unspecified), TOO_LONG, NO_ROUTE (likewise).
     pub fn iface_icmp_send(host: *mut iface, socket: u32, remote: *const iface_address, message: *const u8, message_len: usize) -> u32;
     /// A packet with its header, which is written anew: one that isn't of the socket's version and protocol, or is too long to be sent, is dropped later.
     pub fn iface_raw_send(host: *mut iface, socket: u32, packet: *const u8, packet_len: usize) -> u32;
@@ -695,12 +695,18 @@ unsafe extern "C" {
     pub fn iface_dhcp_poll_at(client: *mut iface_dhcp, at: *mut i64) -> u32;
     /// Writes the code for which the message that was due last is lost, or 0 if it isn't: NO_MEMORY (for the raw socket), QUEUE_FULL (the message before still waits, as for its server's neighbour), TABLE_FULL (other sockets took the place while memory was refused), NO_SOCKET. The next message is due at the instant of `iface_dhcp_poll_at`. NO_CLIENT.
     pub fn iface_dhcp_lost(client: *mut iface_dhcp, why: *mut u32) -> u32;
-    /// Writes the lease that the client has. NO_CLIENT, EMPTY (it has none).
+    /// Writes the lease that the client has. NO_CLIENT, EMPTY (it has none, or tests its address).
     pub fn iface_dhcp_lease(client: *mut iface_dhcp, lease: *mut iface_lease) -> u32;
     /// Writes the octets of an option of the lease, put together (RFC 3396), and how many there are. Of more than 256 the first ones count. NO_CLIENT, EMPTY (no lease, or no such option), NO_ROOM.
     pub fn iface_dhcp_option(client: *mut iface_dhcp, code: u8, out: *mut u8, room: usize, length: *mut usize) -> u32;
     /// Gives the host the address of the lease with its network, its router as a default route, and up to eight other routes of option 121 (RFC 3442), after the others; in place of those that the client gave it before, and none without a lease. That forgets all neighbours, unless address, network and router are the same as before. Other addresses and routes stay. A route of option 121 is left out where there is no room for it, and where its router is 0.0.0.0, which says that its network is on the link. NO_CLIENT, NO_HOST, TABLE_FULL, NOT_UNICAST (one of all own addresses can't be one).
     pub fn iface_dhcp_apply(client: *mut iface_dhcp, host: *mut iface) -> u32;
+    /// Lets the address of each lease be tested before it is used, and announced (RFC 2131 4.4.1, RFC 5227 2.1.1, 2.3), unless it is 0. It is on by default. Three ARP probes then go, the first one within a second, then a second or two apart. Two seconds later, if no other host has the address or probes for it, `iface_dhcp_poll` tells `IFACE_DHCP_CONFIGURED`, and two announcements go, two seconds apart. Otherwise the client declines the lease (DHCPDECLINE), and asks for offers after ten seconds, or after a minute from the tenth on. A probe of another host for the address in use is answered by an announcement, one each two seconds at most. Where it is off, a host has its address four to seven seconds sooner, and nobody is asked. It belongs behind `iface_dhcp_new`. NO_CLIENT.
+    pub fn iface_dhcp_set_probing(client: *mut iface_dhcp, on: u8) -> u32;
+    /// Writes how many leases the client has declined, 255 at most. NO_CLIENT.
+    pub fn iface_dhcp_declined(client: *mut iface_dhcp, count: *mut u8) -> u32;
+    /// Releases the lease (DHCPRELEASE): the message to its server waits at the client's UDP socket, and the lease is given up. Call `iface_next` until it has gone, then `iface_dhcp_apply`, which takes the address, and `iface_dhcp_free`: a client that is polled again asks for offers. `iface_dhcp_lost` tells why the message is lost. NO_CLIENT, NO_HOST, EMPTY (no lease).
+    pub fn iface_dhcp_release(client: *mut iface_dhcp, host: *mut iface) -> u32;
     /// Is called once a link came up. Gives up the lease, if there is one, and asks for its address again (RFC 2131, 3.2): where the link leads to another network the server refuses it, and the client asks for offers. Without a lease the client begins anew. The next `iface_dhcp_poll` tells of a lease that is gone. NO_CLIENT.
     pub fn iface_dhcp_reset(client: *mut iface_dhcp) -> u32;
     /// Frees a client: the handle owns none from then on. If the other handle owns a host, the client's sockets there are closed. What the client gave the host stays: call `iface_dhcp_reset` and `iface_dhcp_apply` before. NO_CLIENT.

@@ -190,6 +190,8 @@ fn routes_are_found() {
     let (addr_1b, addr_1c) = (Ipv4Address::new(192, 0, 2, 13), Ipv4Address::new(192, 0, 2, 42));
     let addr_2b = Ipv4Address::new(198, 51, 100, 21);
     let mut node = Node::new(&[CIDR]);
+    let socket = node.host.udp_open(7.into(), Rooms::new(1, 64)).unwrap();
+    assert_eq!(node.host.udp_send(socket, IpEndpoint::new(addr_1b.into(), 9), b"lookup"), Err(Error::NoRoute));
     assert_eq!(node.lookup(addr_1b, millis(0)), []);
     assert_eq!(node.lookup(addr_2b, millis(0)), []);
     node.host.add_route("192.0.2.0/24".parse().unwrap(), router_1.into()).unwrap();
@@ -864,6 +866,7 @@ fn a_client_leases_an_address() {
     let mut node = Node::new(&[]);
     let now = Instant::from_secs(5);
     let mut client = Dhcp::new(&mut node.host, 42, Some(neighbor(7).0)).unwrap();
+    client.set_probing(false);
     assert_eq!((client.poll_at(), client.lease()), (Some(Instant::ZERO), None));
     // RFC 2132, 3.14, 9.8; routes before the router, by RFC 3442.
     assert_eq!(client.set_parameters(&[0; 17]), Err(Error::TooLong));
@@ -899,6 +902,7 @@ fn a_client_leases_an_address() {
     assert_eq!(node.host.address_at(0), Some(IpCidr::Ipv4(lease.address)));
     assert_eq!(node.host.route_at(0), Some(Route::new_ipv4_gateway(SELF)));
     assert_eq!(client.poll_at(), Some(now + Duration::from_secs(60)));
+    assert_eq!(client.declined(), 0);
     client.reset();
     assert_eq!(polled(&mut client, &mut node, now + Duration::from_secs(1), None).1, Some(LeaseEvent::Deconfigured));
     client.apply(&mut node.host).unwrap();
@@ -921,6 +925,8 @@ fn a_client_is_refused_with_its_reason() {
         node.host.close(socket).unwrap();
     }
     let mut client = Dhcp::new(&mut node.host, 1, None).unwrap();
+    assert_eq!(client.release(&mut node.host), Err(Error::Empty));
+    client.set_probing(false);
     assert_eq!(client.poll(&mut bare, Instant::ZERO), Err(Error::NoSocket));
     let now = Instant::from_secs(5);
     let asked = polled(&mut client, &mut node, now, None).0.unwrap();

@@ -4,7 +4,7 @@ use Rattle.std.specs.Prelude.{Option, Some, None, if◌then◌else◌}
 use Rattle.ip_address.specs.Ipv4.{address_of}
 use Rattle.ip_address.specs.declared.ip.IpAddress.TheVariants.{Ipv4}
 use Rattle.ip_address.specs.declared.ipv4.Ipv4Address.{Ipv4Address}
-use Rattle.dhcp_client.specs.Client.{after_reset, lease}
+use Rattle.dhcp_client.specs.Client.{after_reset}
 use Rattle.dhcp_client.specs.declared.lease.DhcpEvent.{DhcpEvent}
 use Rattle.dhcp_client.specs.declared.lease.DhcpEvent.TheVariants.{Configured, Deconfigured}
 use Rattle.dhcp_client.specs.declared.lease.DhcpLease.{DhcpLease}
@@ -142,14 +142,14 @@ lease_for_c l = record {
   expires_at = end_for_c l;
 }
 
--- a client without a lease
+-- a client without a lease that can be used
 abbrev pub lease_refusal : Dhcp → Option Refusal
-lease_refusal d = if is_some (lease d.client) then None else Some Empty
+lease_refusal d = if is_some (dhcp.lease d) then None else Some Empty
 
 -- its lease was written, and nothing changed
 pub record ShowsLease (shown : IfaceLease) (old new : Dhcp) : Type 0 where
   pub there : DhcpLease
-  pub is_there : lease old.client ≡ Some there
+  pub is_there : dhcp.lease old ≡ Some there
   pub written : shown ≡ lease_for_c there
   pub same : new ≡ old
 
@@ -161,6 +161,11 @@ pub record ShowsPollAt (at : ℤ) (old new : Dhcp) : Type 0 where
 -- the code for which the message that was due last is lost was written, and nothing changed
 pub record ShowsLost (why : ℕ) (old new : Dhcp) : Type 0 where
   pub written : why ≡ code_if old.lost
+  pub same : new ≡ old
+
+-- how many leases were declined was written, and nothing changed
+pub record ShowsDeclined (count : ℕ) (old new : Dhcp) : Type 0 where
+  pub written : count ≡ old.client.declined
   pub same : new ≡ old
 
 -- the data of an option are refused where there are none, and where there is no room for them

@@ -7,7 +7,9 @@ ghost use Rattle.iface_c.specs.DhcpHandle.{dhcp_in};
 ghost use Rattle.iface_c.specs.Handle.{host_in};
 ghost use Rattle.iface_c.specs.Status.{IsDueOrMemory};
 ghost use Rattle.iface_dhcp.specs.Apply.{Applies, apply_refusal};
+ghost use Rattle.iface_c.specs.Properties.{holds_in};
 ghost use Rattle.iface_dhcp.specs.Poll.{poll_refusal};
+ghost use Rattle.iface_dhcp.specs.Probe.{Releases, release_refusal, with_probes};
 
 use crate::addresses::IfaceAddress;
 use crate::dhcp_handle::IfaceDhcp;
@@ -341,6 +343,62 @@ fn write_data(data: &[u8], out: &mut [u8], length: &mut usize) -> u32
     out[..end].copy_from_slice(data);
     *length = end;
     OK
+}
+
+/// Lets the address of each lease be tested before it is used, and announced, or not.
+#[unsafe(no_mangle)]
+pub extern "C" fn iface_dhcp_set_probing(client: &mut IfaceDhcp, alloc: Global, on: u8) -> u32
+    ensures done { spec.DidOne result (λ old new. new ≡ with_probes (holds_in on) old) client.old client.new }
+    ensures code { result ≡ spec.code_of_one (λ _. None) (dhcp_in client.old) }
+{
+    let Some(mut dhcp) = client.take(alloc) else {
+        return NO_CLIENT;
+    };
+    dhcp.set_probes(on != 0);
+    client.put(dhcp);
+    OK
+}
+
+/// Writes how many leases a client has declined, up to 255.
+#[unsafe(no_mangle)]
+pub extern "C" fn iface_dhcp_declined(client: &mut IfaceDhcp, alloc: Global, count: &mut u8) -> u32
+    ensures done { spec.DidOne result (λ old new. spec.ShowsDeclined count.new old new) client.old client.new }
+    ensures code { result ≡ spec.code_of_one (λ _. None) (dhcp_in client.old) }
+    ensures kept { result ≢ 0 → count.new ≡ count.old }
+{
+    let Some(dhcp) = client.take(alloc) else {
+        return NO_CLIENT;
+    };
+    let declined = dhcp.client.declined;
+    client.put(dhcp);
+    *count = declined;
+    OK
+}
+
+/// Releases the lease of a client: its server is told.
+#[unsafe(no_mangle)]
+pub extern "C" fn iface_dhcp_release(
+    client: &mut IfaceDhcp,
+    handle: &mut Iface,
+    alloc: Global,
+) -> u32
+    ensures done { spec.DidBoth result Releases client.old client.new handle.old handle.new }
+    ensures code { result ≡ spec.code_of_both (λ d _. release_refusal d) (dhcp_in client.old) (host_in handle.old) }
+{
+    let Some(mut dhcp) = client.take(alloc) else {
+        return NO_CLIENT;
+    };
+    let Some(mut host) = handle.take(alloc) else {
+        client.put(dhcp);
+        return NO_HOST;
+    };
+    let done = dhcp.release(&mut host);
+    handle.put(host);
+    client.put(dhcp);
+    match done {
+        Ok(()) => OK,
+        Err(refusal) => code(refusal),
+    }
 }
 
 /// Lets a client give up its lease, and ask for its address again.

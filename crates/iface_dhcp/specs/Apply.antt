@@ -8,7 +8,6 @@ use Rattle.ip_address.specs.declared.cidr.IpCidr.TheVariants.{Ipv4}
 use Rattle.ip_address.specs.declared.cidr.Ipv4Cidr.{Ipv4Cidr}
 use Rattle.ip_address.specs.declared.ip.IpAddress.TheVariants as address
 use Rattle.ip_address.specs.declared.ipv4.Ipv4Address.{Ipv4Address}
-use Rattle.dhcp_client.specs.Client.{lease}
 use Rattle.dhcp_client.specs.declared.lease.DhcpLease.{DhcpLease}
 use Rattle.dhcp_client.specs.declared.routes.DhcpRoute.{DhcpRoute}
 use Rattle.iface_host.specs.Leased.{ReplacesLeased, leased_refusal}
@@ -18,7 +17,7 @@ use Rattle.iface_host.specs.TableRefusals.{route_refusal, way_removal_refusal}
 use Rattle.iface_host.specs.declared.host.IfaceHost.{IfaceHost}
 use Rattle.iface_host.specs.declared.leased.Leased.{Leased}
 use Rattle.iface_host.specs.declared.refusal.Refusal.{Refusal}
-use Rattle.iface_dhcp.specs.Dhcp.{routes}
+use Rattle.iface_dhcp.specs.Dhcp.{lease, routes}
 use Rattle.iface_dhcp.specs.declared.dhcp.Dhcp.{Dhcp}
 
 -- a mask tells as many bits as it has ones from the first on (RFC 2132 3.3); without one the network is the address alone
@@ -41,9 +40,9 @@ abbrev pub leased_of : Option DhcpLease → Option Leased
 leased_of None = None
 leased_of (Some l) = Some (leased_by l)
 
--- what the client's lease gives
+-- what the lease gives that can be used
 abbrev pub leased : Dhcp → Option Leased
-leased d = leased_of (lease d.client)
+leased d = leased_of (lease d)
 
 -- the same address, prefix and router
 abbrev pub is_same_router : Option Ipv4Address → Option Ipv4Address → Bool

@@ -1,10 +1,13 @@
 -- A client of DHCP for a host: how it is made, and how it goes.
-use Rattle.std.specs.Prelude.{ℕ, ℤ, ◌≡◌, ◌&&◌, pos, min, nat_le, is_some, Bool, List, [], length, Option, Some, None, if◌then◌else◌}
+use Rattle.std.specs.Prelude.{ℕ, ℤ, ◌≡◌, ◌&&◌, ◌/◌, ◌^◌, not, pos, min, nat_le, is_some, Bool, true, false, List, [], length, Option, Some, None, if◌then◌else◌}
 use Rattle.std.specs.Option.{option_map}
 use Rattle.ip_address.specs.declared.ethernet_address.EthernetAddress.{EthernetAddress}
 use Rattle.sockets.specs.declared.endpoint.IpListenEndpoint.{IpListenEndpoint}
 use Rattle.sockets.specs.declared.icmp.Endpoint.TheVariants.{Udp}
+use Rattle.net_base.specs.Rand.{next}
 use Rattle.dhcp_client.specs.Client as client
+use Rattle.dhcp_client.specs.Probing.{due_at, is_tested}
+use Rattle.dhcp_client.specs.declared.probing.Probing.{Probing}
 use Rattle.dhcp_client.specs.Details.Message as message
 use Rattle.dhcp_client.specs.Details.Routes.{routes_in}
 use Rattle.dhcp_client.specs.declared.lease.DhcpLease.{DhcpLease}
@@ -52,6 +55,8 @@ pub record IsNew (s : DhcpSettings) (dhcp : Dhcp) (old new : IfaceHost) : Type 0
   pub kept : Keeps dhcp.kept between new
   pub client : dhcp.client ≡ client.new_client hardware_addr s.known
   pub broadcast : dhcp.broadcast ≡ None
+  pub probes : dhcp.probes ≡ true
+  pub probing : dhcp.probing ≡ None
   pub lost : dhcp.lost ≡ None
   pub random : dhcp.random ≡ s.random_seed
   pub parameters : dhcp.wishes.parameters.items ≡ []
@@ -84,9 +89,22 @@ pub record SetsHostName (name : List ℕ) (d d' : Dhcp) : Type 0 where
 abbrev pub long_refusal : ℕ → List ℕ → Option Refusal
 long_refusal most octets = if nat_le (length octets) most then None else Some TooLong
 
+-- a random number, of those that are drawn one after another
+abbrev pub word : Dhcp → ℕ
+word d = next d.random / 2 ^ 32
+
+-- an address is tested that isn't in use yet
+abbrev pub is_in_test : Option Probing → Bool
+is_in_test None = false
+is_in_test (Some p) = not (is_tested p)
+
+-- the lease that can be used: that of the client, once its address was tested
+abbrev pub lease : Dhcp → Option DhcpLease
+lease d = if is_in_test d.probing then None else client.lease d.client
+
 -- the data of an option of the lease, which the message has that gave it
 abbrev pub is_leased : Dhcp → Bool
-is_leased d = is_some (client.lease d.client) && nat_le 240 (length d.ack)
+is_leased d = is_some (lease d) && nat_le 240 (length d.ack)
 
 abbrev pub option : ℕ → Dhcp → List ℕ
 option code d = if is_leased d then message.data_in code d.ack else []
@@ -97,11 +115,21 @@ routes_of None ack = []
 routes_of (Some l) ack = if nat_le 240 (length ack) then routes_in l.address (message.data_in 121 ack) else []
 
 abbrev pub routes : Dhcp → List DhcpRoute
-routes d = routes_of (client.lease d.client) d.ack
+routes d = routes_of (lease d) d.ack
+
+-- the earlier one of two instants, as far as there are two
+abbrev pub earlier : Option ℕ → Option ℕ → Option ℕ
+earlier None b = b
+earlier (Some a) None = Some a
+earlier (Some a) (Some b) = Some (min a b)
+
+abbrev pub request_due : Option Probing → Option ℕ
+request_due None = None
+request_due (Some p) = due_at p
 
 -- when something is due, up to the last moment
 abbrev pub poll_at : Dhcp → Option ℤ
-poll_at dhcp = option_map (λ at. pos (min at 0x4000_0000_0000_0000)) (client.poll_at dhcp.client)
+poll_at dhcp = option_map (λ at. pos (min at 0x4000_0000_0000_0000)) (earlier (client.poll_at dhcp.client) (request_due dhcp.probing))
 
 -- what a call of the host does unless it is refused, when it leaves the host as it is
 abbrev pub Unless : Option Refusal → (IfaceHost → IfaceHost → Type 0) → IfaceHost → IfaceHost → Type 0
@@ -116,10 +144,17 @@ abbrev pub ClosesIf : Option ℕ → IfaceHost → IfaceHost → Type 0
 ClosesIf None old new = new ≡ old
 ClosesIf (Some n) old new = ClosesOne n old new
 
+-- the address of the lease is watched no more
+abbrev pub unwatched_if : Option Probing → IfaceHost → IfaceHost
+unwatched_if None host = host
+unwatched_if (Some p) host = record host { watched = None }
+
 -- its sockets are closed: that of UDP, the raw one, and what keeps a place
 pub record Closes (dhcp : Dhcp) (old new : IfaceHost) : Type 0 where
   pub between : IfaceHost
   pub udp : ClosesOne dhcp.socket old between
   pub after : IfaceHost
   pub raw : ClosesIf dhcp.broadcast between after
-  pub place : ClosesIf dhcp.kept after new
+  pub closed : IfaceHost
+  pub place : ClosesIf dhcp.kept after closed
+  pub unwatched : new ≡ unwatched_if dhcp.probing closed

@@ -1,6 +1,7 @@
 pub mod Dhcp
 pub mod Hear
 pub mod Place
-pub mod Send
-pub mod Poll
 pub mod Apply
+pub mod Send
+pub mod Probe
+pub mod Poll

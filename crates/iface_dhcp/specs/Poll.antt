@@ -15,7 +15,9 @@ use Rattle.iface_host.specs.declared.refusal.Refusal.{Refusal}
 use Rattle.iface_host.specs.declared.refusal.Refusal.TheVariants.{NoSocket}
 use Rattle.iface_dhcp.specs.declared.dhcp.Dhcp.{Dhcp}
 use Rattle.iface_dhcp.specs.Hear.{Hears, HearsAll, Overhears}
-use Rattle.iface_dhcp.specs.Send.{ClosesSent, Sends}
+use Rattle.iface_dhcp.specs.Dhcp.{is_in_test, word}
+use Rattle.iface_dhcp.specs.Probe.{SendsIf, Tests}
+use Rattle.iface_dhcp.specs.Send.{ClosesSent}
 
 -- the host has no UDP socket of this number
 abbrev pub socket_refusal : IfaceHost → ℕ → Option Refusal
@@ -39,10 +41,7 @@ pub record IsWaiting (n count : ℕ) (host : IfaceHost) : Type 0 where
 abbrev pub with_client : Dhcp → DhcpClient → Dhcp
 with_client d c = record d { client = c }
 
--- the random number that is drawn for a message; where there is none, none is drawn
-abbrev pub word : Dhcp → ℕ
-word d = next d.random / 2 ^ 32
-
+-- a random number is drawn for a message; where there is none, none is drawn
 abbrev pub drawn : Option DhcpMessage → Dhcp → Dhcp
 drawn None d = d
 drawn (Some m) d = record d { random = next d.random }
@@ -51,17 +50,27 @@ abbrev pub after_asking : ℕ → Dhcp → Dhcp
 after_asking now d =
     drawn (messages.message_at now (word d) d.client) (with_client d (messages.after_asking now (word d) d.client))
 
--- a message, if there is one, is queued
-abbrev pub SendsIf : Option DhcpMessage → Dhcp → Dhcp → IfaceHost → IfaceHost → Type 0
-SendsIf None d d' old new = (d' ≡ d) × (new ≡ old)
-SendsIf (Some m) d d' old new = Sends m d d' old new
-
 abbrev pub SendsNext : ℕ → Dhcp → Dhcp → IfaceHost → IfaceHost → Type 0
 SendsNext now d = SendsIf (messages.message_at now (word d) d.client) (after_asking now d)
 
+-- what its owner is told of the lease, once the address was tested
+abbrev pub told_if : (in_test : Bool) → DhcpClient → Option DhcpEvent
+told_if true c = None
+told_if false c = event c
+
+abbrev pub told : Dhcp → Option DhcpEvent
+told d = told_if (is_in_test d.probing) d.client
+
+abbrev pub after_telling_if : (in_test : Bool) → Dhcp → Dhcp
+after_telling_if true d = d
+after_telling_if false d = with_client d (after_telling d.client)
+
+abbrev pub after_telling_of : Dhcp → Dhcp
+after_telling_of d = after_telling_if (is_in_test d.probing) d
+
 -- first it hears the datagrams that wait, and the packets at the raw socket; then that is closed, if it is of no use any more; then
--- what is due is queued; and its owner is told of the lease
-pub record Polls (now : ℤ) (told : Option DhcpEvent) (d d' : Dhcp) (old new : IfaceHost) : Type 0 where
+-- what is due is queued, and the address of the lease tested; and its owner is told of the lease
+pub record Polls (now : ℤ) (event : Option DhcpEvent) (d d' : Dhcp) (old new : IfaceHost) : Type 0 where
   pub micros : ℕ
   pub is_now : pos micros ≡ now
   pub count : ℕ
@@ -71,11 +80,14 @@ pub record Polls (now : ℤ) (told : Option DhcpEvent) (d d' : Dhcp) (old new : 
   pub sent : Dhcp
   pub after_hearing : IfaceHost
   pub after_overhearing : IfaceHost
+  pub tested : Dhcp
   pub after_closing : IfaceHost
+  pub after_sending : IfaceHost
   pub waiting : IsWaiting d.socket count old
   pub hears : HearsAll Hears count d heard old after_hearing
   pub overhears : Overhears heard.broadcast heard overheard after_hearing after_overhearing
   pub closes : ClosesSent overheard closed after_overhearing after_closing
-  pub sends : SendsNext micros closed sent after_closing new
-  pub event_is : told ≡ event sent.client
-  pub after : d' ≡ with_client sent (after_telling sent.client)
+  pub sends : SendsNext micros closed sent after_closing after_sending
+  pub tests : Tests micros sent tested after_sending new
+  pub event_is : event ≡ told tested
+  pub after : d' ≡ after_telling_of tested

@@ -1,13 +1,16 @@
 -- How the client's messages are queued.
-use Rattle.std.specs.Prelude.{ℕ, ◌≡◌, ◌⊎◌, ◌||◌, nat_lt, not, is_some, Bool, true, false, length, Option, Some, None, if◌then◌else◌}
+use Rattle.std.specs.Prelude.{ℕ, ◌≡◌, ◌⊎◌, ◌||◌, ◌&&◌, nat_lt, not, is_some, Bool, true, false, length, Option, Some, None, if◌then◌else◌}
 use Rattle.ip_address.specs.Ipv4.{is_broadcast}
 use Rattle.ip_address.specs.declared.protocol.IpProtocol.TheVariants as protocol
 use Rattle.ip_address.specs.declared.protocol.IpVersion.TheVariants as version
 use Rattle.dhcp_client.specs.declared.messages.DhcpMessage.{DhcpMessage}
 use Rattle.dhcp_client.specs.declared.wishes.DhcpWishes.{DhcpWishes}
+use Rattle.ip_address.specs.declared.ip.IpAddress.TheVariants.{Ipv4}
 use Rattle.dhcp_client.specs.Client.{lease}
+use Rattle.dhcp_client.specs.Messages.{everybody}
 use Rattle.dhcp_client.specs.Details.Datagrams.{server_of}
 use Rattle.dhcp_client.specs.Details.Packets.{message_text, packet_of}
+use Rattle.iface_host.specs.Calls.{source_for}
 use Rattle.iface_host.specs.Queues.{fills_at}
 use Rattle.iface_host.specs.Refusals.{raw_unsent, udp_unsent}
 use Rattle.iface_host.specs.TableRefusals.{opening_refusal}
@@ -75,9 +78,13 @@ are_waiting (Some fills) = nat_lt 0 fills.1.packets
 abbrev pub is_waiting : IfaceHost → ℕ → Bool
 is_waiting host n = are_waiting (fills_at host n)
 
--- the raw socket is of use as long as there is no lease, for answers to an address that the host hasn't, and while a packet waits
+-- the raw socket is of use while a packet waits, and as long as there is no lease and the host has no address of IPv4, for answers to
+-- an address that it hasn't
+abbrev pub is_nowhere : Dhcp → IfaceHost → Bool
+is_nowhere d host = not (is_some (lease d.client)) && not (is_some (source_for host (Ipv4 everybody)))
+
 abbrev pub needs_raw : ℕ → Dhcp → IfaceHost → Bool
-needs_raw n d host = not (is_some (lease d.client)) || is_waiting host n
+needs_raw n d host = is_nowhere d host || is_waiting host n
 
 -- else it is closed, and its place is kept
 pub record ClosesRaw (n : ℕ) (d d' : Dhcp) (old new : IfaceHost) : Type 0 where

@@ -10,8 +10,8 @@ use iface_host::{IfaceHost, Leased, Refusal};
 use ip_wire::{IpAddress, IpCidr, Ipv4Address, Ipv4Cidr};
 
 impl Dhcp {
-    /// Gives a host the address, the default route and the other routes of the client's lease, in place of those that the client
-    /// gave it before; none, if there is no lease. Where the address and the default route are the same the neighbours stay. It
+    /// Gives a host the address, the default route and the other routes of the lease, in place of those that the client gave it
+    /// before; none, if there is no lease that can be used. Where the address and the default route are the same the neighbours stay. It
     /// fails as [`IfaceHost::replace_leased`] does; then nothing changes. Other routes, of [`Dhcp::routes`], are left out where there
     /// is no room for them.
     pub fn apply(&mut self, host: &mut IfaceHost) -> Result<(), Refusal>
@@ -32,7 +32,7 @@ impl Dhcp {
         ensures dhcp { OnErr result (self.new ≡ self.old) }
         ensures host { OnErr result (Stays host.old host.new) }
     {
-        let leased = leased_of(&self.client.lease());
+        let leased = leased_of(&self.lease());
         if is_same(&self.leased, &leased) {
             return Ok(());
         }
@@ -160,7 +160,7 @@ fn is_same(old: &Option<Leased>, new: &Option<Leased>) -> bool
 }
 
 /// Whether the router is the same.
-fn is_same_router(old: &Option<Ipv4Address>, new: &Option<Ipv4Address>) -> bool
+pub(crate) fn is_same_router(old: &Option<Ipv4Address>, new: &Option<Ipv4Address>) -> bool
     ensures { result ≡ spec.is_same_router old.now new.now }
 {
     match (old, new) {

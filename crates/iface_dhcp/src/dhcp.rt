@@ -7,7 +7,7 @@ ghost use Rattle.iface_host.specs.declared.refusal.Refusal.{Refusal};
 
 use crate::place::keep_place;
 use dhcp_client::message::{CLIENT_PORT, HEADER_LEN};
-use dhcp_client::{DhcpClient, DhcpLease, DhcpRepr, DhcpRoutes, DhcpWishes, OptionData};
+use dhcp_client::{DhcpClient, DhcpLease, DhcpRepr, DhcpRoutes, DhcpWishes, OptionData, Probing};
 use iface_host::{IfaceHost, Leased, Refusal, Room, Rooms};
 use ip_wire::Ipv4Address;
 use ip_wire::emit::FrameBuffer;
@@ -52,6 +52,10 @@ pub struct Dhcp {
     /// The number of the socket that keeps the place of the raw one, while that isn't open. Only where memory was refused there may
     /// be neither.
     pub kept: Option<u32>,
+    /// Whether the address of a lease is tested before it is used, and announced.
+    pub probes: bool,
+    /// The address that is tested, or in use, and announced.
+    pub probing: Option<Probing>,
     /// Why the message that was due last is lost, if it is.
     pub lost: Option<Refusal>,
     /// Where its random numbers come from.
@@ -92,6 +96,8 @@ impl Dhcp {
             socket: 0,
             broadcast: None,
             kept: None,
+            probes: true,
+            probing: None,
             lost: None,
             random: Rand::new(settings.random_seed),
             wishes: DhcpWishes::new(),
@@ -111,10 +117,13 @@ impl Dhcp {
         Ok(dhcp)
     }
 
-    /// The lease that it has, if it has one.
+    /// The lease that it has, if it has one and its address was tested.
     pub const fn lease(&self) -> Option<DhcpLease>
-        ensures { result ≡ client.lease self.now.client }
+        ensures { result ≡ spec.lease self.now }
     {
+        if self.is_in_test() {
+            return None;
+        }
         self.client.lease()
     }
 
@@ -152,7 +161,7 @@ impl Dhcp {
     pub fn option(&self, code: u8) -> OptionData
         ensures { result.items ≡ spec.option code self.now }
     {
-        if self.client.lease().is_none() || self.ack.len() < HEADER_LEN {
+        if self.lease().is_none() || self.ack.len() < HEADER_LEN {
             return OptionData::new();
         }
         DhcpRepr::option_in(self.ack.as_slice(), code)
@@ -163,7 +172,7 @@ impl Dhcp {
     pub fn routes(&self) -> DhcpRoutes
         ensures { result.items ≡ spec.routes self.now }
     {
-        match self.client.lease() {
+        match self.lease() {
             Some(lease) if self.ack.len() >= HEADER_LEN => {
                 DhcpRepr::routes_in(self.ack.as_slice(), &lease.address)
             }
@@ -189,11 +198,11 @@ impl Dhcp {
     }
 
     /// When [`Dhcp::poll`] does something if nothing came, in microseconds; before that it changes nothing of the client. `None`
-    /// only for a lease without end.
+    /// only for a lease without end whose address was announced.
     pub fn poll_at(&self) -> Option<i64>
         ensures { result ≡ spec.poll_at self.now }
     {
-        let at = self.client.poll_at()?;
+        let at = earlier(self.client.poll_at(), self.request_due())?;
         if at < 0x4000_0000_0000_0000 {
             Some(at as i64)
         } else {
@@ -201,16 +210,41 @@ impl Dhcp {
         }
     }
 
-    /// Closes the client's sockets of a host.
+    /// Closes the client's sockets of a host, which watches no address any more.
     pub fn close(&mut self, host: &mut IfaceHost)
         ensures sockets { spec.Closes self.old host.old host.new }
-        ensures dhcp { self.new ≡ record self.old { broadcast = None; kept = None } }
+        ensures dhcp { self.new ≡ record self.old { broadcast = None; kept = None; probing = None } }
     {
         close_one(host, self.socket);
         close_if(host, &self.broadcast);
         close_if(host, &self.kept);
         self.broadcast = None;
         self.kept = None;
+        if self.probing.is_some() {
+            host.watch_address(None);
+        }
+        self.probing = None;
+    }
+
+    /// When an ARP request is due.
+    fn request_due(&self) -> Option<u128>
+        ensures { result ≡ spec.request_due self.now.probing }
+    {
+        match self.probing {
+            Some(probing) => probing.due_at(),
+            None => None,
+        }
+    }
+}
+
+/// The earlier one of two instants, as far as there are two.
+fn earlier(a: Option<u64>, b: Option<u128>) -> Option<u128>
+    ensures { result ≡ spec.earlier a b }
+{
+    match (a, b) {
+        (None, b) => b,
+        (Some(a), None) => Some(u128::from(a)),
+        (Some(a), Some(b)) => Some(b.min(u128::from(a))),
     }
 }
 

@@ -7,6 +7,7 @@ pub mod dhcp;
 pub mod hear;
 pub mod place;
 pub mod poll;
+pub mod probe;
 pub mod send;
 
 pub use dhcp::{Dhcp, DhcpSettings};

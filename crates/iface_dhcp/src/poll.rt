@@ -2,6 +2,7 @@
 ghost use Rattle.std.specs.Prelude.{◌≡◌, IfOk, OnErr, is_some};
 ghost use Rattle.std.specs.Result.{result_err};
 ghost use Rattle.dhcp_client.specs.Messages as messages;
+ghost use Rattle.iface_dhcp.specs.Dhcp.{word};
 ghost use Rattle.iface_dhcp.specs.Poll as spec;
 ghost use Rattle.iface_host.specs.Refusals.{kind_at};
 ghost use Rattle.sockets.specs.Kinds.{down_udp};
@@ -13,7 +14,7 @@ use iface_host::{IfaceHost, Refusal};
 
 impl Dhcp {
     /// Does what is due at a moment: hands the client what came to its sockets, queues the message that is to be sent now, if
-    /// there is one, and returns what has become of the lease since the last call, if it has changed. `BadMoment` if the moment
+    /// there is one, tests the address of the lease, and returns what has become of that since the last call, if it has changed. `BadMoment` if the moment
     /// is out of range, else `NoSocket` if the host doesn't have the client's socket; then nothing changes.
     ///
     /// A message that can't be queued counts as lost, and is sent again later.
@@ -29,7 +30,8 @@ impl Dhcp {
         self.overhear(host);
         self.close_sent(host);
         self.send_next(host, micros);
-        Ok(self.client.take_event())
+        self.test(host, micros);
+        Ok(self.take_event())
     }
 
     /// Queues the message that is to be sent at an instant, if there is one.
@@ -43,7 +45,7 @@ impl Dhcp {
 
     /// The message that is to be sent at an instant, if there is one. A random number is drawn for each.
     fn next_message(&mut self, now: u64) -> Option<DhcpMessage>
-        ensures message { result ≡ messages.message_at now (spec.word self.old) self.old.client }
+        ensures message { result ≡ messages.message_at now (word self.old) self.old.client }
         ensures dhcp { self.new ≡ spec.after_asking now self.old }
     {
         let mut random = self.random;

@@ -8,7 +8,7 @@ ghost use Rattle.ip_address.specs.Ipv4.{is_broadcast};
 use crate::dhcp::{Dhcp, close_one};
 use dhcp_client::{DhcpMessage, DhcpRoom, DhcpWishes, server_of};
 use iface_host::{IfaceHost, Refusal, Room, Rooms};
-use ip_wire::{IpProtocol, IpVersion};
+use ip_wire::{IpAddress, IpProtocol, IpVersion, Ipv4Address};
 
 /// The most octets that wait at the raw socket: as many as the longest packet of an Ethernet has.
 pub const OVERHEARD_LEN: usize = 1500;
@@ -65,7 +65,7 @@ impl Dhcp {
         }
     }
 
-    /// Closes the raw socket, if it is open, the client has a lease and nothing waits to be sent there, and keeps its place.
+    /// Closes the raw socket, if it is open and of no use any more, and keeps its place.
     pub(crate) fn close_sent(&mut self, host: &mut IfaceHost)
         ensures { spec.ClosesSent self.old self.new host.old host.new }
     {
@@ -81,11 +81,19 @@ impl Dhcp {
         self.keep_place(host);
     }
 
-    /// Whether the raw socket is still of use: the client has no lease, or a packet waits to be sent there.
+    /// Whether the raw socket is still of use: a packet waits to be sent there, or the client has no lease, and the host no address.
     fn needs_raw(&self, host: &IfaceHost, number: u32) -> bool
         ensures { result ≡ spec.needs_raw number self.now host.now }
     {
-        self.client.lease().is_none() || is_waiting(host, number)
+        self.is_nowhere(host) || is_waiting(host, number)
+    }
+
+    /// Whether the client has no lease, and the host no address of IPv4.
+    fn is_nowhere(&self, host: &IfaceHost) -> bool
+        ensures { result ≡ spec.is_nowhere self.now host.now }
+    {
+        let everybody = IpAddress::Ipv4(Ipv4Address::BROADCAST);
+        self.client.lease().is_none() && host.source_for(everybody).is_none()
     }
 }
 

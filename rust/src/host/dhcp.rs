@@ -62,7 +62,7 @@ fn told(address: &sys::iface_address) -> Option<Ipv4Address> {
 pub enum LeaseEvent {
     /// There is one: a new one, or one that was renewed.
     Configured,
-    /// There is none any more: its address must not be used.
+    /// There is none any more, or it was declined: its address must not be used.
     Deconfigured,
 }
 
@@ -210,6 +210,31 @@ impl Dhcp {
     /// can't be one.
     pub fn apply(&mut self, host: &mut Host) -> Result<(), Error> {
         call!(self.iface_dhcp_apply(&mut host.raw))
+    }
+
+    /// Lets the address of each lease be tested before it is used, and announced (RFC 5227 2.1.1, 2.3), or not; it is on by default.
+    /// [`poll`](Dhcp::poll) then tells of a lease four to seven seconds after the server's answer. One that another host has is declined,
+    /// and the client asks for offers after ten seconds, or after a minute from the tenth on. It belongs behind [`new`](Dhcp::new).
+    pub fn set_probing(&mut self, on: bool) {
+        // It is refused only without a client.
+        let _ = call!(self.iface_dhcp_set_probing(on.into()));
+    }
+
+    /// How many leases it has declined, 255 at most.
+    pub fn declined(&mut self) -> u8 {
+        let mut count = 0;
+        // It is refused only without a client.
+        let _ = call!(self.iface_dhcp_declined(&mut count));
+        count
+    }
+
+    /// Releases the lease: the message to its server waits at the client's socket, and the lease is given up. Send what the host has to
+    /// send, and then call [`apply`](Dhcp::apply), which takes the address: a client that is polled again asks for offers.
+    ///
+    /// # Errors
+    /// [`Error::Empty`] if there is no lease.
+    pub fn release(&mut self, host: &mut Host) -> Result<(), Error> {
+        call!(self.iface_dhcp_release(&mut host.raw))
     }
 
     /// Is called once a link came up: gives up the lease, if there is one, and asks for its address again (RFC 2131 3.2). Where the

@@ -159,7 +159,9 @@ impl<'a> Socket<'a> {
 
     pub(crate) fn attach(&mut self, host: &Shared) -> Result<(), Error> {
         let seed = host.next_seed();
-        let dhcp = host.take_places(PLACES, |host| Dhcp::new(host, seed, None))?;
+        let mut dhcp = host.take_places(PLACES, |host| Dhcp::new(host, seed, None))?;
+        // As smoltcp's: an address is told at once.
+        dhcp.set_probing(false);
         self.client = Some(Client { host: host.clone(), dhcp: Some(dhcp) });
         self.at = Some(Instant::ZERO);
         Ok(())

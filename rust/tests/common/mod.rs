@@ -5,7 +5,7 @@ pub mod dhcp;
 
 use fumitorygate::time::Instant;
 use fumitorygate::wire::{EthernetAddress, HardwareAddress, IpAddress, IpCidr, IpEndpoint, Ipv4Address, Ipv6Address};
-use fumitorygate::{FRAME_ROOM, Host, Rooms, Settings};
+use fumitorygate::{Error, FRAME_ROOM, Host, Rooms, Settings};
 
 pub const OWN: [u8; 6] = [2, 0, 0, 0, 0, 1];
 
@@ -198,7 +198,9 @@ impl Node {
     /// ask by `lookup`.
     pub fn lookup(&mut self, to: impl Into<IpAddress>, now: Instant) -> Vec<Seen> {
         let socket = self.host.udp_open(0x3000.into(), Rooms::new(1, 64)).unwrap();
-        self.host.udp_send(socket, IpEndpoint::new(to.into(), 9), b"lookup").unwrap();
+        // Where no network and no route has it nothing is queued.
+        let queued = self.host.udp_send(socket, IpEndpoint::new(to.into(), 9), b"lookup");
+        assert!(matches!(queued, Ok(()) | Err(Error::NoRoute)), "{queued:?}");
         let all = self.sends(now);
         self.host.close(socket).unwrap();
         all

@@ -1,3 +1,4 @@
+use Rattle.std.proofs.Common.{rules}
 use Rattle.iface_dhcp.proofs.dhcp.Dhcp.close.Goals as goal
 
 pub returns-clause-sockets : goal.returns-clause-sockets
@@ -6,5 +7,7 @@ returns-clause-sockets c = record {
   udp = c.close_one.ensures;
   after = c.close_if.new.host;
   raw = c.close_if.ensures;
+  closed = c.close_if-2.new.host;
   place = c.close_if-2.ensures;
+  unwatched = search rules;
 }

@@ -1,6 +1,5 @@
-use Rattle.std.proofs.Common.{ap, ◌∙◌}
+use Rattle.std.proofs.Common.{◌∙◌}
 use Rattle.std.proofs.lemmas.Int.{to_z-of_z}
-use Rattle.iface_dhcp.specs.Poll.{with_client}
 use Rattle.iface_dhcp.proofs.dhcp.Dhcp.poll.Goals as goal
 
 pub returns-clause-polled : goal.returns-clause-polled
@@ -14,12 +13,15 @@ returns-clause-polled c = record {
   sent = c.send_next.new.self;
   after_hearing = c.hear.new.host;
   after_overhearing = c.overhear.new.host;
+  tested = c.test.new.self;
   after_closing = c.close_sent.new.host;
+  after_sending = c.send_next.new.host;
   waiting = c.in_ok-count.ensures.count;
   hears = c.hear.ensures;
   overhears = c.overhear.ensures;
   closes = c.close_sent.ensures;
   sends = c.send_next.ensures;
-  event_is = c.take_event.ensures.event;
-  after = ap (with_client c.send_next.new.self) c.take_event.ensures.client;
+  tests = c.test.ensures;
+  event_is = c.take_event.ensures.told;
+  after = c.take_event.ensures.after;
 }
