@@ -106,6 +106,10 @@ limited_slots (HalfOpen index) place now h = refl
 limited_slots (Waiting index) place now h = refl
 limited_slots Program place now h = refl
 
+pub advanced_all_slots : (place now : ℕ) (h : Host) → length (advanced place (expired place now h)).slots ≡ length h.slots
+advanced_all_slots place now h =
+    let one = expired place now h in advanced_slots (slot_at place one).owner place one ∙ expired_slots place now h
+
 pub limited_all_slots : (place now : ℕ) (h : Host) → length (limited place now (advanced place (expired place now h))).slots ≡ length h.slots
 limited_all_slots place now h =
     let one = expired place now h in
