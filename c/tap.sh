@@ -133,7 +133,7 @@ for ends in '192.168.69.4/24 192.168.69.100 192.168.69.77' 'fd69::4/64 [fd69::10
     try fetches "$own" "http://$peer:8000/megabyte"
     try says 'HTTP/1.0 404' "$own" "http://$peer:8000/nothing"
     try says 'the peer refused the connection' "$own" "http://$peer:8001/"
-    try says "the peer doesn't answer" "$own" "http://$nobody:8000/"
+    try says "the peer can't be reached" "$own" "http://$nobody:8000/"
 done
 try says '10.9.9.9: no route' 192.168.69.4/24 http://10.9.9.9:8000/
 try says '2001:db8::9: no route' fd69::4/64 'http://[2001:db8::9]:8000/'

@@ -88,7 +88,7 @@ static inline int go_on(iface_streams *tcp, struct fetch *f, const struct url *p
 /* Lets go of the connection. Whether the whole page came; if not, the reason is told. */
 static inline int end_fetch(iface_streams *tcp, struct fetch *f) {
     static const char *const reasons[] = {"", "the peer cut the connection", "the peer refused the connection",
-                                          "the peer doesn't answer", "the own address is gone"};
+                                          "the peer doesn't answer", "the own address is gone", "the peer can't be reached"};
     uint32_t ending;
     must("ending", iface_stream_ending(tcp, &f->stream, &ending));
     must("release", iface_stream_release(tcp, &f->stream));
