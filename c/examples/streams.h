@@ -32,13 +32,20 @@ static inline void exchange(iface *host, iface_streams *tcp, int tap, int64_t *a
     if (due < *at) *at = due;
 }
 
-/* Does what is due, sleeps until something is, or that instant, or a frame comes, and takes those that came. It doesn't sleep where
- * something was due: that may have ended a connection, which the program has to see first. */
-static inline void take_turn(iface *host, iface_streams *tcp, int tap, int64_t instant) {
+/* When the host or a connection has something to do, or the program just gave them something. */
+static inline int64_t due_at(iface *host, iface_streams *tcp) {
     int64_t at, due;
+    must("due", iface_poll_at(host, now_micros(), &at));
     must("due", iface_streams_poll_at(tcp, &due));
+    return due < at ? due : at;
+}
+
+/* Sleeps until something is due, or that instant, or a frame comes; then does what is due, and takes the frames. It sleeps first, since
+ * what it does may end a connection, and the program has to see that before it sleeps again. */
+static inline void take_turn(iface *host, iface_streams *tcp, int tap, int64_t instant) {
+    int64_t at = due_at(host, tcp);
+    sleep_until(tap, at < instant ? at : instant);
     exchange(host, tcp, tap, &at);
-    if (due > now_micros()) sleep_until(tap, at < instant ? at : instant);
     for (int burst = 0; burst < 64 && take_frame(host, tap); burst++) exchange(host, tcp, tap, &at);
 }
 
