@@ -540,6 +540,22 @@ static void keeps_time_wait(void) {
     must("free", iface_streams_free(&tcp, &host)), must("free", iface_free(&host));
 }
 
+/* Ten thousand pages in a row, one each millisecond, at 256 places, where the server closes first: each is served at once. */
+static void serves_pages(void) {
+    iface host = IFACE_NONE;
+    iface_streams tcp = IFACE_STREAMS_NONE;
+    struct iface_stream s = {77, 77};
+    make(&host, 4), make_streams(&tcp, &host, 256);
+    size_t listener = listen_at(&tcp, 7, 16);
+    for (uint16_t i = 0; i < 10000; i++) {
+        int64_t now = second + 1000 * i;
+        struct peer p = come_in(&tcp, &host, now, (uint16_t)(4000 + i), 7);
+        must("accept", iface_stream_accept(&tcp, listener, &s)), writes(&tcp, &host, now, &s, &p, "a page");
+        closes_first(&tcp, &host, now, &s, &p), lets_go(&tcp, &host, now, &s);
+    }
+    must("free", iface_streams_free(&tcp, &host)), must("free", iface_free(&host));
+}
+
 /* A SYN between the ends of a connection in TIME-WAIT begins the next one, if its number is larger than all that came, and the own
  * one larger than all that was sent (RFC 9293 3.6.1, RFC 6191 2). */
 static void reopens(void) {
@@ -943,6 +959,7 @@ int main(void) {
     passes_routers();
     closes_a_listener();
     serves_beyond_time_wait();
+    serves_pages();
     keeps_time_wait();
     reopens();
     gives_way();
