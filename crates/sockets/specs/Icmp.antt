@@ -1,6 +1,6 @@
 -- ICMP sockets (RFC 792, RFC 4443).
 use Rattle.std.specs.Prelude.{ℕ, ◌==◌, ◌&&◌, ◌||◌, nat_le, nat_lt, Bool, true, false, cond}
-use Rattle.std.specs.Prelude.{if◌then◌else◌, is_none, List, length, Option, Some, None}
+use Rattle.std.specs.Prelude.{if◌then◌else◌, is_none, List, map, length, Option, Some, None}
 use Rattle.std.specs.Borrow.{Bor}
 use Rattle.std.specs.Option.{option_and_then, option_map}
 use Rattle.control_wire.specs.Icmpv4.{type_in, code_in, icmpv4_in}
@@ -23,7 +23,7 @@ use Rattle.ip_address.specs.declared.ip.IpAddress.TheVariants as address
 use Rattle.ip_wire.specs.declared.ip_packet.IpRepr.{IpRepr}
 use Rattle.ip_wire.specs.declared.ip_packet.IpRepr.TheVariants as ip
 use Rattle.ip_wire.specs.IpPacket.{next_header}
-use Rattle.sockets.specs.Queue.{Queued, first_of, put, queue_after_pop}
+use Rattle.sockets.specs.Queue.{Queued, first_of, put, queue_after_pop, queue_brought_forward}
 use Rattle.sockets.specs.Source.{source_of}
 use Rattle.sockets.specs.declared.poll_at.PollAt.{PollAt}
 use Rattle.sockets.specs.declared.poll_at.PollAt.TheVariants.{Now, Ingress}
@@ -194,3 +194,11 @@ socket_after_offer source s = cond (is_none (offered_packet source s)) (without_
 -- the socket after the acknowledgement
 abbrev pub socket_after_told : Bool → IcmpSocket → IcmpSocket
 socket_after_told is_done s = cond is_done (without_first_to_send s) s
+
+-- for which addresses the messages to send are, in order
+abbrev pub destinations : IcmpSocket → List (Option IpAddress)
+destinations s = map (λ p. Some p.0) s.tx.packets
+
+-- the socket with the one at an index as the first to send
+abbrev pub socket_brought_forward : ℕ → IcmpSocket → IcmpSocket
+socket_brought_forward index s = record s { tx = queue_brought_forward index s.tx }

@@ -1,5 +1,5 @@
 -- The kinds of sockets as one type.
-use Rattle.std.specs.Prelude.{ℕ, ℤ, Bool, Option, Some, None}
+use Rattle.std.specs.Prelude.{ℕ, ℤ, Bool, List, Option, Some, None}
 use Rattle.std.specs.Option.{option_map}
 use Rattle.ip_address.specs.declared.ip.IpAddress.{IpAddress}
 use Rattle.sockets.specs.Raw as raw
@@ -99,3 +99,17 @@ module _ {L : Type 0} where
   socket_after_told is_done (Icmp s) = Icmp (icmp.socket_after_told is_done s)
   socket_after_told is_done (Udp s) = Udp (udp.socket_after_told is_done s)
   socket_after_told is_done (Tcp s) = Tcp (tcp.socket_after_told is_done s)
+
+  -- for which addresses the packets to send are, in order
+  abbrev pub destinations : SocketOf L → List (Option IpAddress)
+  destinations (Raw s) = raw.destinations s
+  destinations (Icmp s) = icmp.destinations s
+  destinations (Udp s) = udp.destinations s
+  destinations (Tcp s) = tcp.destinations s
+
+  -- the socket with the packet at an index as the first to send
+  abbrev pub socket_brought_forward : ℕ → SocketOf L → SocketOf L
+  socket_brought_forward index (Raw s) = Raw (raw.socket_brought_forward index s)
+  socket_brought_forward index (Icmp s) = Icmp (icmp.socket_brought_forward index s)
+  socket_brought_forward index (Udp s) = Udp (udp.socket_brought_forward index s)
+  socket_brought_forward index (Tcp s) = Tcp (tcp.socket_brought_forward index s)

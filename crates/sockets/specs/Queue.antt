@@ -1,6 +1,6 @@
 -- The contents of a queue: packets in order, each with its octets.
 use Rattle.std.specs.Prelude.{ℕ, ◌+◌, ◌&&◌, nat_lt, nat_le, Bool, cond, List, [], ◌∷◌}
-use Rattle.std.specs.Prelude.{◌++◌, length, take, drop, Option, Some, None}
+use Rattle.std.specs.Prelude.{◌++◌, length, take, drop, slice_get, Option, Some, None}
 use Rattle.sockets.specs.declared.queue.Entry.{Entry}
 
 -- octets in order, and the maximum number of them
@@ -30,6 +30,18 @@ module _ {M : Type 0} where
   octets_in [] = 0
   octets_in (p ∷ ps) = length p.1 + octets_in ps
 
+-- what stands at an index comes to the front, and all else keeps its order
+abbrev pub brought_from : {A : Type 0} → (index : ℕ) → Option A → List A → List A
+brought_from index None xs = xs
+brought_from index (Some x) xs = x ∷ (take index xs ++ drop (index + 1) xs)
+
+abbrev pub brought_forward : {A : Type 0} → (index : ℕ) → List A → List A
+brought_forward index xs = brought_from index (slice_get xs index) xs
+
+-- so many octets behind the first ones come before these
+abbrev pub octets_forward : (offset count : ℕ) → List ℕ → List ℕ
+octets_forward offset count xs = take count (drop offset xs) ++ (take offset xs ++ drop (offset + count) xs)
+
 -- the first of a list, if there is one
 abbrev pub first_of : {A : Type 0} → List A → Option A
 first_of [] = None
@@ -43,6 +55,10 @@ module _ {M : Type 0} where
   -- the queue with one packet more, if that fits
   abbrev pub put : Queued M → M → List ℕ → Queued M
   put q m octets = record q { packets = cond (is_room q (length octets)) (q.packets ++ (m, octets) ∷ []) q.packets }
+
+  -- the queue with the packet at an index at its front
+  abbrev pub queue_brought_forward : ℕ → Queued M → Queued M
+  queue_brought_forward index q = record q { packets = brought_forward index q.packets }
 
   -- the queue without its first packet
   abbrev pub queue_after_pop : Queued M → Queued M

@@ -1,18 +1,19 @@
 -- Raw sockets, which send and receive whole packets of one protocol.
 use Rattle.std.specs.Prelude.{ℕ, ◌/◌, ◌==◌, ◌&&◌, nat_le, Bool, true, false, cond, is_none}
-use Rattle.std.specs.Prelude.{List, ◌++◌, length, slice_index, slice_range, Option, Some, None}
-use Rattle.std.specs.Option.{option_and_then}
+use Rattle.std.specs.Prelude.{List, map, ◌++◌, length, slice_index, slice_range, Option, Some, None}
+use Rattle.std.specs.Option.{option_and_then, option_map}
 use Rattle.ip_wire.specs.Ipv4Packet.{header_len, total_len}
 use Rattle.ip_wire.specs.Ipv4Packet as ipv4
 use Rattle.ip_wire.specs.Ipv6Packet as ipv6
-use Rattle.ip_wire.specs.IpPacket.{header_text, next_header}
+use Rattle.ip_wire.specs.IpPacket.{dst_addr, header_text, next_header}
 use Rattle.ip_wire.specs.declared.ip_packet.IpRepr.{IpRepr}
 use Rattle.ip_wire.specs.declared.ip_packet.IpRepr.TheVariants as repr
 use Rattle.ip_address.specs.Protocol.{number_of}
+use Rattle.ip_address.specs.declared.ip.IpAddress.{IpAddress}
 use Rattle.ip_address.specs.declared.protocol.IpProtocol.{IpProtocol}
 use Rattle.ip_address.specs.declared.protocol.IpVersion.{IpVersion}
 use Rattle.ip_address.specs.declared.protocol.IpVersion.TheVariants.{Ipv4, Ipv6}
-use Rattle.sockets.specs.Queue.{Queued, first_of, put, queue_after_pop}
+use Rattle.sockets.specs.Queue.{Queued, first_of, put, queue_after_pop, queue_brought_forward}
 use Rattle.sockets.specs.declared.poll_at.PollAt.{PollAt}
 use Rattle.sockets.specs.declared.poll_at.PollAt.TheVariants.{Now, Ingress}
 use Rattle.sockets.specs.declared.raw.Packet.{Packet}
@@ -113,3 +114,15 @@ socket_after_offer s = cond (is_none (offered_packet s)) (without_first_to_send 
 -- the socket after the acknowledgement
 abbrev pub socket_after_told : Bool → RawSocket → RawSocket
 socket_after_told is_done s = cond is_done (without_first_to_send s) s
+
+-- for which address the packet is that the octets begin with, if it is of the socket's version and protocol
+abbrev pub destination_in : RawSocket → List ℕ → Option IpAddress
+destination_in s octets = option_map (λ (p : Sent). dst_addr p.header) (packet_to_send s octets)
+
+-- for which addresses the packets to send are, in order
+abbrev pub destinations : RawSocket → List (Option IpAddress)
+destinations s = map (λ p. destination_in s p.1) s.tx.packets
+
+-- the socket with the one at an index as the first to send
+abbrev pub socket_brought_forward : ℕ → RawSocket → RawSocket
+socket_brought_forward index s = record s { tx = queue_brought_forward index s.tx }

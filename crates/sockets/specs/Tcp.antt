@@ -1,6 +1,6 @@
 -- TCP sockets, which hand segments in and out (RFC 9293).
 use Rattle.std.specs.Prelude.{ℕ, ◌+◌, ◌%◌, ◌^◌, ◌==◌, ◌&&◌, ℤ, Bool, true}
-use Rattle.std.specs.Prelude.{cond, is_none, List, length, Option, Some, None}
+use Rattle.std.specs.Prelude.{cond, is_none, List, map, length, Option, Some, None}
 use Rattle.std.specs.Option.{option_and_then, option_map}
 use Rattle.std.specs.Ordering.{int_cmp, is_lt}
 use Rattle.ip_address.specs.declared.ip.IpAddress.{IpAddress}
@@ -8,7 +8,7 @@ use Rattle.ip_wire.specs.declared.tcp.TcpControl.{TcpControl}
 use Rattle.ip_wire.specs.declared.tcp.TcpControl.TheVariants as control
 use Rattle.ip_wire.specs.declared.tcp.TcpSeqNumber.{TcpSeqNumber}
 use Rattle.ip_wire.specs.declared.tcp.TcpRepr.{TcpRepr}
-use Rattle.sockets.specs.Queue.{Queued, first_of, put, queue_after_pop}
+use Rattle.sockets.specs.Queue.{Queued, first_of, put, queue_after_pop, queue_brought_forward}
 use Rattle.sockets.specs.Source.{is_same, is_same_end, source_of}
 use Rattle.sockets.specs.declared.endpoint.IpEndpoint.{IpEndpoint}
 use Rattle.sockets.specs.declared.endpoint.IpListenEndpoint.{IpListenEndpoint}
@@ -173,3 +173,11 @@ socket_after_offer moment source s =
 -- the socket after the acknowledgement
 abbrev pub socket_after_told : Bool → TcpSocket → TcpSocket
 socket_after_told is_done s = cond is_done (without_first_to_send s) s
+
+-- for which addresses the segments to send are, in order
+abbrev pub destinations : TcpSocket → List (Option IpAddress)
+destinations s = map (λ p. Some p.0.remote.addr) s.tx.packets
+
+-- the socket with the one at an index as the first to send
+abbrev pub socket_brought_forward : ℕ → TcpSocket → TcpSocket
+socket_brought_forward index s = record s { tx = queue_brought_forward index s.tx }

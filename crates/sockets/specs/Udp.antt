@@ -1,9 +1,9 @@
 -- UDP sockets (RFC 768).
-use Rattle.std.specs.Prelude.{ℕ, ◌==◌, ◌&&◌, ◌||◌, Bool, true, cond, is_none, List, Option, Some, None}
+use Rattle.std.specs.Prelude.{ℕ, ◌==◌, ◌&&◌, ◌||◌, Bool, true, cond, is_none, List, map, Option, Some, None}
 use Rattle.std.specs.Option.{option_and_then, option_map}
 use Rattle.ip_address.specs.Ip.{is_multicast}
 use Rattle.ip_address.specs.declared.ip.IpAddress.{IpAddress}
-use Rattle.sockets.specs.Queue.{Queued, first_of, put, queue_after_pop}
+use Rattle.sockets.specs.Queue.{Queued, first_of, put, queue_after_pop, queue_brought_forward}
 use Rattle.sockets.specs.Source.{is_same, source_of}
 use Rattle.sockets.specs.declared.endpoint.IpEndpoint.{IpEndpoint}
 use Rattle.sockets.specs.declared.endpoint.IpListenEndpoint.{IpListenEndpoint}
@@ -80,3 +80,11 @@ socket_after_offer source s = cond (is_none (offered_packet source s)) (without_
 -- the socket after the acknowledgement
 abbrev pub socket_after_told : Bool → UdpSocket → UdpSocket
 socket_after_told is_done s = cond is_done (without_first_to_send s) s
+
+-- for which addresses the datagrams to send are, in order
+abbrev pub destinations : UdpSocket → List (Option IpAddress)
+destinations s = map (λ p. Some p.0.addr) s.tx.packets
+
+-- the socket with the one at an index as the first to send
+abbrev pub socket_brought_forward : ℕ → UdpSocket → UdpSocket
+socket_brought_forward index s = record s { tx = queue_brought_forward index s.tx }

@@ -112,6 +112,13 @@ impl<M: Drop> Buffers<M> {
         }
     }
 
+    /// Brings the packet to send at an index to the front; the others keep their order. Where there is none, nothing changes.
+    pub fn bring_forward(&mut self, index: usize)
+        ensures { self.new ≡ spec.buffers_brought_forward index self.old }
+    {
+        self.tx.bring_forward(index);
+    }
+
     /// When the socket has to be polled again, if packets may be sent at `due`.
     #[inline(always)]
     pub fn poll_at(&self, due: PollAt) -> PollAt

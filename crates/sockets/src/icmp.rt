@@ -1,5 +1,5 @@
 //! ICMP sockets (RFC 792, RFC 4443): echo messages, and port unreachable errors for the datagrams of a port.
-ghost use Rattle.std.specs.Prelude.{◌≡◌, ◌≢◌, ◌≤◌, length, is_ok, false, IfSome, OnOk, OnErr};
+ghost use Rattle.std.specs.Prelude.{◌≡◌, ◌≢◌, ◌≤◌, get_or, length, is_ok, false, IfSome, None, OnOk, OnErr};
 ghost use Rattle.std.specs.Option.{option_map};
 ghost use Rattle.std.specs.Result.{result_err};
 ghost use Rattle.ip_address.specs.Ip.{is_unspecified};
@@ -219,6 +219,23 @@ impl<L: Drop> SocketOf<L> {
         ensures { self.new ≡ spec.socket_after_told gone self.old }
     {
         self.buffers.told(gone);
+    }
+
+    /// For which address the message to send at an index is, from the first on, if there is one.
+    pub fn destination_at(&self, index: usize) -> Option<IpAddress>
+        ensures { result ≡ get_or (spec.destinations self.now) index None }
+    {
+        match self.tx().meta_at(index) {
+            Some(remote) => Some(*remote),
+            None => None,
+        }
+    }
+
+    /// Brings the message to send at an index to the front; the others keep their order. Where there is none, nothing changes.
+    pub fn bring_forward(&mut self, index: usize)
+        ensures { self.new ≡ spec.socket_brought_forward index self.old }
+    {
+        self.buffers.bring_forward(index);
     }
 }
 

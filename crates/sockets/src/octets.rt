@@ -1,5 +1,6 @@
 //! A buffer of octets in order, with capacity reserved once.
 ghost use Rattle.std.specs.Prelude.{◌≡◌, ◌+◌, ◌-◌, ◌≤◌, [], ◌++◌, length, take, drop, vec_len, vec_capacity, IfOk};
+ghost use Rattle.sockets.specs.Queue.{octets_forward};
 
 use std::alloc::{AllocError, Global};
 use std::marker::Model;
@@ -96,6 +97,23 @@ impl Octets {
         &self.items[self.start..self.start + count]
     }
 
+    /// `count` octets behind the first `offset`. There must be so many.
+    pub fn part(&self, offset: usize, count: usize) -> &[u8]
+        requires { offset + count ≤ length self.now.octets }
+        ensures { result.now ≡ take count (drop offset self.now.octets) }
+    {
+        let from = self.start + offset;
+        &self.items[from..from + count]
+    }
+
+    /// Brings `count` octets behind the first `offset` to the front. There must be so many.
+    pub fn bring_forward(&mut self, offset: usize, count: usize)
+        requires { offset + count ≤ length self.old.octets }
+        ensures { self.new ≡ record self.old { octets = octets_forward offset count self.old.octets } }
+    {
+        rotate_within(&mut self.items, self.start, offset + count, count);
+    }
+
     /// Drops the first `count` octets. There must be so many.
     pub fn skip(&mut self, count: usize)
         requires { count ≤ length self.old.octets }
@@ -130,6 +148,18 @@ fn write_at(items: &mut Vec<u8>, at: usize, octets: &[u8])
     ensures capacity { vec_capacity items.new ≡ vec_capacity items.old }
 {
     items[at..at + octets.len()].copy_from_slice(octets);
+}
+
+// Brings the last `count` of `len` items from an offset on before the others of these.
+fn rotate_within(items: &mut Vec<u8>, at: usize, len: usize, count: usize)
+    requires bound { at + len ≤ vec_len items.old }
+    requires part { count ≤ len }
+    ensures items { items.new.items ≡ take at items.old.items
+        ++ (octets_forward (len - count) count (take len (drop at items.old.items)) ++ drop (at + len) items.old.items) }
+    ensures len { vec_len items.new ≡ vec_len items.old }
+    ensures capacity { vec_capacity items.new ≡ vec_capacity items.old }
+{
+    items[at..at + len].rotate_right(count);
 }
 
 // Moves the items between two offsets to the front.

@@ -1,8 +1,8 @@
 //! Queues of packets.
 ghost use Rattle.std.specs.Prelude.{◌≡◌, ◌==◌, ◌+◌, ◌≤◌, ◌<◌, ◌↔◌, [], ◌∷◌, ◌++◌};
-ghost use Rattle.std.specs.Prelude.{length, drop, IfSome, IfOk, IsOk, OnOk, OnErr};
+ghost use Rattle.std.specs.Prelude.{length, take, drop, slice_get, IfSome, IfOk, IsOk, OnOk, OnErr};
 ghost use Rattle.std.specs.VecDeque.{deque_len, deque_capacity};
-ghost use Rattle.sockets.specs.Queue.{octets_in, first_of, is_room};
+ghost use Rattle.sockets.specs.Queue.{brought_forward, octets_in, first_of, is_room};
 
 use crate::octets::Octets;
 use std::alloc::{AllocError, Global};
@@ -164,6 +164,51 @@ impl<M: Drop> Queue<M> {
             Some(entry) => Some((&entry.meta, self.octets.first(entry.len))),
             None => None,
         }
+    }
+
+    /// The packet at an index, from the first on, if there is one: its metadata and its octets.
+    pub fn get(&self, index: usize) -> Option<(&M, &[u8])>
+        ensures { option_map (λ p. (p.0.now, p.1.now)) result ≡ slice_get self.now.packets index }
+    {
+        let offset = self.octets_before(index);
+        match self.entries.get(index) {
+            Some(entry) => Some((&entry.meta, self.octets.part(offset, entry.len))),
+            None => None,
+        }
+    }
+
+    /// The metadata of the packet at an index, from the first on, if there is one.
+    pub fn meta_at(&self, index: usize) -> Option<&M>
+        ensures { option_map (λ m. m.now) result ≡ option_map (λ p. p.0) (slice_get self.now.packets index) }
+    {
+        match self.entries.get(index) {
+            Some(entry) => Some(&entry.meta),
+            None => None,
+        }
+    }
+
+    /// Brings the packet at an index to the front; the others keep their order. Where there is none, nothing changes.
+    pub fn bring_forward(&mut self, index: usize)
+        ensures { self.new ≡ record self.old { packets = brought_forward index self.old.packets } }
+    {
+        let offset = self.octets_before(index);
+        if let Some(entry) = self.entries.remove(index) {
+            self.octets.bring_forward(offset, entry.len);
+            self.entries.push_front_reserved(entry);
+        }
+    }
+
+    /// How many octets the packets before an index have together.
+    fn octets_before(&self, index: usize) -> usize
+        ensures { result ≡ octets_in (take index self.now.packets) }
+    {
+        // They are at most all of them.
+        let _all = self.payload_len();
+        let mut octets = 0;
+        for at in 0..index.min(self.entries.len()) {
+            octets += self.entries[at].len;
+        }
+        octets
     }
 
     /// Drops the first packet, if any.

@@ -1,5 +1,5 @@
 //! Raw sockets, which send and receive whole packets of one protocol, with their headers.
-ghost use Rattle.std.specs.Prelude.{◌≡◌, ◌≤◌, ◌+◌, ◌++◌, length, is_ok, IfSome};
+ghost use Rattle.std.specs.Prelude.{◌≡◌, ◌≤◌, ◌+◌, ◌++◌, get_or, length, is_ok, IfSome, None};
 ghost use Rattle.std.specs.Option.{option_map};
 ghost use Rattle.ip_wire.specs.IpPacket.{TellsLength};
 ghost use Rattle.sockets.specs.Queue.{is_room, first_of};
@@ -8,7 +8,7 @@ ghost use Rattle.sockets.specs.Raw as spec;
 use crate::buffers::Buffers;
 use crate::poll_at::PollAt;
 use crate::queue::{Full, Queue};
-use ip_wire::{IpProtocol, IpRepr, IpVersion, Ipv4Fragment, Ipv4Repr, Ipv6Repr};
+use ip_wire::{IpAddress, IpProtocol, IpRepr, IpVersion, Ipv4Fragment, Ipv4Repr, Ipv6Repr};
 use std::marker::{Model, PhantomData};
 
 /// A packet to send, of either family; its payload stays in the socket.
@@ -183,6 +183,34 @@ impl<L: Drop> SocketOf<L> {
         ensures { self.new ≡ spec.socket_after_told gone self.old }
     {
         self.buffers.told(gone);
+    }
+
+    /// For which address the packet to send at an index is, from the first on, if there is one of the socket's version
+    /// and protocol.
+    pub fn destination_at(&self, index: usize) -> Option<IpAddress>
+        ensures { result ≡ get_or (spec.destinations self.now) index None }
+    {
+        match self.tx().get(index) {
+            Some((_, octets)) => self.destination_in(octets),
+            None => None,
+        }
+    }
+
+    /// For which address the packet is that the octets begin with, if it is of the socket's version and protocol.
+    fn destination_in(&self, octets: &[u8]) -> Option<IpAddress>
+        ensures { result ≡ spec.destination_in self.now octets.now }
+    {
+        match self.parse(octets) {
+            Some(packet) => Some(packet.header.dst_addr()),
+            None => None,
+        }
+    }
+
+    /// Brings the packet to send at an index to the front; the others keep their order. Where there is none, nothing changes.
+    pub fn bring_forward(&mut self, index: usize)
+        ensures { self.new ≡ spec.socket_brought_forward index self.old }
+    {
+        self.buffers.bring_forward(index);
     }
 }
 

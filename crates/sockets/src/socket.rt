@@ -1,11 +1,12 @@
 //! The kinds of sockets as one type.
-ghost use Rattle.std.specs.Prelude.{◌≡◌, Option, IfSome, is_some};
+ghost use Rattle.std.specs.Prelude.{◌≡◌, Option, None, get_or, IfSome, is_some};
 ghost use Rattle.std.specs.Option.{option_copied, option_copied_mut};
 ghost use Rattle.std.specs.Borrow.{sem, LendsIf};
 
 use crate::context::SocketContext;
 use crate::poll_at::PollAt;
 use crate::{icmp, raw, tcp, udp};
+use ip_wire::IpAddress;
 
 /// A socket of any kind, with its lifetime as a type parameter.
 #[derive(Drop)]
@@ -94,6 +95,31 @@ impl<L: Drop> SocketOf<L> {
             SocketOf::Icmp(icmp) => icmp.told(gone),
             SocketOf::Udp(udp) => udp.told(gone),
             SocketOf::Tcp(tcp) => tcp.told(gone),
+        }
+    }
+
+    /// For which address the packet to send at an index is, from the first on, if there is one; of a raw socket also
+    /// only if that is a packet of its version and protocol.
+    pub fn destination_at(&self, index: usize) -> Option<IpAddress>
+        ensures { result ≡ get_or (spec.destinations self.now) index None }
+    {
+        match self {
+            SocketOf::Raw(raw) => raw.destination_at(index),
+            SocketOf::Icmp(icmp) => icmp.destination_at(index),
+            SocketOf::Udp(udp) => udp.destination_at(index),
+            SocketOf::Tcp(tcp) => tcp.destination_at(index),
+        }
+    }
+
+    /// Brings the packet to send at an index to the front; the others keep their order. Where there is none, nothing changes.
+    pub fn bring_forward(&mut self, index: usize)
+        ensures { self.new ≡ spec.socket_brought_forward index self.old }
+    {
+        match self {
+            SocketOf::Raw(raw) => raw.bring_forward(index),
+            SocketOf::Icmp(icmp) => icmp.bring_forward(index),
+            SocketOf::Udp(udp) => udp.bring_forward(index),
+            SocketOf::Tcp(tcp) => tcp.bring_forward(index),
         }
     }
 }

@@ -1,5 +1,5 @@
 //! TCP sockets (RFC 9293), which hand segments in and out: their interpretation is up to the caller.
-ghost use Rattle.std.specs.Prelude.{◌≡◌, ◌≢◌, ◌≤◌, pos, length, is_ok, IfSome, OnOk, OnErr, true, false};
+ghost use Rattle.std.specs.Prelude.{◌≡◌, ◌≢◌, ◌≤◌, pos, get_or, length, is_ok, IfSome, None, OnOk, OnErr, true, false};
 ghost use Rattle.std.specs.Option.{option_map};
 ghost use Rattle.std.specs.Result.{result_err};
 ghost use Rattle.ip_address.specs.Ip.{is_unspecified};
@@ -299,6 +299,23 @@ impl<L: Drop> SocketOf<L> {
         ensures { self.new ≡ spec.socket_after_told gone self.old }
     {
         self.buffers.told(gone);
+    }
+
+    /// For which address the segment to send at an index is, from the first on, if there is one.
+    pub fn destination_at(&self, index: usize) -> Option<IpAddress>
+        ensures { result ≡ get_or (spec.destinations self.now) index None }
+    {
+        match self.tx().meta_at(index) {
+            Some(segment) => Some(segment.remote.addr),
+            None => None,
+        }
+    }
+
+    /// Brings the segment to send at an index to the front; the others keep their order. Where there is none, nothing changes.
+    pub fn bring_forward(&mut self, index: usize)
+        ensures { self.new ≡ spec.socket_brought_forward index self.old }
+    {
+        self.buffers.bring_forward(index);
     }
 }
 

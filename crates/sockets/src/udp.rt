@@ -1,5 +1,5 @@
 //! UDP sockets (RFC 768).
-ghost use Rattle.std.specs.Prelude.{◌≡◌, ◌≢◌, ◌≤◌, length, is_ok, IfSome, OnOk, OnErr, false};
+ghost use Rattle.std.specs.Prelude.{◌≡◌, ◌≢◌, ◌≤◌, get_or, length, is_ok, IfSome, None, OnOk, OnErr, false};
 ghost use Rattle.std.specs.Option.{option_map};
 ghost use Rattle.std.specs.Result.{result_err};
 ghost use Rattle.ip_address.specs.Ip.{is_unspecified};
@@ -220,6 +220,23 @@ impl<L: Drop> SocketOf<L> {
         ensures { self.new ≡ spec.socket_after_told gone self.old }
     {
         self.buffers.told(gone);
+    }
+
+    /// For which address the datagram to send at an index is, from the first on, if there is one.
+    pub fn destination_at(&self, index: usize) -> Option<IpAddress>
+        ensures { result ≡ get_or (spec.destinations self.now) index None }
+    {
+        match self.tx().meta_at(index) {
+            Some(remote) => Some(remote.addr),
+            None => None,
+        }
+    }
+
+    /// Brings the datagram to send at an index to the front; the others keep their order. Where there is none, nothing changes.
+    pub fn bring_forward(&mut self, index: usize)
+        ensures { self.new ≡ spec.socket_brought_forward index self.old }
+    {
+        self.buffers.bring_forward(index);
     }
 }
 

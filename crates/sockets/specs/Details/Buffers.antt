@@ -1,6 +1,6 @@
 -- The packets that each socket holds: those received but not read, and those to send.
 use Rattle.std.specs.Prelude.{Bool, cond, is_none, List, ℕ}
-use Rattle.sockets.specs.Queue.{Queued, first_of, put, queue_after_pop}
+use Rattle.sockets.specs.Queue.{Queued, first_of, put, queue_after_pop, queue_brought_forward}
 use Rattle.sockets.specs.declared.poll_at.PollAt.{PollAt}
 use Rattle.sockets.specs.declared.poll_at.PollAt.TheVariants.{Ingress}
 
@@ -25,6 +25,10 @@ module _ {M : Type 0} where
   -- the acknowledgement of the first packet to send: if it was sent or dropped, it is removed
   abbrev pub buffers_after_told : Bool → Buffered M → Buffered M
   buffers_after_told is_done b = cond is_done (record b { tx = queue_after_pop b.tx }) b
+
+  -- the packet to send at an index comes to the front
+  abbrev pub buffers_brought_forward : ℕ → Buffered M → Buffered M
+  buffers_brought_forward index b = record b { tx = queue_brought_forward index b.tx }
 
   -- at the given moment, if there is something to send
   abbrev pub poll_at : PollAt → Buffered M → PollAt
