@@ -1,3 +1,4 @@
 pub mod OtherPorts
 pub mod QuietSockets
 pub mod SocketIteration
+pub mod TcpSegments

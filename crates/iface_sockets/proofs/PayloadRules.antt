@@ -1,7 +1,7 @@
 -- What segments bring about, over plain variables.
 use Rattle.std.proofs.Common.{◌≡◌, ℕ, zero, suc, Bool, true, false, List, [], ◌∷◌, slice_get}
-use Rattle.std.proofs.Common.{slice_set, Option, Some, None, length, ◌<◌, refl, ap, sym, ◌∙◌, arith}
-use Rattle.std.specs.Option.{option_map}
+use Rattle.std.proofs.Common.{slice_set, Option, Some, None, length, ◌<◌, inl, inr, refl, ap, subst, sym, ◌∙◌, arith}
+use Rattle.std.specs.Option.{option_and_then, option_map}
 use Rattle.net_base.specs.Checksum.{is_rx}
 use Rattle.ip_wire.specs.declared.ip_packet.IpRepr.{IpRepr}
 use Rattle.ip_wire.specs.IpPacket.{src_addr, dst_addr}
@@ -14,12 +14,35 @@ use Rattle.ip_wire.specs.Tcp.{IsTcp, tcp_in}
 use Rattle.ip_wire.specs.declared.tcp.TcpRepr.{TcpRepr}
 use Rattle.iface_sockets.specs.Segment.{IsTaken}
 use Rattle.iface_context.proofs.Processing.{dropped}
+use Rattle.sockets.specs.Kinds.{down_tcp}
+use Rattle.sockets.specs.declared.socket.SocketOf.TheVariants.{Raw, Icmp, Udp, Tcp}
+use Rattle.host_machine.proofs.Sockets.OtherPorts.{IsElsewhere, not_tcp}
 use Rattle.host_machine.proofs.Sockets.SocketIteration.{at_place}
+use Rattle.host_machine.proofs.Sockets.TcpSegments.{Tellable, is_tcp}
 
 there : (ps : List Storage) (i : ℕ) → i < length ps → slice_get ps i ≡ Some (at_place ps i)
 there [] i within = absurd (omega arith)
 there (p ∷ ps) zero within = refl
 there (p ∷ ps) (suc i) within = there ps i (omega arith)
+
+-- a place at which there is something is one of them
+pub is_within : (ps : List Storage) (k : ℕ) (other : Storage) → slice_get ps k ≡ Some other → k < length ps
+is_within [] k other is = absurd cc
+is_within (p ∷ ps) zero other is = omega arith
+is_within (p ∷ ps) (suc k) other is = let within = is_within ps k other is in omega (arith, within)
+
+-- without a TCP socket a place accepts no segment
+pub no_tcp : (r : IpRepr) (t : TcpRepr) (place : Storage) → option_and_then down_tcp place ≡ None → tcp.accepts r t place ≡ false
+no_tcp r t None none = refl
+no_tcp r t (Some (Raw s)) none = refl
+no_tcp r t (Some (Icmp s)) none = refl
+no_tcp r t (Some (Udp s)) none = refl
+no_tcp r t (Some (Tcp s)) none = absurd cc
+
+-- nor does one at another port
+pub elsewhere : (r : IpRepr) (t : TcpRepr) (port : ℕ) (place : Storage) → t.dst_port ≡ port → IsElsewhere (Some port) place →
+    tcp.accepts r t place ≡ false
+elsewhere r t port place is other = not_tcp r t place (subst (λ (p : ℕ). IsElsewhere (Some p) place) (sym is) other)
 
 -- the socket at an index is the first that accepts a segment
 pub segment_taken : (r : IpRepr) (t : TcpRepr) (payload : List ℕ) (old now new : List Storage) (i : ℕ) (taken : Bool) (answer : Option TcpRepr) →
@@ -67,6 +90,14 @@ tcp_not_accepted raw H r octets payload t checked places answer reply specified 
     let same_payload : payload ≡ (tcp_in octets).1 = ap (λ (p : TcpRepr × List ℕ). p.1) is.1 in
     tcp.NotAccepted specified (rw tests at is.0) (rw same_header at nobody)
     (rw (same_header, same_payload) at (replies ∙ ap (option_map (tcp.segment_back r)) answers)) refl (ap (with_places H) same)
+
+-- it is left, whether it is one or not, where a raw socket has it and no TCP socket may take it
+pub tcp_left : (H : Host) (r : IpRepr) (octets : List ℕ) → tcp.is_between_unspecified r ≡ false →
+    NoneAccepts (tcp.accepts r (tcp_in octets).0) H.sockets.places → tcp.ProcessesTcp true r H octets None [] H
+tcp_left H r octets specified nobody = by (is_tcp (is_rx H.capabilities.checksum.tcp) (src_addr r) (dst_addr r) octets) where
+  by : Tellable (IsTcp (is_rx H.capabilities.checksum.tcp) (src_addr r) (dst_addr r) octets) → tcp.ProcessesTcp true r H octets None [] H
+  by (inl is) = tcp.NotAccepted specified is nobody refl refl refl
+  by (inr never_so) = tcp.Malformed specified never_so (dropped H)
 
 -- octets that are no segment
 pub tcp_malformed : (raw : Bool) (H : Host) (r : IpRepr) (octets : List ℕ) (checked : Bool) →

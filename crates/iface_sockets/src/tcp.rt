@@ -10,6 +10,9 @@ ghost use Rattle.host_machine.specs.Sockets.Offers as egress;
 ghost use Rattle.iface_context.specs.Refines.{RefinesReplying, RefinesBuilding, RefinesTelling};
 ghost use Rattle.iface_sockets.specs.Segment.{IsTaken};
 ghost use Rattle.iface_context.specs.Stands.{host_of};
+ghost use Rattle.ip_wire.specs.Octets.{u16_at};
+ghost use Rattle.ip_wire.specs.declared.ip_packet.IpRepr.{IpRepr};
+ghost use Rattle.ip_wire.specs.declared.tcp.TcpRepr.{TcpRepr};
 ghost use Rattle.sockets.specs.Kinds as kinds;
 ghost use Rattle.sockets.specs.Tcp as tcp;
 ghost use Rattle.host_machine.specs.Packet.Packet.{IsWritable};
@@ -22,6 +25,7 @@ use iface_context::payload::Segment;
 use iface_context::{Context, IpPayload, Packet, PacketV4, PacketV6};
 use iface_send::dispatch::dispatch;
 use ip_wire::emit::FrameBuffer;
+use ip_wire::octets::u16_at;
 use ip_wire::{IpRepr, TcpControl, TcpRepr};
 use net_base::phy::Device;
 use socket_set::{SocketSet, by_index};
@@ -48,6 +52,9 @@ pub fn process_tcp(
     if is_between_unspecified(header) {
         return;
     }
+    if handled_by_raw_socket && is_for_nobody(sockets, octets) {
+        return;
+    }
     let checked = context.capabilities().checksum.tcp.rx();
     let source = header.src_addr();
     let destination = header.dst_addr();
@@ -60,6 +67,37 @@ pub fn process_tcp(
         return;
     }
     refuse(context, header, &repr, payload, handled_by_raw_socket, out);
+}
+
+/// Whether no TCP socket is at the port to which a segment goes. Octets too short for one may be for somebody.
+#[inline(always)]
+fn is_for_nobody(sockets: &SocketSet<'_>, octets: &[u8]) -> bool
+    ensures { result ≡ true → (header : IpRepr) (repr : TcpRepr) → repr.dst_port ≡ u16_at octets.now 2 →
+        NoneAccepts (spec.accepts header repr) sockets.now.places }
+{
+    if octets.len() < 4 {
+        return false;
+    }
+    let port = Some(u16_at(octets, 2));
+    let mut index = by_index::next_at(sockets, 0, port);
+    while index < by_index::places(sockets) {
+        if is_tcp_at(sockets, index) {
+            return false;
+        }
+        index = by_index::next_at(sockets, index + 1, port);
+    }
+    true
+}
+
+/// Whether a TCP socket is at an index. Another one accepts no segment.
+#[inline(always)]
+fn is_tcp_at(sockets: &SocketSet<'_>, index: usize) -> bool
+    ensures { result ≡ false → (header : IpRepr) (repr : TcpRepr) → spec.accepts header repr (socket_at sockets.now index) ≡ false }
+{
+    match by_index::kind::<tcp::Socket<'_>, _>(sockets, index) {
+        Some(_socket) => true,
+        None => false,
+    }
 }
 
 /// Builds a packet as [`send_tcp_reply`] does, with a copy of the segment's header, so that no other segment stores one
