@@ -48,7 +48,7 @@ still_arrived base room n rs h l = record {
 -- the receiver after a base: the octets lie in another place, or in the same
 pub consumed : RingsStand → (base n room start start' : ℕ) (items items' : List ℕ) (rs : List Range) (stop : Option ℕ) → IsArrived base room rs →
     base + n ≤ front rs → start ≤ room → length items ≡ room + room → start' ≤ room → length items' ≡ room + room →
-    ((k : ℕ) → k + n < room → get_or items' (start' + k) 0 ≡ get_or items (start + (n + k)) 0) →
+    ((k : ℕ) → k + n < room → has_arrived (base + n) rs k ≡ true → get_or items' (start' + k) 0 ≡ get_or items (start + (n + k)) 0) →
     receiver_of (base + n) items' start' room rs stop ≡ after_read n (receiver_of base items start room rs stop)
 consumed law base n room start start' items items' rs stop h l low all low' all' moved =
     let w = take room (drop start items) in
@@ -77,7 +77,7 @@ consumed law base n room start start' items items' rs stop h l low all low' all'
         let len' = window_len room start' items' low' all' in
         let near : k + n < room = grind (arith, nat_tests, e) in
         let left : length (drop n w) ≡ length w - n = length-drop n w in
-        in_window room start' k items' (omega (arith, m, len')) ∙ moved k near
+        in_window room start' k items' (omega (arith, m, len')) ∙ moved k near (ap (has_arrived (base + n) rs) (let z : k ≡ 0 + k = omega arith in z) ∙ t)
         ∙ sym (get_or_append_left (drop n w) (take n w) 0 k (omega (arith, near, left, len)) ∙ get_or-drop n w k 0
         ∙ in_window room start (n + k) items (omega (arith, near)))
     by k m t false e =

@@ -14,6 +14,27 @@ use Rattle.tcp_connection.proofs.ArrivedLemmas.{next_of, window_len, syn_alone}
 pub syn_furthest : IsFurthest 1 syn
 syn_furthest = record { begun = omega arith; reached = refl; last = λ p l. syn_alone p l }
 
+-- the last position that arrived is within the room
+pub furthest_within : (base room furthest : ℕ) (rs : List Range) → IsArrived base room rs → IsFurthest furthest rs → furthest ≤ base + room
+furthest_within base room furthest rs h f = by (nat_lt (furthest - 1) (base + room)) refl where
+  by : (b : Bool) → nat_lt (furthest - 1) (base + room) ≡ b → furthest ≤ base + room
+  by true t = let lt : furthest - 1 < base + room = grind (arith, nat_tests, t) in omega (arith, lt)
+  by false t =
+      let beyond : base + room ≤ furthest - 1 = grind (arith, nat_tests, t) in
+      let no = h.within (furthest - 1) beyond in
+      let yes = f.reached in
+      absurd cc
+
+-- and each that arrived is before the one after it
+pub arrived_before : (furthest base k : ℕ) (rs : List Range) → IsFurthest furthest rs → has_arrived base rs k ≡ true → base + k < furthest
+arrived_before furthest base k rs f came = by (nat_lt (base + k) furthest) refl where
+  by : (b : Bool) → nat_lt (base + k) furthest ≡ b → base + k < furthest
+  by true t = grind (arith, nat_tests, t)
+  by false t =
+      let past : furthest ≤ base + k = grind (arith, nat_tests, t) in
+      let no = f.last (base + k) past in
+      absurd cc
+
 or_true : (b : Bool) → b || true ≡ true
 or_true true = refl
 or_true false = refl
@@ -98,14 +119,7 @@ gap_is law base items start room rs stop furthest h low all f = from_cells ∙ b
   by : (b : Bool) → nat_lt (front rs) furthest ≡ b → is_any_held (cells_from (has_arrived base rs) (0 + n) (drop n xs)) ≡ nat_lt (front rs) furthest
   by true e = held ∙ sym e where
     within_room : furthest - 1 < base + room
-    within_room = inside (nat_lt (furthest - 1) (base + room)) refl where
-      inside : (b : Bool) → nat_lt (furthest - 1) (base + room) ≡ b → furthest - 1 < base + room
-      inside true t = grind (arith, nat_tests, t)
-      inside false t =
-          let beyond : base + room ≤ furthest - 1 = grind (arith, nat_tests, t) in
-          let no = h.within (furthest - 1) beyond in
-          let yes = f.reached in
-          absurd cc
+    within_room = let w = furthest_within base room furthest rs h f in let b = f.begun in omega (arith, w, b)
 
     held : is_any_held (cells_from (has_arrived base rs) (0 + n) (drop n xs)) ≡ true
     held =

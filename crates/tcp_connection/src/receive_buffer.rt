@@ -249,7 +249,8 @@ impl ReceiveBuffer {
         self.base += count as u64;
         self.start += count;
         if self.start > self.room {
-            move_to_front(&mut self.items, self.start);
+            let held = self.furthest.saturating_sub(self.base) as usize;
+            move_to_front(&mut self.items, self.start, held);
             self.start = 0;
         }
     }
@@ -313,13 +314,11 @@ fn write(items: &mut Vec<u8>, at: usize, octets: &[u8])
     items[at..at + octets.len()].copy_from_slice(octets);
 }
 
-// Moves the items from a place on to the front.
-fn move_to_front(items: &mut Vec<u8>, from: usize)
-    requires { from ≤ vec_len items.old }
+// Moves so many items from a place on to the front.
+fn move_to_front(items: &mut Vec<u8>, from: usize, count: usize)
+    requires { from + count ≤ vec_len items.old }
     ensures len { length items.new.items ≡ length items.old.items }
-    ensures moved { (k : ℕ) → from + k < length items.old.items →
-        slice_index items.new.items k ≡ slice_index items.old.items (from + k) }
+    ensures moved { (k : ℕ) → k < count → slice_index items.new.items k ≡ slice_index items.old.items (from + k) }
 {
-    let end = items.len();
-    items.copy_within(from..end, 0);
+    items.copy_within(from..from + count, 0);
 }
