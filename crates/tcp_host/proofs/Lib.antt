@@ -3,4 +3,5 @@ pub mod BacklogLemmas
 pub mod SipHashLemmas
 pub mod TableLemmas
 pub mod HostLemmas
+pub mod IdleTurns
 pub mod NewsLemmas

@@ -15,12 +15,14 @@ all_challenges = record { interval = 200000; depth = 5; full_at = 0 }
 abbrev pub is_challenge_left : ℕ → Slot → Bool
 is_challenge_left now s = is_only_challenged now s.connection && not (has_token now s.challenges)
 
+-- a challenge that it sends now is counted
+abbrev pub with_challenge_counted : ℕ → Slot → Slot
+with_challenge_counted now s =
+    record s { challenges = if is_only_challenged now s.connection then after_take now s.challenges else s.challenges }
+
 -- what it sends was sent, and a challenge is counted
 abbrev pub slot_after_sending : ℕ → Slot → Slot
-slot_after_sending now s = record s {
-  connection = after_sending now s.connection;
-  challenges = if is_only_challenged now s.connection then after_take now s.challenges else s.challenges;
-}
+slot_after_sending now s = record (with_challenge_counted now s) { connection = after_sending now s.connection }
 
 -- so in any second a connection sends ten at most
 abbrev pub AtMostTen : Type 0

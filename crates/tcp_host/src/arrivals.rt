@@ -34,8 +34,9 @@ impl TcpHost {
         requires { length octets.now < 2 ^ 32 }
         ensures { spec.Receives now endpoints.now segment.now octets.now self.old result self.new }
     {
-        match self.table.find(endpoints) {
+        match self.table.find_beginning_at(self.recent, endpoints) {
             Some(place) => {
+                self.recent = place;
                 self.receive_at(place, now, endpoints, segment, octets);
                 None
             }

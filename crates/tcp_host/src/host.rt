@@ -37,6 +37,8 @@ pub struct TcpHost {
     pub(crate) listeners: Vec<Listener>,
     pub(crate) resets: Bucket,
     pub(crate) config: Config,
+    /// The place that got a segment last.
+    pub(crate) recent: usize,
 }
 
 impl Model for TcpHost {
@@ -101,6 +103,7 @@ impl TcpHost {
             listeners: Vec::new(alloc),
             resets: RESETS,
             config: *config,
+            recent: 0,
         })
     }
 

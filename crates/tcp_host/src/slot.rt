@@ -1,8 +1,10 @@
 //! What a host has at a place.
-ghost use Rattle.std.specs.Prelude.{◌≡◌, ◌≤◌, ◌+◌, ◌%◌, ◌^◌, [], length};
+ghost use Rattle.std.specs.Prelude.{◌≡◌, ◌≤◌, ◌+◌, ◌%◌, ◌^◌, [], length, Some};
+ghost use Rattle.std.specs.Option.{option_map};
 ghost use Rattle.tcp_machine.specs.Opening.{accepted, opened};
+ghost use Rattle.tcp_machine.specs.Outgoing as outgoing;
 ghost use Rattle.tcp_connection.specs.Segments.{segment_of};
-ghost use Rattle.tcp_connection.specs.Actions.{after_sending};
+ghost use Rattle.tcp_connection.specs.Actions.{action_of, after_sending};
 ghost use Rattle.tcp_connection.specs.Asked.{is_only_challenged};
 ghost use Rattle.tcp_host.specs.declared.slot.Owner.TheVariants.{Program};
 ghost use Rattle.tcp_host.specs.Challenges as spec;
@@ -14,6 +16,7 @@ use crate::alarms::NEVER;
 use net_base::bucket::{Bucket, few_are_taken};
 use tcp_connection::connection::Connection;
 use tcp_connection::instants::later;
+use tcp_connection::outgoing::Action;
 use tcp_connection::segment::Segment;
 use tcp_connection::states::is_time_wait;
 use tcp_machine::settings::Settings;
@@ -187,10 +190,26 @@ impl Slot {
     pub(crate) fn sent(&mut self, now: u64)
         ensures { self.new ≡ spec.slot_after_sending now self.old }
     {
+        self.count_challenge(now);
+        after_sending(&mut self.connection, now);
+    }
+
+    // If what the connection sends now is a challenge, that is counted.
+    fn count_challenge(&mut self, now: u64)
+        ensures { self.new ≡ spec.with_challenge_counted now self.old }
+    {
         if self.connection.is_only_challenged(now) {
             let _is_there = self.challenges.take(now);
         }
-        after_sending(&mut self.connection, now);
+    }
+
+    /// The same, where it sends this.
+    pub(crate) fn sent_by(&mut self, now: u64, action: &Action)
+        requires { option_map action_of (outgoing.action now self.old.connection) ≡ Some action.now }
+        ensures { self.new ≡ spec.slot_after_sending now self.old }
+    {
+        self.count_challenge(now);
+        self.connection.sent(now, action);
     }
 }
 

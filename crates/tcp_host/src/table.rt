@@ -78,6 +78,18 @@ impl Table {
         search(&self.ends, &self.cells, first, reach, endpoints)
     }
 
+    /// The same, where a place is looked at first: mostly a segment is for the connection that got the one before.
+    pub fn find_beginning_at(&self, place: usize, endpoints: &Endpoints) -> Option<usize>
+        ensures some { IfSome result (spec.IsPlaceOf endpoints.now self.now) }
+        ensures none { IsNone result → spec.IsNowhere endpoints.now self.now }
+        ensures distinct { spec.AreDistinct self.now }
+    {
+        if place < self.ends.len() && self.ends[place] == Some(*endpoints) {
+            return Some(place);
+        }
+        self.find(endpoints)
+    }
+
     /// A place gets ends. Nothing changes, and it returns false, exactly if some place has them.
     pub fn insert(&mut self, place: usize, endpoints: &Endpoints) -> bool
         requires within { place < length self.old }

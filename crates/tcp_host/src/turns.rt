@@ -1,7 +1,8 @@
 //! What a host sends, and when (RFC 9293 3.10.8 and what follows from calls and arrivals).
 ghost use Rattle.std.specs.Prelude.{◌≡◌, ◌<◌, length, slice_index, None, Some, IfSome, IsNone};
 ghost use Rattle.tcp_machine.specs.Outgoing as outgoing;
-ghost use Rattle.tcp_connection.specs.Actions.{IsHeader, AreBlocks, AreOctets};
+ghost use Rattle.tcp_connection.specs.Actions.{action_of, IsHeader, AreBlocks, AreOctets};
+ghost use Rattle.std.specs.Option.{option_map};
 ghost use Rattle.tcp_host.specs.Alarms.{IsLeast};
 ghost use Rattle.tcp_host.specs.Table.{ends_at};
 ghost use Rattle.tcp_host.specs.Host.{slot_at, connection_at};
@@ -28,7 +29,7 @@ pub enum Turn {
     Idle,
     /// The connection whose turn it was sends nothing now.
     Quiet,
-    /// The connection at a place sends this. Once it was sent, [`TcpHost::sent`] has to be called, and before it is sent
+    /// The connection at a place sends this. Once it was sent, [`TcpHost::sent_by`] has to be called, and before it is sent
     /// [`TcpHost::postpone`], if there is no room for it.
     Sends { place: usize, action: Action },
 }
@@ -55,6 +56,9 @@ impl TcpHost {
     pub fn next_segment(&mut self, now: u64) -> Turn
         ensures { spec.TakesTurn now self.old result self.new }
     {
+        if now < self.alarms.least() {
+            return Turn::Idle;
+        }
         let place = self.alarms.first();
         self.turn_at(place, now)
     }
@@ -256,6 +260,17 @@ impl TcpHost {
     {
         if place < self.slots.len() {
             self.sent_at(place, now);
+        }
+    }
+
+    /// The same, where the connection sends this now: what [`TcpHost::next_segment`] returned.
+    pub fn sent_by(&mut self, place: usize, now: u64, action: &Action)
+        requires { option_map action_of (outgoing.action now (connection_at place self.old)) ≡ Some action.now }
+        ensures { self.new ≡ spec.sent_if place now self.old }
+    {
+        if place < self.slots.len() {
+            self.slots[place].sent_by(now, action);
+            self.alarms.set(place, now);
         }
     }
 

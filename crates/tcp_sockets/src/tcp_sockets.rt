@@ -1,5 +1,6 @@
 //! The raw sockets of a host of connections, and its poll.
 ghost use Rattle.std.specs.Prelude.{◌≡◌, [], Some, false};
+ghost use Rattle.std.specs.Option.{option_map};
 ghost use Rattle.tcp_machine.specs.Outgoing as machine;
 ghost use Rattle.tcp_connection.specs.Actions.{action_of};
 ghost use Rattle.tcp_host.specs.Host.{Host, connection_at};
@@ -271,13 +272,14 @@ impl TcpSockets {
         host: &mut TcpHost,
         sockets: &mut SocketSetOf<L>,
     )
-        requires { F.IsAlwaysCallable has_neighbor.now }
+        requires callable { F.IsAlwaysCallable has_neighbor.now }
+        requires due { option_map action_of (machine.action now (connection_at place host.old)) ≡ Some action.now }
         ensures { (m : machine.Action) → machine.action now (connection_at place host.old) ≡ Some m → action_of m ≡ action.now →
             spec.SendsAs (F.post has_neighbor.now) place now own.now m (spec.state self.old host.old sockets.old)
             (spec.state self.new host.new sockets.new) }
     {
         match self.queue_from(place, action, now, own, has_neighbor, host, sockets) {
-            Fate::Queued => host.sent(place, now),
+            Fate::Queued => host.sent_by(place, now, action),
             Fate::Waits => self.wait(place, now, host),
             Fate::Stranded => {
                 host.abort_at(place);

@@ -1,4 +1,7 @@
-use Rattle.std.proofs.Common.{refl}
+use Rattle.std.proofs.Common.{◌∙◌, Some, ap, refl}
+use Rattle.std.specs.Option.{option_map}
+use Rattle.tcp_connection.specs.declared.outgoing.Action.{Action}
+use Rattle.tcp_connection.specs.Actions.{action_of}
 use Rattle.tcp_host.specs.declared.turns.Turn.TheVariants.{Idle, Quiet, Sends}
 use Rattle.tcp_sockets.proofs.TurnLemmas.{sends_is_due}
 use Rattle.tcp_sockets.proofs.tcp_sockets.TcpSockets.give_turn.Goals as goal
@@ -8,6 +11,11 @@ returns-in-Idle g c = record { turn = Idle; host = c.next_segment.new.self; take
 
 pub returns-in-Quiet : goal.returns-in-Quiet
 returns-in-Quiet g c = record { turn = Quiet; host = c.next_segment.new.self; takes = c.in-Quiet.ensures; follows = (refl, refl) }
+
+pub send_from-requires-clause-due : goal.send_from-requires-clause-due
+send_from-requires-clause-due g c =
+    let d = sends_is_due c.in-Sends.place c.in-Sends.action c.args.now c.args.host.now c.next_segment.new.self c.in-Sends.ensures in
+    ap (option_map action_of) d.is_due ∙ ap (λ (a : Action). Some a) d.is_asked
 
 pub returns-in-Sends : goal.returns-in-Sends
 returns-in-Sends g c =

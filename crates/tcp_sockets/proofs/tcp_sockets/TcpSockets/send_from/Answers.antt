@@ -9,5 +9,5 @@ pub returns-in-Stranded : goal.returns-in-Stranded
 returns-in-Stranded g c = λ m due of.
     sends_stranded (goal.F-post g c.args.has_neighbor.now) c.args.place c.args.now c.args.own.now m
     (state c.args.self.now c.args.host.now c.args.sockets.now) (state c.queue_from.new.self c.args.host.now c.queue_from.new.sockets)
-    c.sent-in-Stranded.new.self (c.in-Stranded.ensures m due of)
-    (c.sent-in-Stranded.ensures ∙ ap (λ (h : Host). sent_if c.args.place c.args.now h) c.abort_at.ensures)
+    c.sent.new.self (c.in-Stranded.ensures m due of)
+    (c.sent.ensures ∙ ap (λ (h : Host). sent_if c.args.place c.args.now h) c.abort_at.ensures)
