@@ -853,8 +853,8 @@ uint32_t iface_streams_free(iface_streams *tcp, iface *host);
 /* All calls below answer NO_STREAMS if the handle owns none. */
 
 /* Listens at a port of one local address; of any, if the version of `local` is 0 as in IFACE_ANY, or its address 0.0.0.0 or ::. At
- * most `backlog` handshakes are under way, and as many connections wait to be accepted; 0 counts as 1. Writes the listener's number,
- * from 0 on. Of listeners at one port the first one gets the connections.
+ * most `backlog` handshakes are under way, and as many connections wait to be accepted; 0 counts as 1. SYNs beyond are answered by
+ * cookies. Writes the listener's number, from 0 on. Of listeners at one port the first one gets the connections.
  * BAD_ARGUMENT, BAD_PORT, BAD_ADDRESS (not unicast), NO_MEMORY. */
 uint32_t iface_stream_listen(iface_streams *tcp, const struct iface_endpoint *local, uint32_t backlog, size_t *listener);
 

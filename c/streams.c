@@ -91,7 +91,7 @@ static struct segment next(iface *host, int64_t now) {
     must("next", iface_next(host, now, sent, sizeof sent, &n));
     if (n == 0) return s;
     wants("a header without options", sent[0], 0x45), wants("of TCP", sent[9], 6), wants("its length", get(sent + 2, 2), n);
-    wants("between these", memcmp(sent + 12, "\12\0\0\1\12\0\0\2", 8) == 0, 1);
+    wants("between these", memcmp(sent + 12, "\12\0\0\1\12\0\0", 7) == 0 && (sent[19] == 2 || sent[19] == 3), 1);
     wants("its sum", sum_of(sent, 20, 0), 0xffff), wants("the segment's", sum_of_segment(sent, n), 0xffff);
     s.from = (uint16_t)get(sent + 20, 2), s.to = (uint16_t)get(sent + 22, 2);
     s.seq = get(sent + 24, 4), s.ack = get(sent + 28, 4);
@@ -596,7 +596,7 @@ static void reopens(void) {
 }
 
 /* Half-open connections hold only places that nobody else needs (RFC 4987 3.2): one of the listener with the most of them gives its place
- * to a SYN of another listener, and to connect. Those whose handshake is over stay. */
+ * to a handshake that another listener completes, and to connect. Those whose handshake is over stay. */
 static void gives_way(void) {
     iface host = IFACE_NONE;
     iface_streams tcp = IFACE_STREAMS_NONE;
@@ -612,15 +612,60 @@ static void gives_way(void) {
     }
     q = go_out(&tcp, &host, second, 40000, &own), writes(&tcp, &host, second, &own, &q, "connect finds a place");
     q = come_in(&tcp, &host, second, 4001, 8);
-    must("so does a SYN of another listener", iface_stream_accept(&tcp, quiet, &other));
+    must("so does a handshake of another listener", iface_stream_accept(&tcp, quiet, &other));
     writes(&tcp, &host, second, &other, &q, "page");
     writes(&tcp, &host, second, &kept, &p, "nothing was lost"), reads(&tcp, &host, second, &kept, &p, "and none came before");
     struct peer more = {4002, 8, 300, 0};
-    come(&host, second, &more, SYN, ""), wants("the last half-open one gives way", turn(&tcp, &host, second).flags, SYN | ACK);
-    must("and this one, too", iface_stream_connect(&tcp, &host, second, &local, &at_peer, &none));
+    come(&host, second, &more, SYN, ""), wants("nothing is kept of it", turn(&tcp, &host, second).flags, SYN | ACK);
+    must("the last half-open one gives way", iface_stream_connect(&tcp, &host, second, &local, &at_peer, &none));
     wants("a SYN", turn(&tcp, &host, second).flags, SYN);
-    come(&host, second, &more, SYN, ""), wants_nothing("no place is half-open", &tcp, &host, second);
+    more.port++, come(&host, second, &more, SYN, ""), wants_nothing("no place is half-open", &tcp, &host, second);
     local.port++, wants("no place", iface_stream_connect(&tcp, &host, second, &local, &at_peer, &none), IFACE_TABLE_FULL);
+    must("free", iface_streams_free(&tcp, &host)), must("free", iface_free(&host));
+}
+
+/* The SYN-ACK of a listener whose one handshake is under way: its number is a cookie (RFC 4987 3.6). */
+static struct peer asks(iface_streams *tcp, iface *host, int64_t now, uint16_t port) {
+    struct peer half = {5000, 7, 300, 0}, p = {port, 7, 1000, 0};
+    come(host, now, &half, SYN, ""), turn(tcp, host, now), come(host, now, &p, SYN, "");
+    struct segment s = turn(tcp, host, now);
+    wants("a SYN that acknowledges", s.flags, SYN | ACK), wants("its number", s.ack, 1001), wants("to the peer", s.to, port);
+    wants("40 less than a packet", s.mss, 1460), wants("what the ring takes", s.window, 16384);
+    p.seq = 1001, p.ack = s.seq + 1;
+    return p;
+}
+
+static void wants_reset(iface_streams *tcp, iface *host, int64_t now, const struct peer *p) {
+    come(host, now, p, ACK, "");
+    struct segment s = turn(tcp, host, now);
+    wants("a reset", s.flags, RST), wants("of its number", s.seq, p->ack);
+}
+
+/* Of a SYN beyond the backlog nothing is kept. Who acknowledges the answer within two minutes has a connection, octets that come with it are
+ * received, and it goes on as any other one. Another number, another peer and an answer of long ago are nobody's: each brings a reset. */
+static void takes_cookies(void) {
+    iface host = IFACE_NONE;
+    iface_streams tcp = IFACE_STREAMS_NONE;
+    struct iface_stream s = {77, 77};
+    make(&host, 4), make_streams(&tcp, &host, 2);
+    size_t listener = listen_at(&tcp, 7, 1);
+    struct peer p = asks(&tcp, &host, 63 * second, 4000), wrong = p, again = {4000, 7, 1000, 0};
+    come(&host, 63 * second + 1000, &again, SYN, "");
+    wants("the same number again", turn(&tcp, &host, 63 * second + 1000).seq, p.ack - 1);
+    wants_nothing("and not by itself", &tcp, &host, 63 * second + 999999);
+    for (int i = 0; i < 32; i++) wrong.ack = p.ack ^ (1u << i), wants_reset(&tcp, &host, 64 * second + 10000 * i, &wrong);
+    wrong = p, wrong.seq++, wants_reset(&tcp, &host, 65 * second, &wrong);
+    wrong = p, wrong.port++, wants_reset(&tcp, &host, 65 * second, &wrong);
+    wrong = p, wrong.to = 8, wants_reset(&tcp, &host, 65 * second, &wrong);
+    come(&host, 191 * second, &p, ACK | PSH, "after two minutes");
+    wants("it is acknowledged", turn(&tcp, &host, 191 * second).ack, 1001 + 17);
+    must("accept", iface_stream_accept(&tcp, listener, &s)), p.seq += 17;
+    size_t n = 77;
+    must("receive", iface_stream_receive(&tcp, &s, octets, sizeof octets, &n)), wants("all", n, 17);
+    wants("these", memcmp(octets, "after two minutes", 17) == 0, 1);
+    reads(&tcp, &host, 191 * second, &s, &p, "and these"), writes(&tcp, &host, 191 * second, &s, &p, "back");
+    p = asks(&tcp, &host, 255 * second, 4001);
+    wants_reset(&tcp, &host, 385 * second, &p), wants("none", iface_stream_accept(&tcp, listener, &s), IFACE_EMPTY);
     must("free", iface_streams_free(&tcp, &host)), must("free", iface_free(&host));
 }
 
@@ -706,14 +751,15 @@ static void ends_in_silence(int is_asked) {
     must("free", iface_streams_free(&tcp, &host)), must("free", iface_free(&host));
 }
 
-/* Beside 100,000 SYNs in five seconds, with sixteen places, a connection that was there loses nothing, and connect makes one in a round
- * trip of any length. */
+/* Beside 100,000 SYNs in five seconds, with sixteen places, a connection that was there loses nothing. connect makes one in a round trip of
+ * any length, and so does a peer. */
 static void stands_a_flood(int64_t round_trip) {
     iface host = IFACE_NONE;
     iface_streams tcp = IFACE_STREAMS_NONE;
     struct iface_stream kept = {77, 77}, own = {77, 77};
     struct iface_endpoint local = {IFACE_ANY, 40000};
-    struct peer far = {80, 40000, 5000, 0};
+    struct peer far = {80, 40000, 5000, 0}, late = {4500, 7, 1000, 0};
+    struct iface_stream fresh = {77, 77};
     uint32_t came = 0, went = 0;
     size_t n = 77;
     make(&host, 4), make_streams(&tcp, &host, 16);
@@ -723,9 +769,11 @@ static void stands_a_flood(int64_t round_trip) {
     for (int64_t i = 0; i < 100000; i++) {
         int64_t now = second + 50 * i;
         struct peer half = {(uint16_t)(5000 + i % 60000), 7, (uint32_t)i, 0};
-        come(&host, now, &half, SYN, "");
+        source[3] = 3, come(&host, now, &half, SYN, ""), source[3] = 2;
         if (now == 2 * second) must("connect", iface_stream_connect(&tcp, &host, now, &local, &at_peer, &own));
         if (now == 2 * second + round_trip) come(&host, now, &far, SYN | ACK, "");
+        if (now == 3 * second) come(&host, now, &late, SYN, ""), late.seq++;
+        if (now == 3 * second + round_trip) come(&host, now, &late, ACK | PSH, "late"), late.seq += 4;
         if (i % 1000 == 0) {
             come(&host, now, &p, ACK | PSH, "a"), p.seq++, must("poll", iface_streams_poll(&tcp, &host, now));
             must("receive", iface_stream_receive(&tcp, &kept, octets, sizeof octets, &n)), came += (uint32_t)n;
@@ -734,12 +782,16 @@ static void stands_a_flood(int64_t round_trip) {
         must("poll", iface_streams_poll(&tcp, &host, now));
         for (struct segment s = next(&host, now); s.length != (size_t)-1; s = next(&host, now)) {
             if (s.to == 80 && s.flags == SYN) far.ack = s.seq + 1;
+            if (s.to == 4500 && s.flags == (SYN | ACK)) late.ack = s.seq + 1;
             if (s.to != 4000 || s.length != 1) continue;
             wants("the next octet", s.seq, p.ack), p.ack++, went++, come(&host, now, &p, ACK, "");
         }
     }
     wants("a hundred octets came", came, 100), wants("and went", went, 100), wants_state(&tcp, &kept, IFACE_ESTABLISHED);
     wants_state(&tcp, &own, IFACE_ESTABLISHED);
+    must("accept", iface_stream_accept(&tcp, listener, &fresh));
+    must("receive", iface_stream_receive(&tcp, &fresh, octets, sizeof octets, &n)), wants("what came first", n, 4);
+    writes(&tcp, &host, 6 * second, &fresh, &late, "and went on");
     must("free", iface_streams_free(&tcp, &host)), must("free", iface_free(&host));
 }
 
@@ -963,13 +1015,14 @@ int main(void) {
     keeps_time_wait();
     reopens();
     gives_way();
+    takes_cookies();
     resets_a_handshake();
     skips_urgent();
     leaves_loopback();
     ends_in_silence(1);
     ends_in_silence(0);
     tells_changes();
-    stands_a_flood(1000), stands_a_flood(100000), stands_a_flood(1000000);
+    stands_a_flood(50), stands_a_flood(1000), stands_a_flood(20000), stands_a_flood(100000), stands_a_flood(1000000);
     ends_after_release(0, 0);
     ends_after_release(300000000, 0);
     ends_after_release(0, 1000000);

@@ -737,7 +737,7 @@ unsafe extern "C" {
     pub fn iface_streams_poll_at(tcp: *mut iface_streams, at: *mut i64) -> u32;
     /// Frees all connections without a word to their peers: the handle owns none from then on. If the other handle owns a host, their sockets there are closed. NO_STREAMS.
     pub fn iface_streams_free(tcp: *mut iface_streams, host: *mut iface) -> u32;
-    /// Listens at a port of one local address; of any, if the version of local is 0 as in `IFACE_ANY`, or its address 0.0.0.0 or ::. At most backlog handshakes are under way, and as many connections wait to be accepted; 0 counts as 1. Writes the listener's number, from 0 on. Of listeners at one port the first one gets the connections. BAD_ARGUMENT, BAD_PORT, BAD_ADDRESS (not unicast), NO_MEMORY.
+    /// Listens at a port of one local address; of any, if the version of local is 0 as in `IFACE_ANY`, or its address 0.0.0.0 or ::. At most backlog handshakes are under way, and as many connections wait to be accepted; 0 counts as 1. SYNs beyond are answered by cookies. Writes the listener's number, from 0 on. Of listeners at one port the first one gets the connections. BAD_ARGUMENT, BAD_PORT, BAD_ADDRESS (not unicast), NO_MEMORY.
     pub fn iface_stream_listen(tcp: *mut iface_streams, local: *const iface_endpoint, backlog: u32, listener: *mut usize) -> u32;
     /// Takes the connection of a listener that waits longest, and writes its name. EMPTY (none waits, or there is no such listener).
     pub fn iface_stream_accept(tcp: *mut iface_streams, listener: usize, stream: *mut iface_stream) -> u32;

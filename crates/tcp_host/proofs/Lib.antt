@@ -5,3 +5,5 @@ pub mod TableLemmas
 pub mod HostLemmas
 pub mod IdleTurns
 pub mod NewsLemmas
+pub mod CookieLemmas
+pub mod CookieExamples

@@ -8,7 +8,7 @@ use Rattle.std.proofs.lemmas.List.Sums.{sum_by-set}
 use Rattle.std.proofs.lemmas.List.Folds.{sum_by-replicate}
 use Rattle.tcp_host.specs.declared.iss.Endpoints.{Endpoints}
 use Rattle.tcp_host.specs.declared.sip_hash.SipKey.{SipKey}
-use Rattle.tcp_host.specs.Details.Homes.{home}
+use Rattle.tcp_host.specs.Homes.{home}
 use Rattle.tcp_host.specs.Table.{ends_at, IsNowhere, AreDistinct}
 use Rattle.tcp_host.specs.Details.Cells.{is_used, IsFound, Stands}
 

@@ -1,7 +1,10 @@
 -- A segment arrives at a host (RFC 9293 3.10.7): to which connection it goes, or which it begins, or what answers it.
-use Rattle.std.specs.Prelude.{◌≡◌, ◌<◌, ◌≤◌, ℕ, nat_lt, true, false, List, [], length, Option, Some, None, is_some, if◌then◌else◌, Bool, ◌&&◌}
+use Rattle.std.specs.Prelude.{◌≡◌, ◌<◌, ◌≤◌, ℕ, ◌+◌, ◌-◌, ◌%◌, ◌^◌, nat_lt, true, false, List, [], length, Option, Some, None, is_some, if◌then◌else◌, Bool, ◌&&◌, ◌||◌}
 use Rattle.net_base.specs.Bucket.{has_token, after_take}
+use Rattle.tcp_machine.specs.Connection.{Connection}
 use Rattle.tcp_machine.specs.Opening.{Arrives, accepted}
+use Rattle.tcp_machine.specs.Outgoing.{syn_segment}
+use Rattle.tcp_connection.specs.Actions.{header_of, after_sending}
 use Rattle.tcp_connection.specs.declared.segment.Segment.{Segment}
 use Rattle.tcp_connection.specs.Segments.{segment_of}
 use Rattle.tcp_host.specs.declared.iss.Endpoints.{Endpoints}
@@ -9,7 +12,11 @@ use Rattle.ip_address.specs.Ip.{is_unicast}
 use Rattle.tcp_host.specs.Iss.{iss}
 use Rattle.tcp_host.specs.Listener as listener
 use Rattle.tcp_host.specs.Backlog.{first_of, after_evicting, evicted}
+use Rattle.tcp_host.specs.Cookies.{cookie, size_in}
+use Rattle.tcp_host.specs.declared.resets.Reply.{Reply}
+use Rattle.tcp_host.specs.declared.resets.Reply.TheVariants as reply
 use Rattle.tcp_host.specs.declared.resets.Reset.{Reset}
+use Rattle.tcp_host.specs.declared.resets.SynAck.{SynAck}
 use Rattle.tcp_host.specs.declared.slot.Owner.TheVariants.{HalfOpen}
 use Rattle.tcp_host.specs.Host.{Host, slot_at, connection_at, is_let_go, with_connection, with_alarm, vacated, occupied, default_mss, link_mss, accepted_settings_for}
 use Rattle.tcp_host.specs.Host.{IsNextPlace, listener_at, with_listener}
@@ -26,9 +33,10 @@ pub record Delivers (place now : ℕ) (e : Endpoints) (s : Segment) (octets : Li
   pub all_else : new ≡ noted place now (seen_at place old) (with_alarm place 0 (with_connection place (connection_at place new) old))
 
 -- nobody wants it: a reset is owed, unless too many were sent
-abbrev pub refused : ℕ → Option Reset → Host → Option Reset × Host
+abbrev pub refused : ℕ → Option Reset → Host → Option Reply × Host
 refused now None h = (None, h)
-refused now (Some r) h = (if has_token now h.resets then Some r else None, record h { resets = after_take now h.resets })
+refused now (Some r) h =
+    (if has_token now h.resets then Some (reply.Reset r) else None, record h { resets = after_take now h.resets })
 
 -- the listener for a local end, the first that there is
 pub record IsListenerFor (e : Endpoints) (h : Host) (index : ℕ) : Type 0 where
@@ -38,13 +46,16 @@ pub record IsListenerFor (e : Endpoints) (h : Host) (index : ℕ) : Type 0 where
 abbrev pub HasNoListener : Endpoints → Host → Type 0
 HasNoListener e h = (k : ℕ) → k < length h.listeners → listener.listens_at e.local_addr e.local_port (listener_at k h) ≡ false
 
--- the connection that a SYN begins at a place
-abbrev pub accepted_at : (place index now : ℕ) → Endpoints → Segment → Host → Host
-accepted_at place index now e s h =
+-- the connection that a SYN begins at a place, with an own initial number
+abbrev pub accepted_with : (number place index now : ℕ) → Endpoints → Segment → Host → Host
+accepted_with number place index now e s h =
     occupied place e (HalfOpen index)
-    (accepted now (iss h.config.number_key e now) (connection_at place h).transmission.sender.room
+    (accepted now number (connection_at place h).transmission.sender.room
     (length (connection_at place h).reception.receiver.cells) (default_mss e.remote_addr) (link_mss h.config e.remote_addr)
     (accepted_settings_for h.config e.remote_addr) (segment_of s [])) h
+
+abbrev pub accepted_at : (place index now : ℕ) → Endpoints → Segment → Host → Host
+accepted_at place index now e s h = accepted_with (iss h.config.number_key e now) place index now e s h
 
 -- a place is none of a listener's any more
 abbrev pub vacated_if : Option ℕ → Host → Host
@@ -96,12 +107,94 @@ pub record HasNoPlace (h : Host) : Type 0 where
   pub none : IsNextPlace h None
   pub no_half_open : HasNoHalfOpen (length h.listeners) h
 
--- A SYN begins a connection (RFC 9293 3.10.7.2), if as few as may be wait for the program, and there is a place
-pub data Begins (index now : ℕ) (e : Endpoints) (s : Segment) (old new : Host) : Type 0 where
-  TooMany : listener.has_room (listener_at index old) ≡ false → new ≡ old → Begins index now e s old new
-  NoPlace : listener.has_room (listener_at index old) ≡ true → HasNoPlace old → new ≡ old → Begins index now e s old new
-  InPlace : (place : ℕ) (ready : Host) → listener.has_room (listener_at index old) ≡ true → FindsPlace old place ready →
-      new ≡ accepted_at place index now e s (counted place index ready) → Begins index now e s old new
+-- a place may be had: one is free, or a half-open connection holds one
+pub data MayHavePlace (h : Host) : Type 0 where
+  IsFree : (place : ℕ) → IsNextPlace h (Some place) → MayHavePlace h
+  IsHalfOpen : (from : ℕ) → HasMost (length h.listeners) h from → MayHavePlace h
+
+-- A listener's connections hold no more places: as many are half-open as may be, or none is free
+abbrev pub is_full : ℕ → Host → Bool
+is_full index h = listener.is_full (listener_at index h)
+
+pub data IsCrowded (index : ℕ) (h : Host) : Type 0 where
+  Full : is_full index h ≡ true → IsCrowded index h
+  NoneFree : IsNextPlace h None → IsCrowded index h
+
+-- A SYN is answered, and nothing is kept of it (RFC 4987 3.6): by the SYN-ACK of a connection that it would begin, whose number is a
+-- cookie. The cookie tells the peer's MSS
+abbrev pub mss_or : (default : ℕ) → Option ℕ → ℕ
+mss_or default None = default
+mss_or default (Some mss) = mss
+
+abbrev pub told_mss : Endpoints → Segment → ℕ
+told_mss e s = mss_or (default_mss e.remote_addr) s.mss
+
+abbrev pub cookie_for : (now : ℕ) → Endpoints → Segment → Host → ℕ
+cookie_for now e s h = cookie h.config.table_key e s.number now (told_mss e s)
+
+abbrev pub unkept : (now : ℕ) → Endpoints → Segment → Host → Connection
+unkept now e s h =
+    accepted now (cookie_for now e s h) h.config.send_room h.config.receive_room (default_mss e.remote_addr)
+    (link_mss h.config e.remote_addr) (accepted_settings_for h.config e.remote_addr) (segment_of s [])
+
+abbrev pub syn_ack : (now : ℕ) → Endpoints → Segment → Host → SynAck
+syn_ack now e s h = record { header = header_of (syn_segment (unkept now e s h)); mss = link_mss h.config e.remote_addr }
+
+-- A SYN for a listener (RFC 9293 3.10.7.2). It is left while as many connections as may be wait for the program, and while open ones hold
+-- all places, so that a peer isn't told of a connection that can't be had
+pub data Begins (index now : ℕ) (e : Endpoints) (s : Segment) (old : Host) (answer : Option Reply) (new : Host) : Type 0 where
+  TooMany : listener.has_room (listener_at index old) ≡ false → answer ≡ None → new ≡ old → Begins index now e s old answer new
+  NoPlace : listener.has_room (listener_at index old) ≡ true → HasNoPlace old → answer ≡ None → new ≡ old →
+      Begins index now e s old answer new
+  Unkept : listener.has_room (listener_at index old) ≡ true → IsCrowded index old → MayHavePlace old →
+      answer ≡ Some (reply.Cookie (syn_ack now e s old)) →
+      new ≡ old → Begins index now e s old answer new
+  InPlace : (place : ℕ) → listener.has_room (listener_at index old) ≡ true → is_full index old ≡ false → IsNextPlace old (Some place) →
+      answer ≡ None → new ≡ accepted_at place index now e s (counted place index old) → Begins index now e s old answer new
+
+-- The MSS that a segment tells by the cookie that it acknowledges, if there is one: its numbers are one more than the peer's SYN's and
+-- than the cookie
+abbrev pub before : ℕ → ℕ
+before n = (n + (2 ^ 32 - 1)) % 2 ^ 32
+
+abbrev pub mss_by : (now : ℕ) → Endpoints → Segment → (ack : Option ℕ) → Host → Option ℕ
+mss_by now e s None h = None
+mss_by now e s (Some n) h =
+    if s.syn || s.rst then None else size_in h.config.table_key e (before s.number) now (before n)
+
+abbrev pub mss_in : (now : ℕ) → Endpoints → Segment → Host → Option ℕ
+mss_in now e s h = mss_by now e s s.ack h
+
+-- the SYN that was answered so, as far as it is known
+abbrev pub told_syn : Segment → (mss : ℕ) → Segment
+told_syn s mss = record {
+  number = before s.number;
+  ack = None;
+  window = s.window;
+  syn = true;
+  fin = false;
+  rst = false;
+  mss = Some mss;
+  scale = None;
+  sack_permitted = false;
+}
+
+-- what a connection at a place sends now was sent
+abbrev pub answered_at : (place now : ℕ) → Host → Host
+answered_at place now h = with_connection place (after_sending now (connection_at place h)) h
+
+-- A connection begins at a place by an acknowledgement of a cookie: as if its SYN had been taken, and answered
+abbrev pub resumed_at : (number place index now : ℕ) → Endpoints → Segment → (mss : ℕ) → Host → Host
+resumed_at number place index now e s mss h =
+    answered_at place now (accepted_with number place index now e (told_syn s mss) (counted place index h))
+
+-- and then the acknowledgement arrives there. It is left, if no place is to be had, or as many connections as may be wait for the program
+pub data Resumes (number mss index now : ℕ) (e : Endpoints) (s : Segment) (octets : List ℕ) (old new : Host) : Type 0 where
+  NotTaken : listener.has_room (listener_at index old) ≡ false → new ≡ old → Resumes number mss index now e s octets old new
+  Unplaced : listener.has_room (listener_at index old) ≡ true → HasNoPlace old → new ≡ old → Resumes number mss index now e s octets old new
+  AtPlace : (place : ℕ) (ready : Host) → listener.has_room (listener_at index old) ≡ true → FindsPlace old place ready →
+      Delivers place now e s octets (resumed_at number place index now e s mss ready) new →
+      Resumes number mss index now e s octets old new
 
 -- A SYN whose connection may follow the one at a place, of which the program let go (RFC 9293 3.6.1)
 abbrev pub is_renewed : (now : ℕ) → Endpoints → Segment → (place : ℕ) → Host → Bool
@@ -124,17 +217,19 @@ abbrev pub is_proper : Endpoints → Bool
 is_proper e = is_unicast e.local_addr && is_unicast e.remote_addr
 
 -- where a segment between these ends goes
-pub data Receives (now : ℕ) (e : Endpoints) (s : Segment) (octets : List ℕ) (old : Host) (answer : Option Reset) (new : Host) : Type 0 where
+pub data Receives (now : ℕ) (e : Endpoints) (s : Segment) (octets : List ℕ) (old : Host) (answer : Option Reply) (new : Host) : Type 0 where
   Known : (place : ℕ) → IsPlaceOf e old.ends place → IsKept now e s place old → answer ≡ None → Delivers place now e s octets old new →
       Receives now e s octets old answer new
   Reopened : (place : ℕ) → IsPlaceOf e old.ends place → (index : ℕ) → Reopens now e s place old index → answer ≡ None →
       new ≡ accepted_at place index now e s (counted place index (vacated place old)) → Receives now e s octets old answer new
   Improper : IsNowhere e old.ends → is_proper e ≡ false → answer ≡ None → new ≡ old → Receives now e s octets old answer new
-  Begun : IsNowhere e old.ends → is_proper e ≡ true → (index : ℕ) → IsListenerFor e old index → begins s ≡ true → answer ≡ None →
-      Begins index now e s old new → Receives now e s octets old answer new
+  Begun : IsNowhere e old.ends → is_proper e ≡ true → (index : ℕ) → IsListenerFor e old index → begins s ≡ true →
+      Begins index now e s old answer new → Receives now e s octets old answer new
+  Resumed : IsNowhere e old.ends → is_proper e ≡ true → (index : ℕ) → IsListenerFor e old index → (n mss : ℕ) → s.ack ≡ Some n →
+      mss_in now e s old ≡ Some mss → answer ≡ None → Resumes (before n) mss index now e s octets old new → Receives now e s octets old answer new
   Unheeded : IsNowhere e old.ends → is_proper e ≡ true → (index : ℕ) → IsListenerFor e old index → begins s ≡ false → is_some s.ack ≡ false → answer ≡ None →
       new ≡ old → Receives now e s octets old answer new
   Answered : IsNowhere e old.ends → is_proper e ≡ true → (index : ℕ) → IsListenerFor e old index → is_some s.ack ≡ true →
-      (answer, new) ≡ refused now (reset_for s (length octets)) old → Receives now e s octets old answer new
+      mss_in now e s old ≡ None → (answer, new) ≡ refused now (reset_for s (length octets)) old → Receives now e s octets old answer new
   Nobody : IsNowhere e old.ends → is_proper e ≡ true → HasNoListener e old → (answer, new) ≡ refused now (reset_for s (length octets)) old →
       Receives now e s octets old answer new

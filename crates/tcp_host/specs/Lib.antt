@@ -3,6 +3,7 @@ pub mod Challenges
 pub mod Alarms
 pub mod Backlog
 pub mod SipHash
+pub mod Homes
 pub mod Table
 pub mod Listener
 pub mod Host
@@ -15,3 +16,4 @@ pub mod Handles
 pub mod Reports
 pub mod Examples
 pub mod Details
+pub mod Cookies

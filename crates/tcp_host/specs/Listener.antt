@@ -1,5 +1,5 @@
 -- A listener: where it listens, and which connections it has begun that the program hasn't accepted.
-use Rattle.std.specs.Prelude.{ℕ, Bool, true, false, nat_lt, ◌==◌, ◌&&◌, List, [], ◌∷◌, ◌++◌, length, drop, Option, Some, None, if◌then◌else◌}
+use Rattle.std.specs.Prelude.{ℕ, Bool, true, false, nat_lt, nat_le, ◌==◌, ◌&&◌, List, [], ◌∷◌, ◌++◌, length, drop, Option, Some, None, if◌then◌else◌}
 use Rattle.ip_address.specs.declared.ip.IpAddress.{IpAddress}
 use Rattle.ip_address.specs.Ip.{address_key}
 use Rattle.tcp_host.specs.Backlog as backlog
@@ -29,6 +29,10 @@ listens_at address port l = l.is_open && (port == l.port) && is_for l.address ad
 -- no more SYNs are taken while as many as there may be wait for the program, nor once it is closed
 abbrev pub has_room : Listener → Bool
 has_room l = l.is_open && nat_lt (length l.ready) l.half_open.most
+
+-- as many of its connections are half-open as may be
+abbrev pub is_full : Listener → Bool
+is_full l = nat_le l.half_open.most (length l.half_open.places)
 
 -- one that listens, and has begun no connection
 abbrev pub first : ℕ → Option IpAddress → (most : ℕ) → Listener

@@ -12,14 +12,20 @@ ghost use Rattle.tcp_host.specs.declared.iss.Endpoints.{Endpoints};
 use crate::host::{TcpHost, default_mss};
 use crate::iss::{Endpoints, iss};
 use crate::renewal::is_renewed_by;
-use crate::resets::{Reset, begins, reset_for};
+use crate::resets::{Reply, begins, reset_for};
 use crate::slot::{Owner, is_let_go};
+use crate::unkept::before;
 use tcp_connection::segment::Segment;
 
 impl TcpHost {
     /// A segment between these ends arrives, the remote one being where it came from (RFC 9293 3.10.7). It goes to the
-    /// connection with these ends. Without one, a SYN for a listener begins one. Otherwise a reset is owed, with the numbers
-    /// that are returned, unless the segment is a reset, or too many resets were sent. All other connections stay.
+    /// connection with these ends. Without one, a SYN for a listener begins one. Otherwise a reset is owed, which is returned,
+    /// unless the segment is a reset, or too many resets were sent. All other connections stay.
+    ///
+    /// A SYN that finds no free place, or as many connections of its listener half-open as may be, is answered by the SYN-ACK
+    /// that is returned, and nothing is kept of it (RFC 4987 3.6). Its number is a cookie. Who acknowledges it within two minutes
+    /// has a connection: at a free place, or at that of the oldest half-open one, which is gone. Where there is neither, the
+    /// acknowledgement is left, and so is a SYN.
     ///
     /// A connection in TIME-WAIT of which the program let go gives its place to one that a SYN between the same ends begins, if
     /// the numbers of both sides are larger than all that were used (RFC 9293 3.6.1). Where no place is free, the one whose
@@ -30,7 +36,7 @@ impl TcpHost {
         endpoints: &Endpoints,
         segment: &Segment,
         octets: &[u8],
-    ) -> Option<Reset>
+    ) -> Option<Reply>
         requires { length octets.now < 2 ^ 32 }
         ensures { spec.Receives now endpoints.now segment.now octets.now self.old result self.new }
     {
@@ -152,7 +158,7 @@ impl TcpHost {
         endpoints: &Endpoints,
         segment: &Segment,
         octets: &[u8],
-    ) -> Option<Reset>
+    ) -> Option<Reply>
         requires few { length octets.now < 2 ^ 32 }
         requires new { IsNowhere endpoints.now self.old.ends }
         requires proper { spec.is_proper endpoints.now ≡ true }
@@ -160,11 +166,37 @@ impl TcpHost {
     {
         match self.listener_for(endpoints) {
             None => self.refuse(now, segment, octets.len()),
-            Some(_) if segment.ack.is_some() => self.refuse(now, segment, octets.len()),
-            Some(index) => {
-                if begins(segment) {
-                    self.begin(index, now, endpoints, segment);
+            Some(index) => match segment.ack {
+                Some(number) => {
+                    self.receive_answer(number, index, now, endpoints, segment, octets)
                 }
+                None if begins(segment) => self.begin(index, now, endpoints, segment),
+                None => None,
+            },
+        }
+    }
+
+    // An acknowledgement arrives for a listener, and belongs to no connection.
+    fn receive_answer(
+        &mut self,
+        number: u32,
+        index: usize,
+        now: u64,
+        endpoints: &Endpoints,
+        segment: &Segment,
+        octets: &[u8],
+    ) -> Option<Reply>
+        requires few { length octets.now < 2 ^ 32 }
+        requires new { IsNowhere endpoints.now self.old.ends }
+        requires proper { spec.is_proper endpoints.now ≡ true }
+        requires listener { spec.IsListenerFor endpoints.now self.old index }
+        requires ack { segment.now.ack ≡ Some number }
+        ensures { spec.Receives now endpoints.now segment.now octets.now self.old result self.new }
+    {
+        match self.mss_in(now, endpoints, segment) {
+            None => self.refuse(now, segment, octets.len()),
+            Some(mss) => {
+                self.resume(before(number), mss, index, now, endpoints, segment, octets);
                 None
             }
         }
@@ -183,22 +215,35 @@ impl TcpHost {
         None
     }
 
-    // A SYN begins a connection of a listener.
-    fn begin(&mut self, index: usize, now: u64, endpoints: &Endpoints, segment: &Segment)
+    // A SYN begins a connection of a listener, or is answered by a cookie.
+    fn begin(
+        &mut self,
+        index: usize,
+        now: u64,
+        endpoints: &Endpoints,
+        segment: &Segment,
+    ) -> Option<Reply>
         requires within { index < length self.old.listeners }
         requires new { IsNowhere endpoints.now self.old.ends }
-        ensures { spec.Begins index now endpoints.now segment.now self.old self.new }
+        ensures { spec.Begins index now endpoints.now segment.now self.old result self.new }
     {
         if !self.has_room(index) {
-            return;
+            return None;
         }
-        if let Some(place) = self.make_place() {
-            self.begin_at(place, index, now, endpoints, segment);
+        match self.own_place(index) {
+            Some(place) => {
+                self.begin_at(place, index, now, endpoints, segment);
+                None
+            }
+            None if self.may_have_place() => {
+                Some(Reply::Cookie(self.syn_ack(now, endpoints, segment)))
+            }
+            None => None,
         }
     }
 
     // Whether a listener takes a SYN.
-    fn has_room(&self, index: usize) -> bool
+    pub(crate) fn has_room(&self, index: usize) -> bool
         requires { index < length self.now.listeners }
         ensures { result ≡ listener.has_room (listener_at index self.now) }
     {
@@ -219,14 +264,26 @@ impl TcpHost {
         requires new { IsNowhere endpoints.now self.old.ends }
         ensures { self.new ≡ spec.accepted_at place index now endpoints.now segment.now (spec.counted place index self.old) }
     {
+        self.count(place, index);
+        let number = self.number_for(now, endpoints);
+        self.accept_with(number, place, index, now, endpoints, segment);
+    }
+
+    /// A place counts as half-open. If that is one too many, the oldest one's connection is gone.
+    pub(crate) fn count(&mut self, place: usize, index: usize)
+        requires { index < length self.old.listeners }
+        ensures value { self.new ≡ spec.counted place index self.old }
+        ensures slots { length self.new.slots ≡ length self.old.slots }
+        ensures nowhere { (e : Endpoints) → IsNowhere e self.old.ends → IsNowhere e self.new.ends }
+    {
         let oldest = self.listeners[index].begin(place);
         self.vacate_if(oldest);
-        self.accept_at(place, index, now, endpoints, segment);
     }
 
     // A place is none of a listener's any more.
     fn vacate_if(&mut self, place: Option<usize>)
         ensures value { self.new ≡ spec.vacated_if place self.old }
+        ensures slots { length self.new.slots ≡ length self.old.slots }
         ensures nowhere { (e : Endpoints) → IsNowhere e self.old.ends → IsNowhere e self.new.ends }
     {
         if let Some(place) = place {
@@ -236,9 +293,10 @@ impl TcpHost {
         }
     }
 
-    // The connection that a SYN begins at a place.
-    fn accept_at(
+    /// The connection that a SYN begins at a place, with an own initial number.
+    pub(crate) fn accept_with(
         &mut self,
+        number: u32,
         place: usize,
         index: usize,
         now: u64,
@@ -247,9 +305,8 @@ impl TcpHost {
     )
         requires within { place < length self.old.slots }
         requires new { IsNowhere endpoints.now self.old.ends }
-        ensures { self.new ≡ spec.accepted_at place index now endpoints.now segment.now self.old }
+        ensures { self.new ≡ spec.accepted_with number place index now endpoints.now segment.now self.old }
     {
-        let number = iss(&self.config.number_key, now, endpoints);
         let default = default_mss(&endpoints.remote_addr);
         let link = self.link_mss(&endpoints.remote_addr);
         let settings = self.accepted_settings_for(&endpoints.remote_addr);
@@ -289,7 +346,7 @@ impl TcpHost {
     }
 
     /// Nobody wants a segment with so many octets: a reset is owed (RFC 9293 3.10.7.1), unless too many were sent.
-    pub(crate) fn refuse(&mut self, now: u64, segment: &Segment, len: usize) -> Option<Reset>
+    pub(crate) fn refuse(&mut self, now: u64, segment: &Segment, len: usize) -> Option<Reply>
         requires { len < 2 ^ 32 }
         ensures { (result, self.new) ≡ spec.refused now (reset_for segment.now len) self.old }
     {
@@ -298,7 +355,7 @@ impl TcpHost {
             None => None,
             Some(reset) => {
                 if self.resets.take(now) {
-                    Some(reset)
+                    Some(Reply::Reset(reset))
                 } else {
                     None
                 }

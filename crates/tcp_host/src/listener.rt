@@ -86,6 +86,13 @@ impl Listener {
         self.is_open && self.ready.len() < self.most
     }
 
+    /// Whether as many of its connections are half-open as may be.
+    pub fn is_full(&self) -> bool
+        ensures { result ≡ spec.is_full self.now }
+    {
+        self.half_open.len() >= self.most
+    }
+
     /// It listens no more: no segment is for it, and no further connection waits for the program. Those that wait can still be
     /// accepted (RFC 9293 3.10.4, in the LISTEN state).
     pub fn close(&mut self)

@@ -1,5 +1,5 @@
 //! Places for connections that begin: half-open ones hold only what nobody else needs (RFC 4987 3.2).
-ghost use Rattle.std.specs.Prelude.{◌≡◌, ◌+◌, ◌<◌, length, None, IfSome, IsNone};
+ghost use Rattle.std.specs.Prelude.{◌≡◌, ◌+◌, ◌<◌, length, None, IfSome, IsNone, true, false};
 ghost use Rattle.tcp_host.specs.Arrivals as spec;
 ghost use Rattle.tcp_host.specs.Host.{IsNextPlace, vacated};
 ghost use Rattle.tcp_host.specs.Table.{IsNowhere};
@@ -22,6 +22,20 @@ impl TcpHost {
         match self.next_place() {
             Some(place) => Some(place),
             None => self.take_half_open(),
+        }
+    }
+
+    /// Whether a place may be had: one is free, or a half-open connection holds one.
+    pub(crate) fn may_have_place(&self) -> bool
+        ensures has { result ≡ true → spec.MayHavePlace self.now }
+        ensures none { result ≡ false → spec.HasNoPlace self.now }
+    {
+        match self.next_place() {
+            Some(_place) => true,
+            None => match self.fullest() {
+                Some(_index) => true,
+                None => false,
+            },
         }
     }
 

@@ -1,8 +1,26 @@
-//! Resets for segments that belong to no connection (RFC 9293 3.10.7.1).
+//! Answers to segments that belong to no connection (RFC 9293 3.10.7.1, RFC 4987 3.6).
 ghost use Rattle.std.specs.Prelude.{◌≡◌, ◌<◌, ◌^◌};
 ghost use Rattle.tcp_host.specs.Resets as spec;
 
+use tcp_connection::outgoing::Header;
 use tcp_connection::segment::Segment;
+
+/// What answers a segment that belongs to no connection.
+#[derive(Clone, Copy, Debug, PartialEq, Eq)]
+pub enum Reply {
+    /// A reset, as nobody wants the segment.
+    Reset(Reset),
+    /// The SYN-ACK of a connection of which nothing is kept: its number is a cookie.
+    Cookie(SynAck),
+}
+
+/// A SYN-ACK that no connection sends.
+#[derive(Clone, Copy, Debug, PartialEq, Eq)]
+pub struct SynAck {
+    pub header: Header,
+    /// The MSS option: the most octets of a segment that this host takes.
+    pub mss: u16,
+}
 
 /// The numbers of a reset that is owed.
 #[derive(Clone, Copy, Debug, PartialEq, Eq)]

@@ -1,7 +1,7 @@
 //! SipHash-2-4, a keyed hash (Aumasson, Bernstein: SipHash, a fast short-input PRF, 2012).
 ghost use Rattle.std.specs.Prelude.{◌≡◌, ◌<◌};
 ghost use Rattle.tcp_host.specs.SipHash as spec;
-ghost use Rattle.tcp_host.specs.Details.Homes as places;
+ghost use Rattle.tcp_host.specs.Homes as places;
 
 use crate::iss::{Endpoints, key_of};
 
@@ -108,29 +108,32 @@ pub fn sip_hash(key: &SipKey, words: &[u64]) -> u64
     closed(state)
 }
 
-/// The hash of the ends of a connection.
-#[tactic(auto, unfolding(crate::specs::Details::Homes::hash))]
-pub fn hash(key: &SipKey, endpoints: &Endpoints) -> u64
-    ensures { result ≡ places.hash key.now endpoints.now }
+/// The ends of a connection as words: both addresses, and then the ports and the family.
+pub(crate) fn ends_words(endpoints: &Endpoints) -> [u64; 5]
+    ensures { result ≡ places.words endpoints.now }
 {
     let (family, local) = key_of(&endpoints.local_addr);
     let (_, remote) = key_of(&endpoints.remote_addr);
     let ports = u64::from(endpoints.local_port) + (u64::from(endpoints.remote_port) << 16);
-    let last = ports + (u64::from(family) << 32) + (37 << 56);
-    sip_hash(
-        key,
-        &[
-            (local % (1 << 64)) as u64,
-            (local >> 64) as u64,
-            (remote % (1 << 64)) as u64,
-            (remote >> 64) as u64,
-            last,
-        ],
-    )
+    [
+        (local % (1 << 64)) as u64,
+        (local >> 64) as u64,
+        (remote % (1 << 64)) as u64,
+        (remote >> 64) as u64,
+        ports + (u64::from(family) << 32) + (37 << 56),
+    ]
+}
+
+/// The hash of the ends of a connection.
+#[tactic(auto, unfolding(crate::specs::Homes::hash))]
+pub fn hash(key: &SipKey, endpoints: &Endpoints) -> u64
+    ensures { result ≡ places.hash key.now endpoints.now }
+{
+    sip_hash(key, &ends_words(endpoints))
 }
 
 /// Where the search for the ends of a connection begins, of so many homes.
-#[tactic(auto, unfolding(crate::specs::Details::Homes::home))]
+#[tactic(auto, unfolding(crate::specs::Homes::home))]
 pub fn home(key: &SipKey, homes: usize, endpoints: &Endpoints) -> usize
     requires { 0 < homes }
     ensures value { result ≡ places.home key.now homes endpoints.now }

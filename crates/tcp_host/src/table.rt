@@ -3,7 +3,7 @@ ghost use Rattle.std.specs.Prelude.{◌≡◌, ◌≤◌, ◌<◌, ◌+◌, ◌^
 ghost use Rattle.std.specs.List.{count_by};
 ghost use Rattle.tcp_host.specs.Table as spec;
 ghost use Rattle.tcp_host.specs.Details.Cells as row;
-ghost use Rattle.tcp_host.specs.Details.Homes.{home};
+ghost use Rattle.tcp_host.specs.Homes.{home};
 
 use crate::iss::Endpoints;
 use crate::sip_hash::{SipKey, home};

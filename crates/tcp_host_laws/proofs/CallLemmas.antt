@@ -68,7 +68,9 @@ opens place now e old =
 
 pub calls_live_on : CallsLiveOn
 calls_live_on ls old _ _ t (Connect place now e ready within found) =
-    tells_start place e _ _ _ _ ls old (opened_at place now e ready) t
+    let c = connection_at place ready in
+    tells_start place e (iss ready.config.number_key e now) c.transmission.sender.room (length c.reception.receiver.cells)
+    (Opens now (link_mss ready.config e.remote_addr) (settings_for ready.config e.remote_addr)) ls old (opened_at place now e ready) t
     (rests_starts place e _ old ready (opened_at place now e ready) (found_rests old place ready found) (opens place now e ready))
 calls_live_on ls old _ _ t (Send handle octets named) = does handle.place (Writes octets) ls old (λ number c. refl) t
 calls_live_on ls old _ _ t (Receive handle count named) = does handle.place (Reads count) ls old (λ number c. refl) t

@@ -51,7 +51,7 @@ module _ (x y : Life) (n : ℕ) (b : Option Life) (ls : List Life) (all : AllByR
   release_goes_on false place like = does_goes_on place Aborts (λ mine peer is. is) like
 
   pub call_goes_on : (old new : Host) (es : List Event) → Calls old es new → GoesOn es
-  call_goes_on old _ _ (Connect place now e ready lt found) like = event_goes_on x y n b ls p (opening place now e ready) (λ is. refl) like
+  call_goes_on old _ _ (Connect place now e ready lt found) like = event_goes_on x y n b ls p (opening place now e ready) (λ is plain. refl) like
   call_goes_on old _ _ (Send handle octets named) like = does_goes_on handle.place (Writes octets) (λ mine peer is. is) like
   call_goes_on old _ _ (Receive handle count named) like = does_goes_on handle.place (Reads count) (λ mine peer is. is) like
   call_goes_on old _ _ (Close handle named) like = does_goes_on handle.place Closes (λ mine peer is. is) like

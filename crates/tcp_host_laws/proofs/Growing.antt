@@ -18,7 +18,7 @@ use Rattle.tcp_sockets.specs.Polls.{State, raw_at}
 use Rattle.tcp_laws.specs.Machines.{Sent, Side, unopened, arrived, Act, Opens, Accepts, Writes, Reads, Closes, Aborts, Chooses, Fits, Fails, Gets, Expires, Sends}
 use Rattle.tcp_laws.specs.Machines.{after_sending, after_act, sent_as}
 use Rattle.tcp_host_laws.specs.Lives.{Life, side_of, Event, Does, Begins, with_act, continued, after_event, after_events, Tells}
-use Rattle.tcp_host_laws.specs.Turns.{Came, MayDo, MayBegin, MayHappen, MayFollow, WasSent, InLife, InNone, Moves, MovesIf, LivesOn}
+use Rattle.tcp_host_laws.specs.Turns.{Came, IsTold, MayAccept, BySyn, ByCookie, MayDo, MayBegin, MayHappen, MayFollow, WasSent, InLife, InNone, Moves, MovesIf, LivesOn}
 use Rattle.tcp_host_laws.proofs.LifeLemmas.{one_more}
 
 -- the first of a list, and the others
@@ -204,9 +204,19 @@ module _ {L : Type 0} (checked summed : Bool) (own : List IpCidr) (es : List Eve
   may_do e (Expires now) m = m
   may_do e (Sends now) m = m
 
+  may_accept : (e : Endpoints) (s : machine.Segment) → MayAccept checked own mid e s → MayAccept checked own old e s
+  may_accept e s (BySyn c begins) = BySyn (came e s c) begins
+  may_accept e s (ByCookie told) = ByCookie (record {
+    answer = told.answer;
+    came = came e told.answer told.came;
+    number = told.number;
+    ack = told.ack;
+    acknowledges = told.acknowledges;
+  })
+
   may_begin : (e : Endpoints) (act : Act) → MayBegin checked own mid e act → MayBegin checked own old e act
   may_begin e (Opens now mss settings) m = m
-  may_begin e (Accepts now default link settings k options) m = (came e (arrived k.segment options) m.0, m.1)
+  may_begin e (Accepts now default link settings k options) m = may_accept e (arrived k.segment options) m
   may_begin e (Writes octets) m = m
   may_begin e (Reads count) m = m
   may_begin e Closes m = m

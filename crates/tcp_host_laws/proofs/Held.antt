@@ -7,18 +7,22 @@ use Rattle.std.proofs.lemmas.Bool.{cases_eq}
 use Rattle.std.proofs.lemmas.List.{get_or-set_same, get_or-set_other, get_or_past}
 use Rattle.tcp_machine.specs.Calls.{after_abort}
 use Rattle.tcp_machine.specs.Connection.{Connection}
+use Rattle.tcp_connection.specs.Actions.{after_sending}
 use Rattle.tcp_connection.specs.declared.segment.Segment.{Segment}
 use Rattle.tcp_host.specs.Backlog.{first_of, evicted}
 use Rattle.tcp_host.specs.Listener as listener
 use Rattle.tcp_host.specs.Listener.{Listener, after_accepting, after_closing}
 use Rattle.tcp_host.specs.declared.calls.Handle.{Handle}
 use Rattle.tcp_host.specs.declared.iss.Endpoints.{Endpoints}
+use Rattle.tcp_host.specs.declared.resets.Reply.{Reply}
 use Rattle.tcp_host.specs.declared.resets.Reset.{Reset}
 use Rattle.tcp_host.specs.declared.slot.Owner.{Owner}
 use Rattle.tcp_host.specs.declared.slot.Owner.TheVariants.{Nobody, Program, Itself}
 use Rattle.tcp_host.specs.declared.slot.Slot.{Slot}
-use Rattle.tcp_host.specs.Arrivals.{Receives, Known, Reopened, Improper, Begun, Unheeded, Answered, Nobody as Unwanted, Begins, TooMany, NoPlace, InPlace}
+use Rattle.tcp_host.specs.Arrivals.{Delivers, Receives, Known, Reopened, Improper, Begun, Resumed, Unheeded, Answered, Nobody as Unwanted}
+use Rattle.tcp_host.specs.Arrivals.{Begins, TooMany, NoPlace, Unkept, InPlace, Resumes, NotTaken, Unplaced, AtPlace, accepted_with, answered_at, before, told_syn}
 use Rattle.tcp_host.specs.Arrivals.{refused, accepted_at, vacated_if, counted, without_oldest, FindsPlace, Free, OfHalfOpen}
+use Rattle.tcp_host.specs.News.{noted, seen_at}
 use Rattle.tcp_host.specs.Resets.{reset_for}
 use Rattle.tcp_host.specs.Handles.{is_named, changed, ends_by_itself, released, accepting_at, accepting_from, accepting, is_listener, listener_closed, untold}
 use Rattle.tcp_host.specs.Host.{Host, never, no_slot, is_let_go, slot_at, connection_at, with_slot, with_connection, with_owner, with_alarm, vacated, enrolled, is_program}
@@ -116,6 +120,11 @@ module _ (place : ℕ) (Q : ℕ → Type 0) (zero : Q 0) where
     then_begun : (p : ℕ) (e : Endpoints) (s : Slot) (h : Host) → is_let_go s.owner ≡ false → Then until h → Then until (enrolled p e (with_slot p s h))
     then_begun p e s h gone x =
         like (given p s 0 h) (enrolled p e (with_slot p s h)) refl refl (given_by p s 0 h gone (cases_eq place p) x)
+
+    then_connection : (p : ℕ) (c : Connection) (h : Host) → Then until h → Then until (with_connection p c h)
+    then_connection p c h (inl at) = inl (at_connection p c h at)
+    then_connection p c h (inr gone) =
+        inr (ap is_let_go (kept (λ (x : Slot). x.owner) h.slots p (record (slot_at p h) { connection = c }) refl place) ∙ gone)
 
     then_owner : (p : ℕ) (o : Owner) (h : Host) → is_let_go o ≡ false → IsAt until h → Then until (with_owner p o h)
     then_owner p o h gone at = by (cases_eq place p) where
@@ -224,29 +233,46 @@ module _ (place : ℕ) (Q : ℕ → Type 0) (zero : Q 0) where
       accepts : (p index : ℕ) (mid new : Host) → new ≡ accepted_at p index now e s mid → Then until mid → Then until new
       accepts p index mid new is x = subst (λ (y : Host). Then until y) (sym is) (then_begun p e _ mid refl x)
 
-      begins_by : (index : ℕ) (new : Host) → Begins index now e s h new → Then until new
-      begins_by index new (TooMany full is) = stays new is
-      begins_by index new (NoPlace room none is) = stays new is
-      begins_by index new (InPlace p ready room found is) =
-          accepts p index (counted p index ready) new is (then_counted p index ready (then_found p h ready found at))
+      begins_by : (index : ℕ) (answer : Option Reply) (new : Host) → Begins index now e s h answer new → Then until new
+      begins_by index answer new (TooMany full none is) = stays new is
+      begins_by index answer new (NoPlace room never_so none is) = stays new is
+      begins_by index answer new (Unkept room crowded may one is) = stays new is
+      begins_by index answer new (InPlace p room few next none is) =
+          accepts p index (counted p index h) new is (then_counted p index h (inl at))
+
+      delivers : (p : ℕ) (old new : Host) → Delivers p now e s octets old new → Then until old → Then until new
+      delivers p old new d x = subst (λ (y : Host). Then until y) (sym d.all_else) (by (then_connection p (connection_at p new) old x)) where
+        by : Then until (with_connection p (connection_at p new) old) →
+            Then until (noted p now (seen_at p old) (with_alarm p 0 (with_connection p (connection_at p new) old)))
+        by (inl y) =
+            let z = at_alarm p 0 (with_connection p (connection_at p new) old) (λ e. zero) y in inl (record { owner = z.owner; due = z.due })
+        by (inr gone) = inr gone
+
+      resumes_by : (number mss index : ℕ) (new : Host) → Resumes number mss index now e s octets h new → Then until new
+      resumes_by number mss index new (NotTaken full is) = stays new is
+      resumes_by number mss index new (Unplaced room none is) = stays new is
+      resumes_by number mss index new (AtPlace p ready room found d) =
+          let mid = counted p index ready in
+          let one = accepted_with number p index now e (told_syn s mss) mid in
+          delivers p (answered_at p now one) new d
+          (then_connection p (after_sending now (connection_at p one)) one
+          (then_begun p e _ mid refl (then_counted p index ready (then_found p h ready found at))))
 
       refused_by : (o : Option Reset) → Then until (refused now o h).1
       refused_by None = inl at
       refused_by (Some r) = inl (record { owner = at.owner; due = at.due })
 
-      refuse : (answer : Option Reset) (new : Host) → (answer, new) ≡ refused now (reset_for s (length octets)) h → Then until new
-      refuse answer new is = subst (λ (x : Option Reset × Host). Then until x.1) (sym is) (refused_by (reset_for s (length octets)))
+      refuse : (answer : Option Reply) (new : Host) → (answer, new) ≡ refused now (reset_for s (length octets)) h → Then until new
+      refuse answer new is = subst (λ (x : Option Reply × Host). Then until x.1) (sym is) (refused_by (reset_for s (length octets)))
 
-      pub received : (answer : Option Reset) (new : Host) → Receives now e s octets h answer new → Then until new
-      received answer new (Known p is kept none d) =
-          let mid = with_connection p (connection_at p new) h in
-          let x = at_alarm p 0 mid (λ e. zero) (at_connection p (connection_at p new) h at) in
-          subst (λ (y : Host). Then until y) (sym d.all_else) (inl (record { owner = x.owner; due = x.due }))
+      pub received : (answer : Option Reply) (new : Host) → Receives now e s octets h answer new → Then until new
+      received answer new (Known p is kept none d) = delivers p h new d (inl at)
       received answer new (Reopened p is index reopens none same) =
           let free = vacated p h in
           accepts p index (counted p index free) new same (then_counted p index free (then_vacated p h (inl at)))
       received answer new (Improper nowhere never_so none is) = stays new is
-      received answer new (Begun nowhere proper index listens begin none b) = begins_by index new b
+      received answer new (Begun nowhere proper index listens begin b) = begins_by index answer new b
+      received answer new (Resumed nowhere proper index listens n mss ack known none r) = resumes_by (before n) mss index new r
       received answer new (Unheeded nowhere proper index listens begin ack none is) = stays new is
-      received answer new (Answered nowhere proper index listens ack is) = refuse answer new is
+      received answer new (Answered nowhere proper index listens ack unknown is) = refuse answer new is
       received answer new (Unwanted nowhere proper none is) = refuse answer new is

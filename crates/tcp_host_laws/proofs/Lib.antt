@@ -4,6 +4,7 @@ pub mod CallLemmas
 pub mod Growing
 pub mod Receiving
 pub mod HostTurns
+pub mod Arriving
 pub mod Queues
 pub mod PollTurns
 pub mod PairLemmas

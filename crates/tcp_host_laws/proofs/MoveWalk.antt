@@ -87,7 +87,7 @@ module _ (m : Medium) (hosts : List Host) (first last : ℕ → Station) (moves 
         subst (λ (h : ℕ). Goes s (transitions_of after h) (last h)) same (rest at.host host) in
         step_goes_on v w q (began_as t (mid l).lives) (mid k) s move.transition
         (comes_of_peer m hosts first last moves net before after move e mid r.between at.host host k q l t v w p)
-        (is_earlier q s (last k) (transitions_of after k) go v at.there) (r.begun k at.host at.is_host)
+        (is_earlier q s (last k) (transitions_of after k) go v p.plain_x at.there) (r.begun k at.host at.is_host)
         (subst (λ (h : ℕ). Goes (mid h) (move.transition ∷ []) s) same (step at.host host)) progress
 
     progress_by : (b c : Bool) → (move.host == i) ≡ b → (move.host == j) ≡ c →
@@ -170,6 +170,6 @@ module _ (m : Medium) (hosts : List Host) (first last : ℕ → Station) (moves 
   in_order = walk [] moves refl first at_first
 
 pub networks_order : NetworksOrder
-networks_order m hosts first last moves net i n j o x y apart of_x of_y ends only_x only_y =
+networks_order m hosts first last moves net i n j o x y apart of_x of_y ends plain_x plain_y only_x only_y =
     in_order m hosts first last moves net i n j o x y
-    (record { apart = apart; of_x = of_x; of_y = of_y; ends = ends; only_x = only_x; only_y = only_y })
+    (record { apart = apart; of_x = of_x; of_y = of_y; ends = ends; plain_x = plain_x; plain_y = plain_y; only_x = only_x; only_y = only_y })

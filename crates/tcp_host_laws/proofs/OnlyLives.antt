@@ -22,21 +22,23 @@ pub record IsKept (k : ℕ) (ls : List Life) (l : Life) : Type 0 where
   pub number : life.number ≡ l.number
   pub room : life.room ≡ l.room
   pub size : life.size ≡ l.size
+  pub is_of_cookie : life.is_of_cookie ≡ l.is_of_cookie
 
 kept_then : (k : ℕ) (ls : List Life) (l x : Life) → x.ends ≡ l.ends → x.number ≡ l.number → x.room ≡ l.room → x.size ≡ l.size →
-    IsKept k ls x → IsKept k ls l
-kept_then k ls l x e n r s y = record {
+    x.is_of_cookie ≡ l.is_of_cookie → IsKept k ls x → IsKept k ls l
+kept_then k ls l x e n r s c y = record {
   life = y.life;
   there = y.there;
   ends = y.ends ∙ e;
   number = y.number ∙ n;
   room = y.room ∙ r;
   size = y.size ∙ s;
+  is_of_cookie = y.is_of_cookie ∙ c;
 }
 
 kept_by : (k : ℕ) (ls : List Life) (e : Event) (l : Life) → began_as k ls ≡ Some l → Steps k ls e → IsKept k (after_event e ls) l
 kept_by k ls e l is (Stays same) =
-    record { life = l; there = same ∙ is; ends = refl; number = refl; room = refl; size = refl }
+    record { life = l; there = same ∙ is; ends = refl; number = refl; room = refl; size = refl; is_of_cookie = refl }
 kept_by k ls _ l is (numbers.Acts place act x new old after) =
     let one : x ≡ l = cc in record {
       life = _;
@@ -45,14 +47,15 @@ kept_by k ls _ l is (numbers.Acts place act x new old after) =
       number = ap (λ (y : Life). y.number) one;
       room = ap (λ (y : Life). y.room) one;
       size = ap (λ (y : Life). y.size) one;
+      is_of_cookie = ap (λ (y : Life). y.is_of_cookie) one;
     }
 kept_by k ls _ l is (Opens place e number room size act none now) = absurd cc
 
 pub kept_events : (k : ℕ) (es : List Event) (ls : List Life) (l : Life) → began_as k ls ≡ Some l → IsKept k (after_events es ls) l
-kept_events k [] ls l is = record { life = l; there = is; ends = refl; number = refl; room = refl; size = refl }
+kept_events k [] ls l is = record { life = l; there = is; ends = refl; number = refl; room = refl; size = refl; is_of_cookie = refl }
 kept_events k (e ∷ es) ls l is =
     let one = kept_by k ls e l is (steps k e ls) in
-    kept_then k (after_events es (after_event e ls)) l one.life one.ends one.number one.room one.size
+    kept_then k (after_events es (after_event e ls)) l one.life one.ends one.number one.room one.size one.is_of_cookie
     (kept_events k es (after_event e ls) one.life one.there)
 
 kept_turn : (k : ℕ) (old new : Station) (before after : SocketSet) → Turn old new before after → (l : Life) → began_as k old.lives ≡ Some l →
@@ -63,11 +66,11 @@ kept_turn k old new before after (Called events call same is stays) l at =
     subst (λ (ls : List Life). IsKept k ls l) (sym is) (kept_events k events old.lives l at)
 
 pub kept_goes : (k : ℕ) (s t : Station) (ps : List Transition) → Goes s ps t → (l : Life) → began_as k s.lives ≡ Some l → IsKept k t.lives l
-kept_goes k s t [] Stops l at = record { life = l; there = at; ends = refl; number = refl; room = refl; size = refl }
+kept_goes k s t [] Stops l at = record { life = l; there = at; ends = refl; number = refl; room = refl; size = refl; is_of_cookie = refl }
 kept_goes k s t (p ∷ ps) (Works none g) l at = kept_goes k s t ps g l at
 kept_goes k s t (p ∷ ps) (Acts {mid = mid} act one turn g) l at =
     let first = kept_turn k s mid p.before.sockets p.after.sockets turn l at in
-    kept_then k t.lives l first.life first.ends first.number first.room first.size (kept_goes k mid t ps g first.life first.there)
+    kept_then k t.lives l first.life first.ends first.number first.room first.size first.is_of_cookie (kept_goes k mid t ps g first.life first.there)
 
 -- what was sent between ends that only one life has was sent in that life
 pub record IsOfOnly (stations : ℕ → Station) (j o : ℕ) (s : machine.Segment) : Type 0 where

@@ -1,5 +1,5 @@
 -- Two lives of a network, one at each end of a connection: what comes to the one had been sent by the other.
-use Rattle.std.proofs.Common.{◌≡◌, ◌∙◌, ℕ, List, ◌∷◌, ◌++◌, Option, Some, sym, ap, subst}
+use Rattle.std.proofs.Common.{◌≡◌, ◌∙◌, ℕ, false, List, ◌∷◌, ◌++◌, Option, Some, sym, ap, subst}
 use Rattle.std.specs.List.{slice_get}
 use Rattle.net_base.specs.declared.phy.Medium.{Medium}
 use Rattle.host_machine.specs.Context.Host.{Host}
@@ -25,6 +25,8 @@ pub record ArePeers (hosts : List Host) (last : ℕ → Station) (i n j o : ℕ)
   pub of_x : IsLifeAt hosts last i n x
   pub of_y : IsLifeAt hosts last j o y
   pub ends : y.ends ≡ reversed x.ends
+  pub plain_x : x.is_of_cookie ≡ false
+  pub plain_y : y.is_of_cookie ≡ false
   pub only_x : IsOnly hosts last i n x.ends
   pub only_y : IsOnly hosts last j o y.ends
 
@@ -35,13 +37,16 @@ peers_exchanged hosts last i n j o x y p = record {
   of_x = p.of_y;
   of_y = p.of_x;
   ends = ap (λ (e : Endpoints). reversed e) (sym p.ends);
+  plain_x = p.plain_y;
+  plain_y = p.plain_x;
   only_x = p.only_y;
   only_y = p.only_x;
 }
 
 -- a life that is there at the end was so before, if it had begun
-pub is_earlier : (n : ℕ) (s t : Station) (ts : List Transition) → Goes s ts t → (x : Life) → began_as n t.lives ≡ Some x → IsEarlier x n s.lives
-is_earlier n s t ts goes x there l is =
+pub is_earlier : (n : ℕ) (s t : Station) (ts : List Transition) → Goes s ts t → (x : Life) → x.is_of_cookie ≡ false →
+    began_as n t.lives ≡ Some x → IsEarlier x n s.lives
+is_earlier n s t ts goes x plain there l is =
     let kept = kept_goes n s t ts goes l is in
     let there_then = kept.there in
     let same : kept.life ≡ x = cc in record {
@@ -49,6 +54,7 @@ is_earlier n s t ts goes x there l is =
       number = sym kept.number ∙ ap (λ (z : Life). z.number) same;
       room = sym kept.room ∙ ap (λ (z : Life). z.room) same;
       size = sym kept.size ∙ ap (λ (z : Life). z.size) same;
+      is_plain = sym kept.is_of_cookie ∙ ap (λ (z : Life). z.is_of_cookie) same ∙ plain;
     }
 
 -- what was sent in a life between the ends reversed was sent by the peer
@@ -59,7 +65,7 @@ of_peer : (hosts : List Host) (stations last : ℕ → Station) (later : ℕ →
 of_peer hosts stations last later goes i n j o x y p s (OfSome w) =
     let sent = of_only hosts stations last later goes j o x.ends s (subst (λ (e : Endpoints). IsOnly hosts last j o e) p.ends p.only_y) w in
     let at = p.of_y in
-    let like = is_earlier o (stations j) (last j) (later j) (goes j at.host at.is_host) y at.there sent.life sent.there in
+    let like = is_earlier o (stations j) (last j) (later j) (goes j at.host at.is_host) y p.plain_y at.there sent.life sent.there in
     let same : side_of sent.life ≡ side_so_far y (began_as o (stations j).lives) =
     same_side y sent.life like ∙ ap (λ (l : Option Life). side_so_far y l) (sym sent.there) in
     OfPeer (subst (λ (q : Side). StandsFor q.sent s) same sent.stands)

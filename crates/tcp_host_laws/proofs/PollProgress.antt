@@ -1,5 +1,5 @@
 -- The acts of two lives so far, poll by poll of the one.
-use Rattle.std.proofs.Common.{◌≡◌, ◌∙◌, ℕ, Bool, true, false, List, [], ◌∷◌, Option, Some, refl, sym, subst}
+use Rattle.std.proofs.Common.{◌≡◌, ◌∙◌, ℕ, Bool, true, false, List, [], ◌∷◌, Option, Some, is_some, refl, sym, subst}
 use Rattle.std.specs.Prelude.{◌==◌, if◌then◌else◌}
 use Rattle.std.specs.List.{AllByRecursion}
 use Rattle.std.proofs.lemmas.Bool.{false≢true}
@@ -8,9 +8,9 @@ use Rattle.socket_set.specs.SocketSet.{Sockets}
 use Rattle.tcp_machine.specs.Segments as machine
 use Rattle.tcp_host.specs.declared.iss.Endpoints.{Endpoints}
 use Rattle.tcp_host.specs.Host.{no_settings}
-use Rattle.tcp_laws.specs.Machines.{Side, unopened, arrived, Act, Opens, Accepts, Writes, Reads, Closes, Aborts, Chooses, Fits, Fails, Gets, Expires, Sends}
-use Rattle.tcp_host_laws.specs.Lives.{Life, side_of, Event, Does, Begins, newest, with_act, continued, begun, after_event, after_events}
-use Rattle.tcp_host_laws.specs.Turns.{Came, MayDo, MayBegin, IsBeginning, MayHappen, MayFollow}
+use Rattle.tcp_laws.specs.Machines.{Sent, Side, unopened, arrived, Act, Opens, Accepts, Writes, Reads, Closes, Aborts, Chooses, Fits, Fails, Gets, Expires, Sends}
+use Rattle.tcp_host_laws.specs.Lives.{Life, side_of, Event, Does, Begins, newest, with_act, continued, begins_by_cookie, begun, after_event, after_events}
+use Rattle.tcp_host_laws.specs.Turns.{Came, MayAccept, BySyn, ByCookie, MayDo, MayBegin, IsBeginning, MayHappen, MayFollow}
 use Rattle.tcp_host_laws.specs.Pairs.{StandsFor, MayCome, OfPeer, OfAnyone, MayDoAt}
 use Rattle.tcp_host_laws.specs.TcpNetworks.Orders.{began_as}
 use Rattle.tcp_host_laws.proofs.OnlyLives.{kept_events}
@@ -86,27 +86,33 @@ module _ {L : Type 0} (checked : Bool) (own : List IpCidr) (sockets : Sockets L)
     no_reset s begins (OfPeer stands) = stands
     no_reset s begins (OfAnyone reset) = absurd (false≢true (sym begins.no_reset ∙ reset))
 
-    may_begin : (act : Act) (room size : ℕ) → MayBegin checked own sockets ends act → MayDoAt act (unopened room size no_settings) peer
-    may_begin (Opens now mss settings) room size m = absurd m
-    may_begin (Accepts now default link settings k options) room size m =
-        let s = arrived k.segment options in (refl, no_reset s m.1 (comes s m.0), m.1.syn)
-    may_begin (Writes octets) room size m = absurd m
-    may_begin (Reads count) room size m = absurd m
-    may_begin Closes room size m = absurd m
-    may_begin Aborts room size m = absurd m
-    may_begin (Chooses settings) room size m = absurd m
-    may_begin (Fits octets) room size m = absurd m
-    may_begin Fails room size m = absurd m
-    may_begin (Gets default link now keeps k options) room size m = absurd m
-    may_begin (Expires now) room size m = absurd m
-    may_begin (Sends now) room size m = absurd m
+    accepts : (k : Sent) (options : machine.Options) → is_some k.segment.ack ≡ false → MayAccept checked own sockets ends (arrived k.segment options) →
+        StandsFor peer.sent (arrived k.segment options) × (k.segment.syn ≡ true)
+    accepts k options plain (BySyn came begins) =
+        let s = arrived k.segment options in (no_reset s begins (comes s came), begins.syn)
+    accepts k options plain (ByCookie told) = absurd (false≢true (sym plain ∙ told.acknowledges))
+
+    may_begin : (act : Act) (room size : ℕ) → begins_by_cookie act ≡ false → MayBegin checked own sockets ends act → MayDoAt act (unopened room size no_settings) peer
+    may_begin (Opens now mss settings) room size plain m = absurd m
+    may_begin (Accepts now default link settings k options) room size plain m =
+        let a = accepts k options plain m in (refl, a.0, a.1)
+    may_begin (Writes octets) room size plain m = absurd m
+    may_begin (Reads count) room size plain m = absurd m
+    may_begin Closes room size plain m = absurd m
+    may_begin Aborts room size plain m = absurd m
+    may_begin (Chooses settings) room size plain m = absurd m
+    may_begin (Fits octets) room size plain m = absurd m
+    may_begin Fails room size plain m = absurd m
+    may_begin (Gets default link now keeps k options) room size plain m = absurd m
+    may_begin (Expires now) room size plain m = absurd m
+    may_begin (Sends now) room size plain m = absurd m
 
     may_go_on : (e : Event) (ls : List Life) → AllByRecursion HasBegun ls → MayHappen checked own sockets ls e → MayGoOn ends peer ls e
     may_go_on (Does place act) ls all m =
         λ l new is. may_do act (side_of l) (newest_begun place ls l all new)
         (subst (λ (d : Endpoints). MayDo checked own sockets d act) is (m l new))
     may_go_on (Begins place e number room size act) ls all m =
-        λ is. may_begin act room size (subst (λ (d : Endpoints). MayBegin checked own sockets d act) is m)
+        λ is plain. may_begin act room size plain (subst (λ (d : Endpoints). MayBegin checked own sockets d act) is m)
 
   pub poll_goes_on : (x y : Life) (n : ℕ) (b : Option Life) →
       ((s : machine.Segment) → Came checked own sockets x.ends s → MayCome (side_so_far y b).sent s) → (es : List Event) (ls : List Life) →
@@ -120,4 +126,4 @@ module _ {L : Type 0} (checked : Bool) (own : List IpCidr) (sockets : Sockets L)
       (λ l is.
       let k = kept_events n es (after_event e ls) l is in
       let same = like k.life k.there in
-      record { ends = sym k.ends ∙ same.ends; number = sym k.number ∙ same.number; room = sym k.room ∙ same.room; size = sym k.size ∙ same.size }))
+      record { ends = sym k.ends ∙ same.ends; number = sym k.number ∙ same.number; room = sym k.room ∙ same.room; size = sym k.size ∙ same.size; is_plain = sym k.is_of_cookie ∙ same.is_plain }))

@@ -1,7 +1,7 @@
 -- Lives go on in polls.
 use Rattle.std.proofs.Common.{◌≡◌, ◌∙◌, ℕ, ◌<◌, Bool, true, false, List, [], ◌∷◌, ◌++◌, length, Option, Some, None, inl, inr}
 use Rattle.std.proofs.Common.{refl, sym, ap, subst, arith, option_map}
-use Rattle.std.specs.Prelude.{nat_lt, ◌==◌, ◌⊎◌, if◌then◌else◌}
+use Rattle.std.specs.Prelude.{nat_lt, ◌==◌, ◌&&◌, ◌⊎◌, if◌then◌else◌}
 use Rattle.std.specs.List.{Contains}
 use Rattle.std.proofs.lemmas.Bool.{false≢true}
 use Rattle.std.proofs.lemmas.Bool.Decides.{nat_tests}
@@ -24,26 +24,28 @@ use Rattle.tcp_host.specs.declared.turns.Turn.{Turn}
 use Rattle.tcp_host.specs.declared.turns.Turn.TheVariants.{Idle, Quiet, Sends as SendsTurn}
 use Rattle.tcp_host.specs.Host.{Host, no_settings, connection_at}
 use Rattle.tcp_host.specs.Turns.{TakesTurn, sent_at, sent_if, postponed, aborted_if}
+use Rattle.tcp_host.specs.declared.resets.Reply.{Reply}
 use Rattle.tcp_sockets.specs.declared.receiving.Answer.{Answer}
 use Rattle.tcp_sockets.specs.Arrivals.{HasSegment, arrived_in}
-use Rattle.tcp_sockets.specs.Packets.{Segment, reset_between}
-use Rattle.tcp_sockets.specs.Receiving.{ReceivesFirst, ReceivesSent, ReceivesPacket}
+use Rattle.tcp_sockets.specs.Packets.{Segment, packet_text, reply_between}
+use Rattle.tcp_sockets.specs.Receiving.{answer_to, ReceivesFirst, ReceivesSent, ReceivesPacket}
 use Rattle.tcp_sockets.specs.Sending.{version_between}
 use Rattle.tcp_sockets.specs.declared.tcp_sockets.SocketPair.{SocketPair}
 use Rattle.tcp_sockets.specs.Polls.{Carrier, State, state, pair_of, far_of, with_far, with_waiting, later_by_pause, resumed_in, resumed, segment_at}
-use Rattle.tcp_sockets.specs.Polls.{raw_at, with_raw, after_near, after_far, waiting_after_far, is_near_queued, near_queued, far_queued, answered}
+use Rattle.tcp_sockets.specs.Polls.{raw_at, with_raw, after_near, after_far, waiting_after_far, is_near_queued, near_queued, far_queued, replied_by, is_half_free, answered}
 use Rattle.tcp_sockets.specs.Polls.{HearsFirst, HearsAt, HearsEach, Begins, Goes, HearsBy, HearsAll, arrived, fate_if, fate_by, fate_in, fate_of}
 use Rattle.tcp_sockets.specs.Polls.{after_by, after_in, after_queueing, after_fate, after_sending, Follows as FollowsTurn, GivesTurn}
 use Rattle.tcp_sockets.specs.Polls.{Turns, First, Next, GivesTurns, AllGiven, ManyGiven}
 use Rattle.tcp_laws.specs.Machines.{Sent, Side, unopened, sent_as, Act}
 use Rattle.tcp_laws.specs.Machines as machines
 use Rattle.tcp_host_laws.specs.Lives.{Life, side_of, Does, newest, with_act, continued, after_events, IsLifeOf, Tells}
-use Rattle.tcp_host_laws.specs.Turns.{Came, InLife, InNone, LivesOn}
+use Rattle.tcp_host_laws.specs.Turns.{Came, InLife, LivesOn}
 use Rattle.tcp_host_laws.specs.Laws.{Whatever, PollsLiveOn}
 use Rattle.tcp_host_laws.proofs.LifeLemmas.{after_of, Rests, Steps, rests_then, tells_step, one_more, newest_there}
 use Rattle.tcp_host_laws.proofs.HostSteps.{same}
-use Rattle.tcp_host_laws.proofs.Growing.{at_head, in_tail, lives_then}
-use Rattle.tcp_host_laws.proofs.Receiving.{Follows, rests, stays, receives, has_segment}
+use Rattle.tcp_host_laws.proofs.Growing.{at_head, lives_then, sent_after}
+use Rattle.tcp_host_laws.proofs.Receiving.{Follows, rests, stays, has_segment}
+use Rattle.tcp_host_laws.proofs.Arriving.{found, Answers, receives}
 use Rattle.tcp_host_laws.proofs.HostTurns.{follows_then, aborts, sends, sends_later, sent_steps, may_send, postpones, takes, turn_within}
 use Rattle.tcp_host_laws.proofs.Queues.{AllMove, SentIf, still, one_moves, done_moves, near_moves, far_moves}
 
@@ -68,27 +70,58 @@ module _ {L : Type 0} (own : List IpCidr) (ls : List Life) (old : State L) (t : 
   far_checksum Ipv4 waiting c = refl
   far_checksum Ipv6 waiting c = refl
 
-  -- a reset is queued
-  pub answered_lives : (v : IpVersion) (answer : Option Answer) → LivesOn own ls old (answered v answer old)
-  answered_lives v None = nothing
-  answered_lives v (Some a) =
-      let x = reset_between a.endpoints a.reset in
+  -- what answers is queued, by either socket
+  replied_lives : (by_near : Bool) (v : IpVersion) (x : Segment) → SentIf summed ls x → LivesOn own ls old (replied_by by_near v x old)
+  replied_lives true v x sent =
+      let pair = pair_of v old.carrier in
+      let f = rests checked own old.sockets ls old.host t old.host (same old.host) in
+      lives_by old.carrier old.host (after_near summed x pair old.sockets) f refl
+      (near_moves summed (after_events f.events ls) old.sockets x pair
+      (λ room fits. sent_after summed f.events ls (packet_text summed x) (sent fits)))
+  replied_lives false v x sent =
       let waiting = far_of v old.carrier in
       let pair = pair_of v old.carrier in
       let f = rests checked own old.sockets ls old.host t old.host (same old.host) in
       lives_by (with_far v (waiting_after_far summed x waiting pair old.sockets) old.carrier) old.host (after_far summed x waiting pair old.sockets) f
       (far_checksum v (waiting_after_far summed x waiting pair old.sockets) old.carrier)
-      (far_moves summed (after_events f.events ls) old.sockets x waiting pair (λ fits. InNone a.endpoints a.reset fits refl))
+      (far_moves summed (after_events f.events ls) old.sockets x waiting pair
+      (λ fits. sent_after summed f.events ls (packet_text summed x) (sent fits)))
+
+  pub answered_lives : (known : Bool) (v : IpVersion) (answer : Option Answer) →
+      ((a : Answer) → answer ≡ Some a → SentIf summed ls (reply_between a.endpoints a.reply)) → LivesOn own ls old (answered known v answer old)
+  answered_lives known v None sent = nothing
+  answered_lives known v (Some a) sent =
+      replied_lives (known && is_half_free (pair_of v old.carrier) old.sockets) v (reply_between a.endpoints a.reply) (sent a refl)
 
   -- the first packet of a socket is received
   in_front : (xs : List (Unit {0} × List ℕ)) (q : Unit {0} × List ℕ) → first_of xs ≡ Some q → Contains xs q
   in_front [] q e = absurd cc
   in_front (x ∷ xs) q e = let is : x ≡ q = cc in subst (λ (y : Unit {0} × List ℕ). Contains (x ∷ xs) y) is (at_head x xs)
 
+  -- what the connections do, and what answers
+  record AnswersAs (answer : Option Answer) (host : Host) : Type 0 where
+    follows : Follows checked own old.sockets ls old.host host
+    sent : (a : Answer) → answer ≡ Some a → SentIf summed (after_events follows.events ls) (reply_between a.endpoints a.reply)
+
+  unanswered : (answer : Option Answer) (host : Host) → answer ≡ None → host ≡ old.host → AnswersAs answer host
+  unanswered answer host none is = record { follows = stays checked own old.sockets ls old.host t host is; sent = λ a one. absurd cc }
+
+  reply_by : (e : Endpoints) (o : Option Reply) (a : Answer) → answer_to e o ≡ Some a → (o ≡ Some a.reply) × (e ≡ a.endpoints)
+  reply_by e None a is = absurd cc
+  reply_by e (Some r) a is = (cc, cc)
+
+  of_reply : (e : Endpoints) (o : Option Reply) (host : Host) → Answers checked own old.sockets ls e old.host o host → (answer : Option Answer) →
+      answer ≡ answer_to e o → AnswersAs answer host
+  of_reply e o host x answer is = record {
+    follows = x.follows;
+    sent = λ a one.
+        let by = reply_by e o a (sym is ∙ one) in
+        subst (λ (d : Endpoints). SentIf summed (after_events x.follows.events ls) (reply_between d a.reply)) by.1 (x.sent summed a.reply by.0);
+  }
+
   module _ (near now : ℕ) (socket : RawSocket) (there : raw_at near old.sockets ≡ Some socket) (answer : Option Answer) (host : Host) where
     packet_follows : (q : Unit {0} × List ℕ) → first_of socket.rx.packets ≡ Some q → (p : Packet) → packet_in socket.version q.1 ≡ Some p →
-        (HasSegment checked own p ⊎ (HasSegment checked own p → ⊥)) → ReceivesPacket now checked own p old.host answer host →
-        Follows checked own old.sockets ls old.host host
+        (HasSegment checked own p ⊎ (HasSegment checked own p → ⊥)) → ReceivesPacket now checked own p old.host answer host → AnswersAs answer host
     packet_follows q at p is (inl has) r =
         let a = arrived_in p in
         let came : Came checked own old.sockets a.endpoints _ = record {
@@ -104,51 +137,60 @@ module _ {L : Type 0} (own : List IpCidr) (ls : List Life) (old : State L) (t : 
           is = refl;
         } in
         let w = r.received has in
-        receives checked own old.sockets ls old.host t now a.endpoints a.segment a.octets came w.reset host w.received
-    packet_follows q at p is (inr never_so) r = stays checked own old.sockets ls old.host t host (r.ignored never_so).unchanged
+        of_reply a.endpoints w.reply host
+        (receives checked own old.sockets ls old.host t now a.endpoints a.segment a.octets came w.reply host w.received) answer w.is
+    packet_follows q at p is (inr never_so) r =
+        let i = r.ignored never_so in unanswered answer host i.unanswered i.unchanged
 
     sent_follows : (q : Unit {0} × List ℕ) → first_of socket.rx.packets ≡ Some q → (o : Option Packet) → packet_in socket.version q.1 ≡ o →
-        ReceivesSent now checked own o old.host answer host → Follows checked own old.sockets ls old.host host
-    sent_follows q at None is r = stays checked own old.sockets ls old.host t host r.unchanged
+        ReceivesSent now checked own o old.host answer host → AnswersAs answer host
+    sent_follows q at None is r = unanswered answer host r.unanswered r.unchanged
     sent_follows q at (Some p) is r = packet_follows q at p is (has_segment checked own p) r
 
     first_follows : (o : Option (Unit {0} × List ℕ)) → first_of socket.rx.packets ≡ o →
-        ReceivesFirst now checked own socket.version o old.host answer host → Follows checked own old.sockets ls old.host host
-    first_follows None at r = stays checked own old.sockets ls old.host t host r.unchanged
+        ReceivesFirst now checked own socket.version o old.host answer host → AnswersAs answer host
+    first_follows None at r = unanswered answer host r.unanswered r.unchanged
     first_follows (Some q) at r = sent_follows q at (packet_in socket.version q.1) refl r
 
 pub hears_first : {L : Type 0} (own : List IpCidr) (ls : List Life) (old new : State L) → Tells ls old.host → (v : IpVersion) (near now : ℕ)
-    (socket : RawSocket) → raw_at near old.sockets ≡ Some socket → HearsFirst v near now own socket old new → LivesOn own ls old new
+    (socket : RawSocket) → raw_at near old.sockets ≡ Some socket → HearsFirst Whatever v near now own socket old new → LivesOn own ls old new
 hears_first own ls old new t v near now socket there h =
-    let f = first_follows own ls old t near now socket there h.answer h.host (first_of socket.rx.packets) refl h.received in
+    let x = first_follows own ls old t near now socket there h.answer h.host (first_of socket.rx.packets) refl h.received in
+    let f = x.follows in
     let mid = state old.carrier h.host (with_raw near (socket_after_done socket) old.sockets) in
-    let one = lives_by own ls old t old.carrier h.host (with_raw near (socket_after_done socket) old.sockets) f refl
-    (one_moves (is_tx old.carrier.checksum) (after_events f.events ls) old.sockets near socket (socket_after_done socket) there
-    (done_moves (is_tx old.carrier.checksum) (after_events f.events ls) socket)) in
+    let one : LivesOn own ls old mid = record {
+      events = f.events;
+      follow = f.follow;
+      tells = f.tells;
+      checksum = refl;
+      sockets = one_moves (is_tx old.carrier.checksum) (after_events f.events ls) old.sockets near socket (socket_after_done socket) there
+          (done_moves (is_tx old.carrier.checksum) (after_events f.events ls) socket);
+    } in
     subst (λ (st : State _). LivesOn own ls old st) (sym h.after)
-    (lives_then own ls old mid (answered v h.answer mid) one (answered_lives own (after_events one.events ls) mid one.tells v h.answer))
+    (lives_then own ls old mid (answered h.known v h.answer mid) one
+    (answered_lives own (after_events f.events ls) mid f.tells h.known v h.answer x.sent))
 
 module _ {L : Type 0} (own : List IpCidr) (v : IpVersion) (now : ℕ) where
   same_lives : (ls : List Life) (old new : State L) → Tells ls old.host → new ≡ old → LivesOn own ls old new
   same_lives ls old new t e = subst (λ (st : State L). LivesOn own ls old st) (sym e) (nothing own ls old t)
 
   hears_at : (near : ℕ) (ls : List Life) (old new : State L) → Tells ls old.host → (o : Option RawSocket) → raw_at near old.sockets ≡ o →
-      HearsAt v near now own o old new → LivesOn own ls old new
+      HearsAt Whatever v near now own o old new → LivesOn own ls old new
   hears_at near ls old new t None e h = same_lives ls old new t h
   hears_at near ls old new t (Some socket) e h = hears_first own ls old new t v near now socket e h
 
   hears_each : (near : ℕ) (ls : List Life) (old : State L) → Tells ls old.host → (n : ℕ) (new : State L) →
-      HearsEach v near now own old n new → LivesOn own ls old new
+      HearsEach Whatever v near now own old n new → LivesOn own ls old new
   hears_each near ls old t _ _ Begins = nothing own ls old t
   hears_each near ls old t _ _ (Goes n mid new each h) =
       let one = hears_each near ls old t n mid each in
       lives_then own ls old mid new one (hears_at near (after_events one.events ls) mid new one.tells (raw_at near mid.sockets) refl h)
 
-  hears_by : (ls : List Life) (old new : State L) → Tells ls old.host → (o : Option SocketPair) → HearsBy v now own o old new → LivesOn own ls old new
+  hears_by : (ls : List Life) (old new : State L) → Tells ls old.host → (o : Option SocketPair) → HearsBy Whatever v now own o old new → LivesOn own ls old new
   hears_by ls old new t None h = same_lives ls old new t h
   hears_by ls old new t (Some pair) h = hears_each pair.near ls old t (arrived (raw_at pair.near old.sockets)) new h
 
-  pub hears_all : (ls : List Life) (old new : State L) → Tells ls old.host → HearsAll v now own old new → LivesOn own ls old new
+  pub hears_all : (ls : List Life) (old new : State L) → Tells ls old.host → HearsAll Whatever v now own old new → LivesOn own ls old new
   hears_all ls old new t h = hears_by ls old new t (pair_of v old.carrier) h
 
 -- connections that found no room are due again
@@ -164,16 +206,6 @@ resumed_lives own ls old now t =
     (resumed_rests now old.carrier.waiting old.host) in
     lives_by own ls old t (record old.carrier { waiting = [] }) (resumed_in now old.carrier.waiting old.host) old.sockets f refl
     (still (is_tx old.carrier.checksum) (after_events f.events ls) old.sockets)
-
--- a life that is the newest one is one
-found_by : (place : ℕ) (x : Life) (ls : List Life) (l : Life) (b : Bool) → (newest place ls ≡ Some l → Contains ls l) →
-    (if b then Some x else newest place ls) ≡ Some l → Contains (x ∷ ls) l
-found_by place x ls l true rest e = let is : x ≡ l = cc in subst (λ (y : Life). Contains (x ∷ ls) y) is (at_head x ls)
-found_by place x ls l false rest e = in_tail x l ls (rest e)
-
-found : (place : ℕ) (ls : List Life) (l : Life) → newest place ls ≡ Some l → Contains ls l
-found place [] l e = absurd cc
-found place (x ∷ ls) l e = found_by place x ls l (x.place == place) (found place ls l) e
 
 is_less : (a b : ℕ) → a < b → nat_lt a b ≡ true
 is_less a b lt = grind (arith, nat_tests)

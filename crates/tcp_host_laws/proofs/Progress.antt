@@ -1,9 +1,9 @@
 -- The acts of two lives so far, in an order, event by event of the one.
-use Rattle.std.proofs.Common.{◌≡◌, ◌∙◌, ℕ, List, [], ◌∷◌, ◌++◌, Option, Some, None, refl, sym, ap, subst}
+use Rattle.std.proofs.Common.{◌≡◌, ◌∙◌, ℕ, false, List, [], ◌∷◌, ◌++◌, Option, Some, None, refl, sym, ap, subst}
 use Rattle.tcp_host.specs.Host.{no_settings}
 use Rattle.tcp_host.specs.declared.iss.Endpoints.{Endpoints}
 use Rattle.tcp_laws.specs.Machines.{Side, unopened, Act, Move, OfA, Pair, after_moves}
-use Rattle.tcp_host_laws.specs.Lives.{Life, after_acts, side_of, Event, Does, Begins, newest, with_act, begun, after_event}
+use Rattle.tcp_host_laws.specs.Lives.{Life, after_acts, side_of, Event, Does, Begins, newest, with_act, begins_by_cookie, begun, after_event}
 use Rattle.tcp_host_laws.specs.Pairs.{MayDoAt, AreMovesAt, acts_of_a, acts_of_b, start_of}
 use Rattle.tcp_host_laws.specs.TcpNetworks.Orders.{began_as}
 use Rattle.tcp_host_laws.proofs.Numbers.{Steps, Stays, Acts, Opens, steps}
@@ -47,17 +47,18 @@ module _ (x y : Life) (a b : Option Life) (p : Progress x y a b) where
         (subst (λ (s : Side). MayDoAt act s so_far.b) (sym mine) (subst (λ (s : Side). MayDoAt act (side_so_far x a) s) (sym peers) may));
   }
 
--- a life began as this one did
+-- a life began as this one did, and not by a cookie
 pub record IsLike (x l : Life) : Type 0 where
   pub ends : l.ends ≡ x.ends
   pub number : l.number ≡ x.number
   pub room : l.room ≡ x.room
   pub size : l.size ≡ x.size
+  pub is_plain : l.is_of_cookie ≡ false
 
 -- what happens is what a life between these ends may do, as its side is, and as its peer's is
 abbrev pub MayGoOn : Endpoints → (peer : Side) → List Life → Event → Type 0
 MayGoOn e peer ls (Does place act) = (l : Life) → newest place ls ≡ Some l → l.ends ≡ e → MayDoAt act (side_of l) peer
-MayGoOn e peer ls (Begins place ends number room size act) = ends ≡ e → MayDoAt act (unopened room size no_settings) peer
+MayGoOn e peer ls (Begins place ends number room size act) = ends ≡ e → begins_by_cookie act ≡ false → MayDoAt act (unopened room size no_settings) peer
 
 pub same_side : (x l : Life) → IsLike x l → side_of l ≡ side_so_far x (Some l)
 same_side x l k =
@@ -71,7 +72,7 @@ module _ (x y : Life) (n : ℕ) (b : Option Life) (ls : List Life) (p : Progress
   by_step e may like (Stays same) = subst (λ (o : Option Life). Progress x y o b) (sym same) p
   by_step _ may like (Acts place act l new old after) =
       let k = like (with_act act l) after in
-      let l_like : IsLike x l = record { ends = k.ends; number = k.number; room = k.room; size = k.size } in
+      let l_like : IsLike x l = record { ends = k.ends; number = k.number; room = k.room; size = k.size; is_plain = k.is_plain } in
       subst (λ (o : Option Life). Progress x y o b) (sym after)
       (one_act x y (Some l) b (subst (λ (o : Option Life). Progress x y o b) old p) act (Some (with_act act l)) refl
       (subst (λ (s : Side). MayDoAt act s (side_so_far y b)) (same_side x l l_like) (may l new l_like.ends)))
@@ -80,7 +81,7 @@ module _ (x y : Life) (n : ℕ) (b : Option Life) (ls : List Life) (p : Progress
       subst (λ (o : Option Life). Progress x y o b) (sym now)
       (one_act x y None b (subst (λ (o : Option Life). Progress x y o b) none p) act (Some (begun place e number room size act)) refl
       (subst (λ (r : ℕ). MayDoAt act (unopened r x.size no_settings) (side_so_far y b)) k.room
-      (subst (λ (r : ℕ). MayDoAt act (unopened room r no_settings) (side_so_far y b)) k.size (may k.ends))))
+      (subst (λ (r : ℕ). MayDoAt act (unopened room r no_settings) (side_so_far y b)) k.size (may k.ends k.is_plain))))
 
   pub event_goes_on : (e : Event) → MayGoOn x.ends (side_so_far y b) ls e →
       ((l : Life) → began_as n (after_event e ls) ≡ Some l → IsLike x l) → Progress x y (began_as n (after_event e ls)) b

@@ -8,12 +8,6 @@ use Rattle.ip_address.specs.declared.cidr.IpCidr.{IpCidr}
 use Rattle.ip_address.specs.declared.ip.IpAddress.{IpAddress}
 use Rattle.ip_address.specs.Protocol.{number_of}
 use Rattle.ip_wire.specs.IpPacket.{src_addr, dst_addr, next_header}
-use Rattle.ip_wire.specs.Tcp.{IsTcp, IsControl}
-use Rattle.ip_wire.specs.Tcp as wire
-use Rattle.ip_wire.specs.Octets.{u16_at}
-use Rattle.ip_wire.specs.Checksum.{folded_sum, word_sum}
-use Rattle.ip_wire.specs.Pseudo.{pseudo}
-use Rattle.std.specs.Prelude.{slice_index, ◌++◌}
 use Rattle.sockets.specs.Raw.{Sent as Packet}
 use Rattle.socket_set.specs.SocketSet.{Sockets}
 use Rattle.tcp_machine.specs.Connection.{Connection}
@@ -26,20 +20,22 @@ use Rattle.tcp_host.specs.declared.iss.Endpoints.{Endpoints}
 use Rattle.tcp_host.specs.Backlog.{evicted}
 use Rattle.tcp_host.specs.Listener as listener
 use Rattle.tcp_host.specs.Iss.{iss}
+use Rattle.tcp_host.specs.declared.resets.Reply.{Reply}
 use Rattle.tcp_host.specs.declared.resets.Reset.{Reset}
 use Rattle.tcp_host.specs.Renewal.{is_renewed_by}
 use Rattle.tcp_host.specs.Resets.{reset_for, begins}
 use Rattle.tcp_host.specs.Host.{Host, slot_at, connection_at, is_let_go, with_alarm, with_connection, vacated, default_mss, link_mss, accepted_settings_for, listener_at, with_listener}
-use Rattle.tcp_host.specs.Arrivals.{Delivers, Receives, Known, Reopened, Improper, Begun, Unheeded, Answered, Nobody, Begins, TooMany, NoPlace, InPlace}
+use Rattle.tcp_host.specs.Arrivals.{Delivers, Reopens, accepted_with}
 use Rattle.tcp_host.specs.News.{noted, seen_at}
 use Rattle.tcp_host.specs.Arrivals.{refused, accepted_at, vacated_if, counted}
 use Rattle.tcp_sockets.specs.Arrivals.{HasSegment, is_for_host}
-use Rattle.tcp_laws.specs.Machines.{Sent, Accepts, Gets}
+use Rattle.host_machine.proofs.Sockets.TcpSegments.{Tellable, both, means, less, is_set, is_tcp}
+use Rattle.tcp_laws.specs.Machines.{Sent, Act, Accepts, Gets, arrived}
 use Rattle.tcp_host_laws.specs.Lives.{Life, side_of, Event, Does, newest, begun, after_events, IsLifeOf, Tells}
 use Rattle.tcp_host_laws.specs.Lives as lives
-use Rattle.tcp_host_laws.specs.Turns.{Came, MayFollow}
+use Rattle.tcp_host_laws.specs.Turns.{Came, BySyn, MayFollow}
 use Rattle.tcp_host_laws.proofs.LifeLemmas.{after_of, Rests, Steps, Starts, rests_then, rests_starts, steps_rests, tells_rest, tells_step, tells_start}
-use Rattle.tcp_host_laws.proofs.HostSteps.{in_or_past, same, found_rests, alarm_noted_rests, listener_rests, vacated_rests, connection_steps, slot_starts}
+use Rattle.tcp_host_laws.proofs.HostSteps.{in_or_past, same, alarm_noted_rests, listener_rests, vacated_rests, connection_steps, slot_starts}
 
 -- what happens at a host, without its program
 pub record Follows {L : Type 0} (checked : Bool) (own : List IpCidr) (sockets : Sockets L) (ls : List Life) (old new : Host) : Type 0 where
@@ -66,19 +62,62 @@ got s = record {
   blocks = [];
 }
 
-all_of : (a b c : Bool) → a && not b && c ≡ true → (a ≡ true) × (b ≡ false) × (c ≡ true)
+pub all_of : (a b c : Bool) → a && not b && c ≡ true → (a ≡ true) × (b ≡ false) × (c ≡ true)
 all_of true false true e = (refl, refl, refl)
 all_of true false false e = absurd cc
 all_of true true c e = absurd cc
 all_of false b c e = absurd cc
 
-no_ack : (o : Option ℕ) → is_none o ≡ true → o ≡ None
+pub no_ack : (o : Option ℕ) → is_none o ≡ true → o ≡ None
 no_ack None e = refl
 no_ack (Some n) e = absurd cc
 
 first_of : (a b c : Bool) → a && b && c ≡ true → a ≡ true
 first_of true b c e = refl
 first_of false b c e = absurd cc
+
+-- a place counts as half-open
+vacated_before : (o : Option ℕ) (h : Host) → Rests h (vacated_if o h)
+vacated_before None h = same h
+vacated_before (Some place) h = by (nat_lt place (length h.slots)) where
+  by : (b : Bool) → Rests h (if b then vacated place h else h)
+  by true = vacated_rests place h
+  by false = same h
+
+pub counted_rests : (place index : ℕ) (h : Host) → Rests h (counted place index h)
+counted_rests place index h =
+    let l = listener.after_syn place (listener_at index h) in
+    rests_then h (with_listener index l h) (counted place index h) (listener_rests index l h)
+    (vacated_before (evicted (listener_at index h).half_open) (with_listener index l h))
+
+-- a connection that begins at a place, by a SYN that has come or is told
+module _ (old : Host) (now : ℕ) (e : Endpoints) where
+  abbrev pub act_at : Host → Sent → machine.Options → Act
+  act_at mid k options =
+      Accepts now (default_mss e.remote_addr) (link_mss mid.config e.remote_addr) (accepted_settings_for mid.config e.remote_addr) k options
+
+  abbrev pub connection_with : (number place size : ℕ) → machine.Segment → Host → Connection
+  connection_with number place size a mid =
+      accepted now number (connection_at place mid).transmission.sender.room size (default_mss e.remote_addr) (link_mss mid.config e.remote_addr)
+      (accepted_settings_for mid.config e.remote_addr) a
+
+  abbrev pub life_at : (number place : ℕ) → Host → Sent → machine.Options → Life
+  life_at number place mid k options =
+      begun place e number (connection_at place mid).transmission.sender.room (length (connection_at place mid).reception.receiver.cells)
+      (act_at mid k options)
+
+  pub starts_at : (number place index : ℕ) (syn : Segment) (k : Sent) (options : machine.Options) (mid : Host) → Rests old mid →
+      ((n : ℕ) → connection_with number place n (arrived k.segment options) mid ≡ connection_with number place n (segment_of syn []) mid) →
+      Starts place e (side_of (life_at number place mid k options)).connection old (accepted_with number place index now e syn mid)
+  starts_at number place index syn k options mid r same_syn =
+      let size = length (connection_at place mid).reception.receiver.cells in
+      let c = (side_of (life_at number place mid k options)).connection in
+      let h = accepted_with number place index now e syn mid in
+      let one : Starts place e (connection_with number place size (segment_of syn []) mid) mid h = slot_starts place e _ mid in
+      let is : c ≡ connection_with number place size (segment_of syn []) mid =
+      same_syn (length (open_receiver size).cells)
+      ∙ ap (λ (n : ℕ). connection_with number place n (segment_of syn []) mid) (length-replicate {A = Option ℕ} size None) in
+      rests_starts place e c old mid h r (subst (λ (x : Connection). Starts place e x mid h) (sym is) one)
 
 module _ {L : Type 0} (checked : Bool) (own : List IpCidr) (sockets : Sockets L) (ls : List Life) (old : Host) (t : Tells ls old) where
   pub rests : (new : Host) → Rests old new → Follows checked own sockets ls old new
@@ -95,7 +134,7 @@ module _ {L : Type 0} (checked : Bool) (own : List IpCidr) (sockets : Sockets L)
         let same_life : k.0 ≡ l = cc in
         sym k.1.ends ∙ ap (λ (x : Life). x.ends) same_life
 
-    delivered : (place : ℕ) (new : Host) → (k : Life) × IsLifeOf place e ls k → Delivers place now e s octets old new →
+    pub delivered : (place : ℕ) (new : Host) → (k : Life) × IsLifeOf place e ls k → Delivers place now e s octets old new →
         Follows checked own sockets ls old new
     delivered place new k d =
         let act = Gets (default_mss e.remote_addr) (link_mss old.config e.remote_addr) now d.arrives.keeps (got (segment_of s octets))
@@ -114,136 +153,47 @@ module _ {L : Type 0} (checked : Bool) (own : List IpCidr) (sockets : Sockets L)
         }
 
     -- it begins a connection
-    vacated_before : (o : Option ℕ) (h : Host) → Rests h (vacated_if o h)
-    vacated_before None h = same h
-    vacated_before (Some place) h = by (nat_lt place (length h.slots)) where
-      by : (b : Bool) → Rests h (if b then vacated place h else h)
-      by true = vacated_rests place h
-      by false = same h
-
-    counted_rests : (place index : ℕ) (h : Host) → Rests h (counted place index h)
-    counted_rests place index h =
-        let l = listener.after_syn place (listener_at index h) in
-        rests_then h (with_listener index l h) (counted place index h) (listener_rests index l h)
-        (vacated_before (evicted (listener_at index h).half_open) (with_listener index l h))
-
-    accepted_size : (number room size default link n : ℕ) (settings : _) → n ≡ size →
-        accepted now number room n default link settings (segment_of s octets) ≡ accepted now number room size default link settings (segment_of s [])
-    accepted_size number room size default link n settings is =
-        ap (λ (k : ℕ). accepted now number room k default link settings (segment_of s [])) is
-
     accepts : (place index : ℕ) (mid new : Host) → begins s ≡ true → Rests old mid → new ≡ accepted_at place index now e s mid →
         Follows checked own sockets ls old new
     accepts place index mid new begin r is =
-        let default = default_mss e.remote_addr in
-        let link = link_mss mid.config e.remote_addr in
-        let settings = accepted_settings_for mid.config e.remote_addr in
         let number = iss mid.config.number_key e now in
-        let c = connection_at place mid in
-        let room = c.transmission.sender.room in
-        let size = length c.reception.receiver.cells in
-        let act = Accepts now default link settings (got (segment_of s octets)) (segment_of s octets).options in
+        let k = got (segment_of s octets) in
+        let options = (segment_of s octets).options in
+        let l = life_at old now e number place mid k options in
         let b = all_of s.syn s.rst (is_none s.ack) begin in
-        let one : Starts place e (accepted now number room size default link settings (segment_of s [])) mid (accepted_at place index now e s mid) =
-        slot_starts place e _ mid in
-        let two : Starts place e (side_of (begun place e number room size act)).connection mid (accepted_at place index now e s mid) =
-        subst (λ (x : Connection). Starts place e x mid (accepted_at place index now e s mid))
-        (sym (accepted_size number room size default link (length (open_receiver size).cells) settings (length-replicate size None))) one in
-        let three : Starts place e (side_of (begun place e number room size act)).connection old new =
-        subst (λ (h : Host). Starts place e (side_of (begun place e number room size act)).connection old h) (sym is)
-        (rests_starts place e (side_of (begun place e number room size act)).connection old mid (accepted_at place index now e s mid) r two) in
+        let starts : Starts place e (side_of l).connection old new =
+        subst (λ (h : Host). Starts place e (side_of l).connection old h) (sym is)
+        (starts_at old now e number place index s k options mid r (λ n. refl)) in
         record {
-          events = lives.Begins place e number room size act ∷ [];
-          follow = ((came, record { syn = b.0; no_reset = b.1; no_ack = no_ack s.ack b.2 }), tt);
-          tells = tells_start place e number room size act ls old new t three;
-          slots = three.slots;
+          events = lives.Begins place e number l.room l.size (act_at old now e mid k options) ∷ [];
+          follow = (BySyn came (record { syn = b.0; no_reset = b.1; no_ack = no_ack s.ack b.2 }), tt);
+          tells = tells_start place e number l.room l.size (act_at old now e mid k options) ls old new t starts;
+          slots = starts.slots;
         }
 
-    begin_follows : (index : ℕ) (new : Host) → begins s ≡ true → Begins index now e s old new → Follows checked own sockets ls old new
-    begin_follows index new begin (TooMany full is) = stays new is
-    begin_follows index new begin (NoPlace room none is) = stays new is
-    begin_follows index new begin (InPlace place ready room found is) =
-        accepts place index (counted place index ready) new begin
-        (rests_then old ready (counted place index ready) (found_rests old place ready found) (counted_rests place index ready)) is
+    pub in_place : (place index : ℕ) (new : Host) → begins s ≡ true → new ≡ accepted_at place index now e s (counted place index old) →
+        Follows checked own sockets ls old new
+    in_place place index new begin is = accepts place index (counted place index old) new begin (counted_rests place index old) is
+
+    pub reopened : (place index : ℕ) (new : Host) → Reopens now e s place old index →
+        new ≡ accepted_at place index now e s (counted place index (vacated place old)) → Follows checked own sockets ls old new
+    reopened place index new reopens is =
+        let free = vacated place old in
+        accepts place index (counted place index free) new
+        (first_of (begins s) (is_let_go (slot_at place old).owner)
+        (is_renewed_by s.number (iss old.config.number_key e now) (connection_at place old)) reopens.renewed)
+        (rests_then old free (counted place index free) (vacated_rests place old) (counted_rests place index free)) is
 
     -- or nobody wants it
     refused_rests : (o : Option Reset) → Rests old (refused now o old).1
     refused_rests None = same old
     refused_rests (Some r) = record { slots = refl; connections = λ q. refl; ends = λ q d is. is }
 
-    refuse : (answer : Option Reset) (new : Host) → (answer, new) ≡ refused now (reset_for s (length octets)) old →
+    pub refuse : (answer : Option Reply) (new : Host) → (answer, new) ≡ refused now (reset_for s (length octets)) old →
         Follows checked own sockets ls old new
-    refuse answer new is = rests new (subst (λ (x : Option Reset × Host). Rests old x.1) (sym is) (refused_rests (reset_for s (length octets))))
-
-    pub receives : (answer : Option Reset) (new : Host) → Receives now e s octets old answer new → Follows checked own sockets ls old new
-    receives answer new (Known place at kept none d) = delivered place new (t.ends place e at.has) d
-    receives answer new (Reopened place at index reopens none is) =
-        let free = vacated place old in
-        accepts place index (counted place index free) new
-        (first_of (begins s) (is_let_go (slot_at place old).owner)
-        (is_renewed_by s.number (iss old.config.number_key e now) (connection_at place old)) reopens.renewed)
-        (rests_then old free (counted place index free) (vacated_rests place old) (counted_rests place index free)) is
-    receives answer new (Improper nowhere never_so none is) = stays new is
-    receives answer new (Begun nowhere proper index listens begin none b) = begin_follows index new begin b
-    receives answer new (Unheeded nowhere proper index listens begin ack none is) = stays new is
-    receives answer new (Answered nowhere proper index listens ack is) = refuse answer new is
-    receives answer new (Nobody nowhere proper none is) = refuse answer new is
+    refuse answer new is = rests new (subst (λ (x : Option Reply × Host). Rests old x.1) (sym is) (refused_rests (reset_for s (length octets))))
 
 -- whether a packet has a segment for a host can be told
-abbrev Tellable : Type 0 → Type 0
-Tellable P = P ⊎ (P → ⊥)
-
-both : {P Q : Type 0} → Tellable P → Tellable Q → Tellable (P × Q)
-both (inl p) (inl q) = inl (p, q)
-both (inl p) (inr never_so) = inr (λ x. never_so x.1)
-both (inr never_so) q = inr (λ x. never_so x.0)
-
-means : {P Q : Type 0} → (P → Q) → (Q → P) → Tellable P → Tellable Q
-means f g (inl p) = inl (f p)
-means f g (inr never_so) = inr (λ q. never_so (g q))
-
-at_most : (a b : ℕ) → Tellable (a ≤ b)
-at_most a b = by (in_or_past b a) where
-  by : (b < a) ⊎ (a ≤ b) → Tellable (a ≤ b)
-  by (inl lt) = inr (λ le. omega (arith, lt, le))
-  by (inr le) = inl le
-
-less : (a b : ℕ) → Tellable (a < b)
-less a b = by (in_or_past a b) where
-  by : (a < b) ⊎ (b ≤ a) → Tellable (a < b)
-  by (inl lt) = inl lt
-  by (inr le) = inr (λ lt. omega (arith, lt, le))
-
-other : (a b : ℕ) → Tellable (a ≢ b)
-other a b = by (cases_eq a b) where
-  by : (a ≡ b) ⊎ (a ≡ b → ⊥) → Tellable (a ≢ b)
-  by (inl e) = inr (λ ne. ne e)
-  by (inr never_so) = inl never_so
-
-is_set : (b : Bool) → Tellable (b ≡ true)
-is_set true = inl refl
-is_set false = inr (λ e. absurd cc)
-
-if_set : (b : Bool) (n m : ℕ) → Tellable (IsTrue b → n ≡ m)
-if_set true n m = means (λ e _. e) (λ f. f refl) (cases_eq n m)
-if_set false n m = inl (λ (e : false ≡ true). absurd cc)
-
-is_tcp : (checked : Bool) (src dst : IpAddress) (octets : List ℕ) → Tellable (IsTcp checked src dst octets)
-is_tcp checked src dst octets =
-    means (λ x. record {
-      whole = x.0;
-      header = x.1.0;
-      header_fits = x.1.1.0;
-      source = x.1.1.1.0;
-      destination = x.1.1.1.1.0;
-      flags = x.1.1.1.1.1.0;
-      sum = x.1.1.1.1.1.1;
-    }) (λ i. (i.whole, (i.header, (i.header_fits, (i.source, (i.destination, (i.flags, i.sum)))))))
-    (both (at_most 20 (length octets)) (both (at_most 20 (wire.header_len octets)) (both (at_most (wire.header_len octets) (length octets))
-    (both (other (u16_at octets 0) 0) (both (other (u16_at octets 2) 0)
-    (both (at_most (wire.fin (slice_index octets 13) + wire.syn (slice_index octets 13) + wire.rst (slice_index octets 13)) 1)
-    (if_set checked (folded_sum (word_sum (pseudo src dst 6 (length octets) ++ octets))) 65535)))))))
-
 pub has_segment : (checked : Bool) (own : List IpCidr) (p : Packet) → Tellable (HasSegment checked own p)
 has_segment checked own p =
     means (λ x. record { of_tcp = x.0; for_host = x.1.0; most = x.1.1.0; segment = x.1.1.1 }) (λ h. (h.of_tcp, (h.for_host, (h.most, h.segment))))

@@ -1,18 +1,20 @@
 -- Lives of connections: what the connections of a host did, each from where it began.
-use Rattle.std.specs.Prelude.{◌≡◌, ℕ, ◌<◌, ◌==◌, List, [], ◌∷◌, ◌++◌, length, Option, Some, None, if◌then◌else◌}
+use Rattle.std.specs.Prelude.{◌≡◌, ℕ, ◌<◌, ◌==◌, Bool, false, List, [], ◌∷◌, ◌++◌, length, Option, Some, None, is_some, if◌then◌else◌}
 use Rattle.tcp_host.specs.declared.iss.Endpoints.{Endpoints}
 use Rattle.tcp_host.specs.Table.{ends_at}
 use Rattle.tcp_host.specs.Host.{Host, no_settings, connection_at}
-use Rattle.tcp_laws.specs.Machines.{Side, unopened, Act, after_act}
+use Rattle.tcp_laws.specs.Machines.{Side, unopened, Act, Accepts, after_act}
 
 -- A connection's life: the place where it began, its ends, its own initial number, how many octets it may hold that
--- aren't acknowledged, and that aren't read, and what it did, in order.
+-- aren't acknowledged, and that aren't read, whether the acknowledgement of a cookie began it (RFC 4987 3.6), and what it did, in order.
+-- One whose SYN was answered by a cookie has no place: its number is that of none.
 pub record Life : Type 0 where
   pub place : ℕ
   pub ends : Endpoints
   pub number : ℕ
   pub room : ℕ
   pub size : ℕ
+  pub is_of_cookie : Bool
   pub acts : List Act
 
 abbrev pub after_acts : ℕ → List Act → Side → Side
@@ -40,9 +42,22 @@ abbrev pub continued : ℕ → Act → List Life → List Life
 continued place act [] = []
 continued place act (l ∷ ls) = if l.place == place then with_act act l ∷ ls else l ∷ continued place act ls
 
+-- the SYN that an acknowledgement tells is known by having that acknowledgement, which no other one has
+abbrev pub begins_by_cookie : Act → Bool
+begins_by_cookie (Accepts now default link settings k options) = is_some k.segment.ack
+begins_by_cookie act = false
+
 abbrev pub begun : (place : ℕ) → Endpoints → (number room size : ℕ) → Act → Life
 begun place e number room size act =
-    record { place = place; ends = e; number = number; room = room; size = size; acts = act ∷ [] }
+    record {
+      place = place;
+      ends = e;
+      number = number;
+      room = room;
+      size = size;
+      is_of_cookie = begins_by_cookie act;
+      acts = act ∷ [];
+    }
 
 abbrev pub after_event : Event → List Life → List Life
 after_event (Does place act) ls = continued place act ls

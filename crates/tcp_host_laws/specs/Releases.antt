@@ -6,7 +6,7 @@ use Rattle.tcp_machine.specs.Instants.{later}
 use Rattle.tcp_connection.specs.declared.segment.Segment.{Segment}
 use Rattle.tcp_host.specs.declared.calls.Handle.{Handle}
 use Rattle.tcp_host.specs.declared.iss.Endpoints.{Endpoints}
-use Rattle.tcp_host.specs.declared.resets.Reset.{Reset}
+use Rattle.tcp_host.specs.declared.resets.Reply.{Reply}
 use Rattle.tcp_host.specs.declared.slot.Owner.{Owner}
 use Rattle.tcp_host.specs.declared.slot.Owner.TheVariants.{Itself}
 use Rattle.tcp_host.specs.declared.turns.Turn.{Turn}
@@ -27,7 +27,7 @@ pub data Deed : Type 0 where
 -- was sent, or has no room until an instant; and a connection is aborted whose address is gone
 pub data Is (old : Host) : Deed → Host → Type 0 where
   Called : (events : List Event) (new : Host) → Calls old events new → Is old Other new
-  Received : (now : ℕ) (e : Endpoints) (s : Segment) (octets : List ℕ) (answer : Option Reset) (new : Host) →
+  Received : (now : ℕ) (e : Endpoints) (s : Segment) (octets : List ℕ) (answer : Option Reply) (new : Host) →
       Receives now e s octets old answer new → Is old Other new
   Waited : (now : ℕ) (turn : Turn) (new : Host) (taken : TakesTurn now old turn new) → now < get_or old.alarms taken.place 0 → Is old Other new
   TookTurn : (place now : ℕ) (turn : Turn) (new : Host) (taken : TakesTurn now old turn new) → taken.place ≡ place →

@@ -1,5 +1,5 @@
 -- What a turn of a host does with its connections, and with its raw sockets.
-use Rattle.std.specs.Prelude.{◌≡◌, ℕ, Bool, true, false, List, [], ◌∷◌, ◌++◌, Option, Some, None}
+use Rattle.std.specs.Prelude.{◌≡◌, ℕ, Bool, true, false, List, [], ◌∷◌, ◌++◌, Option, Some, None, is_some}
 use Rattle.std.specs.List.{AllByRecursion, Contains}
 use Rattle.net_base.specs.Checksum.{is_rx, is_tx}
 use Rattle.ip_address.specs.declared.cidr.IpCidr.{IpCidr}
@@ -8,6 +8,7 @@ use Rattle.socket_set.specs.SocketSet.{Sockets}
 use Rattle.tcp_machine.specs.Segments as machine
 use Rattle.tcp_connection.specs.Actions.{header_of}
 use Rattle.tcp_connection.specs.Segments.{segment_of}
+use Rattle.tcp_host.specs.Arrivals.{before}
 use Rattle.tcp_host.specs.declared.iss.Endpoints.{Endpoints}
 use Rattle.tcp_host.specs.declared.resets.Reset.{Reset}
 use Rattle.tcp_sockets.specs.Arrivals.{HasSegment, arrived_in}
@@ -48,16 +49,29 @@ MayDo checked own sockets e (Gets default link now keeps k options) =
 MayDo checked own sockets e (Expires now) = Unit {0}
 MayDo checked own sockets e (Sends now) = Unit {0}
 
--- a connection begins without its program only by a SYN that has come, neither a reset nor an acknowledgement (RFC 9293
--- 3.10.7.2)
+-- a connection begins without its program by a SYN that has come, neither a reset nor an acknowledgement (RFC 9293 3.10.7.2)
 pub record IsBeginning (s : machine.Segment) : Type 0 where
   pub syn : s.syn ≡ true
   pub no_reset : s.rst ≡ false
   pub no_ack : s.ack ≡ None
 
+-- or by a segment that has come and acknowledges a cookie (RFC 4987 3.6): it tells the number of the SYN
+pub record IsTold {L : Type 0} (checked : Bool) (own : List IpCidr) (sockets : Sockets L) (e : Endpoints)
+    (s : machine.Segment) : Type 0 where
+  pub answer : machine.Segment
+  pub came : Came checked own sockets e answer
+  pub number : s.number ≡ before answer.number
+  pub ack : s.ack ≡ answer.ack
+  pub acknowledges : is_some s.ack ≡ true
+
+pub data MayAccept {L : Type 0} (checked : Bool) (own : List IpCidr) (sockets : Sockets L) (e : Endpoints)
+    (s : machine.Segment) : Type 0 where
+  BySyn : Came checked own sockets e s → IsBeginning s → MayAccept checked own sockets e s
+  ByCookie : IsTold checked own sockets e s → MayAccept checked own sockets e s
+
 abbrev pub MayBegin : {L : Type 0} → Bool → List IpCidr → Sockets L → Endpoints → Act → Type 0
 MayBegin checked own sockets e (Accepts now default link settings k options) =
-    Came checked own sockets e (arrived k.segment options) × IsBeginning (arrived k.segment options)
+    MayAccept checked own sockets e (arrived k.segment options)
 MayBegin checked own sockets e other = ⊥
 
 abbrev pub MayHappen : {L : Type 0} → Bool → List IpCidr → Sockets L → List Life → Event → Type 0

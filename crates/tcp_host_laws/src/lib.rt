@@ -15,7 +15,8 @@ pub fn calls_live_on()
 
 /// Whatever a poll does with a connection is a list of acts, none of which is the program's. Each segment that a
 /// connection gets, or that begins one, had arrived in a packet between its ends; and each packet that is queued has a
-/// segment that a connection sent, between its ends, or a reset that belongs to none.
+/// segment that a connection sent, between its ends, or a reset that belongs to none. The SYN-ACK with a cookie was sent by a
+/// connection of no place, which accepted the SYN.
 pub fn polls_live_on<L>()
     ensures { PollsLiveOn L }
 {}

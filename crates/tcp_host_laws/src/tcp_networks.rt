@@ -40,14 +40,14 @@ pub fn segments_come_from_lives()
 {}
 
 /// On a network of hosts that speak TCP by raw sockets alone, and whose owners do nothing but turns of a host of
-/// connections: the acts of two lives of different hosts, of which each is the only one between its ends, have an order
-/// in which whatever comes to the one had been sent by the other, or is a reset.
+/// connections: the acts of two lives of different hosts, of which each is the only one between its ends, and begun by no
+/// cookie, have an order in which whatever comes to the one had been sent by the other, or is a reset.
 pub fn networks_order()
     ensures { NetworksOrder }
 {}
 
-/// On such a network, of two lives of different hosts, of which each is the only one between its ends: the acts of both
-/// have such an order. If nothing that comes is older than 2^31 octets, what a program read from the one is a beginning
+/// On such a network, of two lives of different hosts, of which each is the only one between its ends, and begun by no cookie:
+/// the acts of both have such an order. If nothing that comes is older than 2^31 octets, what a program read from the one is a beginning
 /// of what the other one's program wrote, and all of it, once it is told the end.
 pub fn networks_keep()
     ensures { NetworksKeep }

@@ -1,6 +1,7 @@
 -- What a poll doesn't do.
 use Rattle.std.specs.Prelude.{◌≡◌, ℕ, Bool, true, false, ◌||◌, List, [], ◌∷◌, Some, if◌then◌else◌}
 use Rattle.net_base.specs.Checksum.{is_rx}
+use Rattle.ip_address.specs.declared.ip.IpAddress.{IpAddress}
 use Rattle.ip_address.specs.declared.cidr.IpCidr.{IpCidr}
 use Rattle.ip_address.specs.declared.protocol.IpVersion.{IpVersion}
 use Rattle.ip_wire.specs.IpPacket.{src_addr, dst_addr}
@@ -15,11 +16,15 @@ use Rattle.tcp_sockets.specs.Arrivals.{HasSegment, is_loopback, is_own}
 use Rattle.tcp_sockets.specs.Sending.{version_between}
 use Rattle.tcp_sockets.specs.Polls.{State, HearsFirst, with_raw, IsNear, after_sending, is_near_queued, segment_at, later_by_pause}
 
+-- whatever is told of next hops
+abbrev pub Whatever : IpAddress → Bool → Type 0
+Whatever address known = Unit {0}
+
 -- a packet that isn't for this host, or has no right segment, leaves its socket; nothing answers it, and nothing else changes
 abbrev pub OthersAreLeft : Type 0 → Type 0
 OthersAreLeft L = (v : IpVersion) (near now : ℕ) (own : List IpCidr) (socket : RawSocket) (octets : List ℕ) (p : Sent) (old new : State L) →
     first_of socket.rx.packets ≡ Some (tt, octets) → packet_in socket.version octets ≡ Some p →
-    (HasSegment (is_rx old.carrier.checksum) own p → ⊥) → HearsFirst v near now own socket old new →
+    (HasSegment (is_rx old.carrier.checksum) own p → ⊥) → HearsFirst Whatever v near now own socket old new →
     new ≡ record old { sockets = with_raw near (socket_after_done socket) old.sockets }
 
 -- no packet from a loopback address, to one that isn't, is for the host

@@ -1,5 +1,5 @@
 -- Segments as packets (RFC 9293 3.1).
-use Rattle.std.specs.Prelude.{ℕ, ◌+◌, Bool, true, false, List, [], ◌∷◌, ◌++◌, map, length, Option, None, if◌then◌else◌, ◌==◌}
+use Rattle.std.specs.Prelude.{ℕ, ◌+◌, Bool, true, false, List, [], ◌∷◌, ◌++◌, map, length, Option, Some, None, if◌then◌else◌, ◌==◌}
 use Rattle.std.specs.Option.{option_map}
 use Rattle.ip_address.specs.declared.ip.IpAddress.{IpAddress}
 use Rattle.ip_address.specs.declared.ip.IpAddress.TheVariants.{Ipv4, Ipv6}
@@ -19,7 +19,10 @@ use Rattle.tcp_machine.specs.declared.sack.SackBlock.{SackBlock}
 use Rattle.tcp_wire.specs.Tcp as tcp
 use Rattle.tcp_connection.specs.declared.outgoing.Header.{Header}
 use Rattle.tcp_host.specs.declared.iss.Endpoints.{Endpoints}
+use Rattle.tcp_host.specs.declared.resets.Reply.{Reply}
+use Rattle.tcp_host.specs.declared.resets.Reply.TheVariants as reply
 use Rattle.tcp_host.specs.declared.resets.Reset.{Reset}
+use Rattle.tcp_host.specs.declared.resets.SynAck.{SynAck}
 use Rattle.tcp_host.specs.declared.turns.Outgoing.{Outgoing}
 
 -- a segment that is sent
@@ -56,6 +59,22 @@ reset_between e r = record {
   hop_limit = 64;
   octets = [];
 }
+
+-- the SYN-ACK of a connection of which nothing is kept: it tells the host's MSS, and offers no scale (RFC 4987 3.6)
+abbrev pub syn_ack_between : Endpoints → SynAck → Segment
+syn_ack_between e a = record {
+  endpoints = e;
+  header = a.header;
+  mss = Some a.mss;
+  scale = None;
+  blocks = None ∷ None ∷ None ∷ [];
+  hop_limit = 64;
+  octets = [];
+}
+
+abbrev pub reply_between : Endpoints → Reply → Segment
+reply_between e (reply.Reset r) = reset_between e r
+reply_between e (reply.Cookie a) = syn_ack_between e a
 
 -- what it means; octets are pushed (RFC 9293 3.9.1.2)
 abbrev pub control_of : Header → (is_empty : Bool) → TcpControl

@@ -1,5 +1,5 @@
 -- The poll of a host of connections: what arrived is received, and what is due is sent.
-use Rattle.std.specs.Prelude.{◌≡◌, ℕ, ◌+◌, nat_lt, Bool, true, false, List, [], ◌∷◌, ◌++◌, length, Option, Some, None, if◌then◌else◌}
+use Rattle.std.specs.Prelude.{◌≡◌, ℕ, ◌+◌, ◌/◌, ◌&&◌, nat_lt, Bool, true, false, List, [], ◌∷◌, ◌++◌, length, Option, Some, None, if◌then◌else◌}
 use Rattle.std.specs.Option.{option_and_then}
 use Rattle.net_base.specs.declared.phy.Checksum.{Checksum}
 use Rattle.net_base.specs.Checksum.{is_rx, is_tx}
@@ -27,7 +27,7 @@ use Rattle.tcp_sockets.specs.declared.tcp_sockets.SocketPair.{SocketPair}
 use Rattle.tcp_sockets.specs.declared.tcp_sockets.Fate.{Fate}
 use Rattle.tcp_sockets.specs.declared.tcp_sockets.Fate.TheVariants.{Queued, Waits, Stranded}
 use Rattle.tcp_sockets.specs.declared.receiving.Answer.{Answer}
-use Rattle.tcp_sockets.specs.Packets.{Segment, reset_between}
+use Rattle.tcp_sockets.specs.Packets.{Segment, reply_between}
 use Rattle.tcp_sockets.specs.Receiving.{ReceivesFirst}
 use Rattle.tcp_sockets.specs.Sending.{version_between, fits, socket_after, fits_far, socket_after_far, waiting_after}
 
@@ -114,6 +114,16 @@ abbrev pub arrived : Option RawSocket → ℕ
 arrived None = 0
 arrived (Some socket) = length socket.rx.packets
 
+-- fewer packets are queued at the near socket than half of those for which there is room
+abbrev pub is_half_free_at : Option RawSocket → Bool
+is_half_free_at None = false
+is_half_free_at (Some socket) = nat_lt (length socket.tx.packets) (socket.tx.most / 2)
+
+-- whether the next hop to whom an answer goes is told to be known
+abbrev pub IsKnown : (told : IpAddress → Bool → Type 0) → Option Answer → (known : Bool) → Type 0
+IsKnown told None known = Unit {0}
+IsKnown told (Some a) known = told a.endpoints.remote_addr known
+
 module _ {L : Type 0} where
   -- the raw socket of a handle
   abbrev pub raw_at : ℕ → Sockets L → Option RawSocket
@@ -126,6 +136,10 @@ module _ {L : Type 0} where
   abbrev pub with_segment : Bool → Segment → ℕ → Option RawSocket → Sockets L → Sockets L
   with_segment summed s handle None set = set
   with_segment summed s handle (Some socket) set = with_raw handle (socket_after summed s socket) set
+
+  abbrev pub is_half_free : Option SocketPair → Sockets L → Bool
+  is_half_free None set = false
+  is_half_free (Some pair) set = is_half_free_at (raw_at pair.near set)
 
   abbrev pub fits_near : Bool → Segment → Option SocketPair → Sockets L → Bool
   fits_near summed s None set = false
@@ -179,39 +193,56 @@ module _ {L : Type 0} where
     sockets = after_far (is_tx st.carrier.checksum) s (far_of v st.carrier) (pair_of v st.carrier) st.sockets;
   }
 
-  -- a reset that is owed is queued, if there is room
-  abbrev pub answered : IpVersion → Option Answer → State L → State L
-  answered v None st = st
-  answered v (Some a) st = far_queued v (reset_between a.endpoints a.reset) st
+  -- An answer goes near if the next hop is known and less than half of the packets there may be are queued: so it waits for nobody, and
+  -- segments of connections find room. Else it goes to a peer that hasn't answered. It is lost, if there is no room
+  abbrev pub replied_by : (by_near : Bool) → IpVersion → Segment → State L → State L
+  replied_by true v s st = near_queued v s st
+  replied_by false v s st = far_queued v s st
+
+  abbrev pub answered : (known : Bool) → IpVersion → Option Answer → State L → State L
+  answered known v None st = st
+  answered known v (Some a) st =
+      replied_by (known && is_half_free (pair_of v st.carrier) st.sockets) v (reply_between a.endpoints a.reply) st
+
+  -- the answer that is owed, if one is, is queued
+  pub record Answers (told : IpAddress → Bool → Type 0) (v : IpVersion) (answer : Option Answer) (c c' : Carrier) (set set' : Sockets L)
+      : Type 0 where
+    pub known : Bool
+    pub is_known : IsKnown told answer known
+    pub after : (h : Host) → state c' h set' ≡ answered known v answer (state c h set)
 
   -- the first packet of a socket is received
-  pub record HearsFirst (v : IpVersion) (near now : ℕ) (own : List IpCidr) (socket : RawSocket) (old new : State L) : Type 0 where
+  pub record HearsFirst (told : IpAddress → Bool → Type 0) (v : IpVersion) (near now : ℕ) (own : List IpCidr) (socket : RawSocket)
+      (old new : State L) : Type 0 where
     pub answer : Option Answer
     pub host : Host
+    pub known : Bool
     pub received : ReceivesFirst now (is_rx old.carrier.checksum) own socket.version (first_of socket.rx.packets) old.host answer host
+    pub is_known : IsKnown told answer known
     pub after : new
-        ≡ answered v answer (record { carrier = old.carrier; host = host; sockets = with_raw near (socket_after_done socket) old.sockets })
+        ≡ answered known v answer (record { carrier = old.carrier; host = host; sockets = with_raw near (socket_after_done socket) old.sockets })
 
-  abbrev pub HearsAt : IpVersion → (near now : ℕ) → List IpCidr → Option RawSocket → (old new : State L) → Type 0
-  HearsAt v near now own None old new = new ≡ old
-  HearsAt v near now own (Some socket) old new = HearsFirst v near now own socket old new
+  abbrev pub HearsAt : (IpAddress → Bool → Type 0) → IpVersion → (near now : ℕ) → List IpCidr → Option RawSocket → (old new : State L) → Type 0
+  HearsAt told v near now own None old new = new ≡ old
+  HearsAt told v near now own (Some socket) old new = HearsFirst told v near now own socket old new
 
-  abbrev pub Hears : IpVersion → (near now : ℕ) → List IpCidr → (old new : State L) → Type 0
-  Hears v near now own old new = HearsAt v near now own (raw_at near old.sockets) old new
+  abbrev pub Hears : (IpAddress → Bool → Type 0) → IpVersion → (near now : ℕ) → List IpCidr → (old new : State L) → Type 0
+  Hears told v near now own old new = HearsAt told v near now own (raw_at near old.sockets) old new
 
   -- one after another, so many
-  pub data HearsEach (v : IpVersion) (near now : ℕ) (own : List IpCidr) (old : State L) : ℕ → State L → Type 0 where
-    Begins : HearsEach v near now own old 0 old
-    Goes : (n : ℕ) → (mid new : State L) → HearsEach v near now own old n mid → Hears v near now own mid new →
-        HearsEach v near now own old (n + 1) new
+  pub data HearsEach (told : IpAddress → Bool → Type 0) (v : IpVersion) (near now : ℕ) (own : List IpCidr) (old : State L)
+      : ℕ → State L → Type 0 where
+    Begins : HearsEach told v near now own old 0 old
+    Goes : (n : ℕ) → (mid new : State L) → HearsEach told v near now own old n mid → Hears told v near now own mid new →
+        HearsEach told v near now own old (n + 1) new
 
   -- all that arrived by a family
-  abbrev pub HearsBy : IpVersion → ℕ → List IpCidr → Option SocketPair → (old new : State L) → Type 0
-  HearsBy v now own None old new = new ≡ old
-  HearsBy v now own (Some pair) old new = HearsEach v pair.near now own old (arrived (raw_at pair.near old.sockets)) new
+  abbrev pub HearsBy : (IpAddress → Bool → Type 0) → IpVersion → ℕ → List IpCidr → Option SocketPair → (old new : State L) → Type 0
+  HearsBy told v now own None old new = new ≡ old
+  HearsBy told v now own (Some pair) old new = HearsEach told v pair.near now own old (arrived (raw_at pair.near old.sockets)) new
 
-  abbrev pub HearsAll : IpVersion → ℕ → List IpCidr → (old new : State L) → Type 0
-  HearsAll v now own old new = HearsBy v now own (pair_of v old.carrier) old new
+  abbrev pub HearsAll : (IpAddress → Bool → Type 0) → IpVersion → ℕ → List IpCidr → (old new : State L) → Type 0
+  HearsAll told v now own old new = HearsBy told v now own (pair_of v old.carrier) old new
 
   -- connections that found no room are due again
   abbrev pub resumed : ℕ → State L → State L
@@ -306,6 +337,6 @@ module _ {L : Type 0} where
   pub record Polls (told : IpAddress → Bool → Type 0) (now : ℕ) (own : List IpCidr) (old new : State L) : Type 0 where
     pub after_v4 : State L
     pub after_v6 : State L
-    pub hears_v4 : HearsAll Ipv4 now own old after_v4
-    pub hears_v6 : HearsAll Ipv6 now own after_v4 after_v6
+    pub hears_v4 : HearsAll told Ipv4 now own old after_v4
+    pub hears_v6 : HearsAll told Ipv6 now own after_v4 after_v6
     pub sends : GivesTurns told now own (resumed now after_v6) new

@@ -5,21 +5,21 @@ use Rattle.ip_address.specs.declared.cidr.IpCidr.{IpCidr}
 use Rattle.ip_address.specs.declared.protocol.IpVersion.{IpVersion}
 use Rattle.sockets.specs.Raw.{Sent, packet_in}
 use Rattle.tcp_host.specs.declared.iss.Endpoints.{Endpoints}
-use Rattle.tcp_host.specs.declared.resets.Reset.{Reset}
+use Rattle.tcp_host.specs.declared.resets.Reply.{Reply}
 use Rattle.tcp_host.specs.Host.{Host}
 use Rattle.tcp_host.specs.Arrivals as host
 use Rattle.tcp_sockets.specs.declared.receiving.Answer.{Answer}
 use Rattle.tcp_sockets.specs.Arrivals.{Arrived, HasSegment, arrived_in}
 
--- a reset that is owed, between the ends of what it answers
-abbrev pub answer_to : Endpoints → Option Reset → Option Answer
-answer_to e reset = option_map (λ (r : Reset). record { endpoints = e; reset = r }) reset
+-- an answer that is owed, between the ends of what it answers
+abbrev pub answer_to : Endpoints → Option Reply → Option Answer
+answer_to e reply = option_map (λ (r : Reply). record { endpoints = e; reply = r }) reply
 
 -- a host receives a segment
 pub record ReceivesArrival (now : ℕ) (a : Arrived) (old : Host) (answer : Option Answer) (new : Host) : Type 0 where
-  pub reset : Option Reset
-  pub is : answer ≡ answer_to a.endpoints reset
-  pub received : host.Receives now a.endpoints a.segment a.octets old reset new
+  pub reply : Option Reply
+  pub is : answer ≡ answer_to a.endpoints reply
+  pub received : host.Receives now a.endpoints a.segment a.octets old reply new
 
 -- nothing comes of it
 pub record Ignores (old : Host) (answer : Option Answer) (new : Host) : Type 0 where

@@ -11,12 +11,12 @@ use ip_wire::{
 };
 use tcp_connection::outgoing::Header;
 use tcp_host::iss::Endpoints;
-use tcp_host::resets::Reset;
+use tcp_host::resets::{Reply, Reset, SynAck};
 use tcp_host::turns::Outgoing;
 use tcp_machine::sack::SackBlock;
 use tcp_wire::{SackRange, TcpOptions, TcpRepr};
 
-/// The hop limit of a reset of no connection (RFC 9293 3.9.2).
+/// The hop limit of what no connection sends (RFC 9293 3.9.2).
 const HOP_LIMIT: u8 = 64;
 
 /// The most octets of a segment that a packet of IPv4 carries beside headers of 20 and 60.
@@ -41,6 +41,31 @@ pub fn reset_between(endpoints: &Endpoints, reset: &Reset) -> Outgoing<'static>
         blocks: [None; 3],
         hop_limit: HOP_LIMIT,
         octets: &[],
+    }
+}
+
+/// The SYN-ACK of a connection of which nothing is kept, as a segment that is sent.
+pub fn syn_ack_between(endpoints: &Endpoints, syn_ack: &SynAck) -> Outgoing<'static>
+    ensures { spec.value_of result ≡ spec.syn_ack_between endpoints.now syn_ack.now }
+{
+    Outgoing {
+        endpoints: *endpoints,
+        header: syn_ack.header,
+        mss: Some(syn_ack.mss),
+        scale: None,
+        blocks: [None; 3],
+        hop_limit: HOP_LIMIT,
+        octets: &[],
+    }
+}
+
+/// A reply of no connection as a segment that is sent.
+pub fn reply_between(endpoints: &Endpoints, reply: &Reply) -> Outgoing<'static>
+    ensures { spec.value_of result ≡ spec.reply_between endpoints.now reply.now }
+{
+    match reply {
+        Reply::Reset(reset) => reset_between(endpoints, reset),
+        Reply::Cookie(syn_ack) => syn_ack_between(endpoints, syn_ack),
     }
 }
 

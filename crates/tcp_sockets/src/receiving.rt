@@ -10,18 +10,18 @@ use ip_wire::{IpCidr, IpVersion};
 use sockets::raw;
 use tcp_host::host::TcpHost;
 use tcp_host::iss::Endpoints;
-use tcp_host::resets::Reset;
+use tcp_host::resets::Reply;
 
-/// A reset that answers a segment, between the ends of that.
+/// What answers a segment that belongs to no connection, between the ends of that.
 #[derive(Clone, Copy, Debug)]
 pub struct Answer {
     pub endpoints: Endpoints,
-    pub reset: Reset,
+    pub reply: Reply,
 }
 
 /// Hands the first packet of a raw socket to a host of connections with these addresses, and drops it. A packet counts only
 /// if [`arrival_in`] finds a segment in it, whose checksum is verified if `checked`; any other one changes nothing at the
-/// host. Returns the reset that is owed, if one is.
+/// host. Returns the answer that is owed, if one is.
 pub fn receive<L: Drop>(
     now: u64,
     own: &[IpCidr],
@@ -77,7 +77,7 @@ fn receive_arrival(now: u64, arrival: &Arrival<'_>, host: &mut TcpHost) -> Optio
 {
     let endpoints = arrival.endpoints;
     match host.receive_segment(now, &endpoints, &arrival.segment, arrival.octets) {
-        Some(reset) => Some(Answer { endpoints, reset }),
+        Some(reply) => Some(Answer { endpoints, reply }),
         None => None,
     }
 }

@@ -11,7 +11,7 @@ ghost use Rattle.tcp_sockets.specs.Polls as spec;
 ghost use Rattle.net_base.specs.Checksum.{is_tx};
 
 use crate::destinations::Destinations;
-use crate::packets::reset_between;
+use crate::packets::reply_between;
 use crate::receiving::{Answer, receive};
 use crate::sending::{send, send_far, version_between};
 use arrayvec::ArrayVec;
@@ -129,7 +129,7 @@ impl TcpSockets {
     /// Hands what arrived to a host of connections, and sends what is due there.
     ///
     /// Only packets for one of these addresses, from one host, with a right checksum, are heard; others are dropped. A reset
-    /// that is owed is queued, if there is room. Connections at which something is due get their turns, up to 65,536.
+    /// or the cookie of a SYN that is owed is queued, if there is room. Connections at which something is due get their turns, up to 65,536.
     ///
     /// `has_neighbor` tells whether the next hop to an address is known, as `Interface::has_neighbor` does. What finds no
     /// room for a peer that has answered, or to which the next hop is known, stays due: it is asked again in the next poll,
@@ -148,8 +148,8 @@ impl TcpSockets {
         ensures { spec.Polls (F.post has_neighbor) now own.now (spec.state self.old host.old sockets.old)
             (spec.state self.new host.new sockets.new) }
     {
-        self.hear_family(IpVersion::Ipv4, now, own, host, sockets);
-        self.hear_family(IpVersion::Ipv6, now, own, host, sockets);
+        self.hear_family(IpVersion::Ipv4, now, own, &has_neighbor, host, sockets);
+        self.hear_family(IpVersion::Ipv6, now, own, &has_neighbor, host, sockets);
         self.resume(now, host);
         self.give_turns(now, own, &has_neighbor, host, sockets);
     }
@@ -175,58 +175,95 @@ impl TcpSockets {
     }
 
     // Hands what arrived by one family to a host.
-    fn hear_family<L: Drop>(
+    fn hear_family<L: Drop, F: Fn(IpAddress) -> bool>(
         &mut self,
         version: IpVersion,
         now: u64,
         own: &[IpCidr],
+        has_neighbor: &F,
         host: &mut TcpHost,
         sockets: &mut SocketSetOf<L>,
     )
-        ensures { spec.HearsAll version now own.now (spec.state self.old host.old sockets.old) (spec.state self.new host.new sockets.new) }
+        requires { F.IsAlwaysCallable has_neighbor.now }
+        ensures { spec.HearsAll (F.post has_neighbor.now) version now own.now (spec.state self.old host.old sockets.old) (spec.state self.new host.new sockets.new) }
     {
         let Some(pair) = self.pair(version) else {
             return;
         };
         for _ in 0..arrived(pair.near, sockets) {
-            self.hear(version, pair.near, now, own, host, sockets);
+            self.hear(version, pair.near, now, own, has_neighbor, host, sockets);
         }
     }
 
     // Hands the first packet of a socket to a host.
-    fn hear<L: Drop>(
+    fn hear<L: Drop, F: Fn(IpAddress) -> bool>(
         &mut self,
         version: IpVersion,
         near: SocketHandle,
         now: u64,
         own: &[IpCidr],
+        has_neighbor: &F,
         host: &mut TcpHost,
         sockets: &mut SocketSetOf<L>,
     )
-        ensures { spec.Hears version near now own.now (spec.state self.old host.old sockets.old) (spec.state self.new host.new sockets.new) }
+        requires { F.IsAlwaysCallable has_neighbor.now }
+        ensures { spec.Hears (F.post has_neighbor.now) version near now own.now (spec.state self.old host.old sockets.old) (spec.state self.new host.new sockets.new) }
     {
         let checked = self.checksum.rx();
         let Some(socket) = sockets.get_mut::<raw::SocketOf<L>>(near) else {
             return;
         };
         let answer = receive(now, own, checked, host, socket);
-        self.answer(version, answer, sockets);
+        self.answer(version, answer, has_neighbor, sockets);
     }
 
-    // Queues a reset that is owed, if there is room.
-    fn answer<L: Drop>(
+    // Queues the answer that is owed, if one is and there is room.
+    fn answer<L: Drop, F: Fn(IpAddress) -> bool>(
         &mut self,
         version: IpVersion,
         answer: Option<Answer>,
+        has_neighbor: &F,
         sockets: &mut SocketSetOf<L>,
     )
-        ensures { (h : Host) → spec.state self.new h sockets.new ≡ spec.answered version answer (spec.state self.old h sockets.old) }
+        requires { F.IsAlwaysCallable has_neighbor.now }
+        ensures { spec.Answers (F.post has_neighbor.now) version answer self.old self.new sockets.old sockets.new }
     {
-        let Some(answer) = answer else {
-            return;
+        if let Some(answer) = answer {
+            let is_known = has_neighbor(answer.endpoints.remote_addr);
+            self.reply(is_known, version, &answer, sockets);
+        }
+    }
+
+    // Queues an answer, if there is room.
+    fn reply<L: Drop>(
+        &mut self,
+        is_known: bool,
+        version: IpVersion,
+        answer: &Answer,
+        sockets: &mut SocketSetOf<L>,
+    )
+        ensures { (h : Host) → spec.state self.new h sockets.new
+            ≡ spec.answered is_known version (Some answer.now) (spec.state self.old h sockets.old) }
+    {
+        let segment = reply_between(&answer.endpoints, &answer.reply);
+        if is_known && self.is_half_free(version, sockets) {
+            let _is_queued = self.queue_near(version, &segment, sockets);
+        } else {
+            let _is_queued = self.queue_far(version, &segment, sockets);
+        }
+    }
+
+    // Whether fewer packets are queued at the near socket than half of those for which there is room.
+    fn is_half_free<L: Drop>(&self, version: IpVersion, sockets: &SocketSetOf<L>) -> bool
+        ensures { result ≡ spec.is_half_free (spec.pair_of version self.now) sockets.now }
+    {
+        let Some(pair) = self.pair(version) else {
+            return false;
         };
-        let segment = reset_between(&answer.endpoints, &answer.reset);
-        let _is_queued = self.queue_far(version, &segment, sockets);
+        match sockets.get::<raw::SocketOf<L>>(pair.near) {
+            Some(socket) => socket.tx().len() < socket.tx().packet_capacity() / 2,
+            None => false,
+        }
     }
 
     // Connections that found no room are due again.

@@ -4,7 +4,7 @@ use Rattle.std.specs.Prelude.{◌≡◌, ◌≤◌, ◌<◌, ℕ, ◌+◌, ◌^�
 use Rattle.std.specs.List.{count_by}
 use Rattle.tcp_host.specs.declared.iss.Endpoints.{Endpoints}
 use Rattle.tcp_host.specs.declared.sip_hash.SipKey.{SipKey}
-use Rattle.tcp_host.specs.Details.Homes.{home}
+use Rattle.tcp_host.specs.Homes.{home}
 use Rattle.tcp_host.specs.Table.{ends_at, AreDistinct}
 
 -- a cell with 0 is empty, and one with p + 1 has the place p

@@ -1,5 +1,5 @@
 -- The order of what two connections on a network did.
-use Rattle.std.specs.Prelude.{◌≡◌, ℕ, ◌==◌, List, [], ◌∷◌, length, Option, Some, None, if◌then◌else◌}
+use Rattle.std.specs.Prelude.{◌≡◌, ℕ, ◌==◌, false, List, [], ◌∷◌, length, Option, Some, None, if◌then◌else◌}
 use Rattle.std.specs.List.{slice_get}
 use Rattle.net_base.specs.declared.phy.Medium.{Medium}
 use Rattle.host_machine.specs.Context.Host.{Host}
@@ -27,10 +27,11 @@ pub record IsOnly (hosts : List Host) (last : ℕ → Station) (j n : ℕ) (e : 
   pub one_host : (k o : ℕ) (l : Life) → IsLifeAt hosts last k o l → l.ends ≡ e → k ≡ j
   pub one : (k o : ℕ) (l : Life) → IsLifeAt hosts last k o l → l.ends ≡ e → o ≡ n
 
+-- They have one, if a SYN or its program began each of them: whether the peer sent the SYN that an acknowledgement tells, no host knows
 abbrev pub NetworksOrder : Type 0
 NetworksOrder =
     (m : Medium) (hosts : List Host) (first last : ℕ → Station) (moves : List Move) →
     IsNetwork m hosts first last moves →
     (i n j o : ℕ) (x y : Life) → (i ≡ j → ⊥) → IsLifeAt hosts last i n x → IsLifeAt hosts last j o y →
-    y.ends ≡ reversed x.ends →
+    y.ends ≡ reversed x.ends → x.is_of_cookie ≡ false → y.is_of_cookie ≡ false →
     IsOnly hosts last i n x.ends → IsOnly hosts last j o y.ends → (acts : List Acted) × IsOrder x y acts

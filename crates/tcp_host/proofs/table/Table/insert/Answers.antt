@@ -3,7 +3,7 @@ use Rattle.std.specs.Prelude.{get_or, set, Some, None}
 use Rattle.std.proofs.lemmas.Grind.{common_steps}
 use Rattle.tcp_host.specs.Table.{ends_at, IsNowhere}
 use Rattle.tcp_host.specs.Details.Cells.{Stands}
-use Rattle.tcp_host.specs.Details.Homes.{home}
+use Rattle.tcp_host.specs.Homes.{home}
 use Rattle.tcp_host.proofs.TableLemmas.{inserted}
 use Rattle.tcp_host.proofs.table.Table.insert.Goals as goal
 

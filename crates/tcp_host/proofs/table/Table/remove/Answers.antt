@@ -2,7 +2,7 @@ use Rattle.std.proofs.Common.{◌≡◌, ◌<◌, ◌≤◌, ◌+◌, length, ar
 use Rattle.std.specs.Prelude.{get_or, Some}
 use Rattle.std.proofs.lemmas.Grind.{common_steps}
 use Rattle.tcp_host.specs.Table.{ends_at}
-use Rattle.tcp_host.specs.Details.Homes.{home}
+use Rattle.tcp_host.specs.Homes.{home}
 use Rattle.tcp_host.proofs.TableLemmas.{removed}
 use Rattle.tcp_host.proofs.table.Table.remove.Goals as goal
 

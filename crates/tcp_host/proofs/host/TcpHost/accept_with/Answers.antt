@@ -1,7 +1,7 @@
 use Rattle.std.proofs.Common.{◌<◌, length, refl, arith}
 use Rattle.std.proofs.lemmas.List.{get_or_read}
 use Rattle.tcp_host.specs.Host.{no_slot}
-use Rattle.tcp_host.proofs.host.TcpHost.accept_at.Goals as goal
+use Rattle.tcp_host.proofs.host.TcpHost.accept_with.Goals as goal
 
 pub returns : goal.returns
 returns c =
@@ -12,7 +12,6 @@ returns c =
     rw (
       c.enroll.ensures,
       c.accept.ensures,
-      c.iss-number.ensures,
       c.default_mss-default.ensures,
       c.link_mss-link.ensures,
       c.accepted_settings_for-settings.ensures.value,
