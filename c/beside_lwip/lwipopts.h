@@ -33,12 +33,17 @@
 #define PBUF_POOL_SIZE 2048
 #define TCP_MSS 1460
 #define LWIP_WND_SCALE 1
-#define TCP_RCV_SCALE 3
 #ifndef TCP_WND
 #define TCP_WND 262144
 #endif
+#ifndef TCP_SND_BUF
 #define TCP_SND_BUF 262144
 #define TCP_SND_QUEUELEN 1024
+#define TCP_RCV_SCALE 3
+#else
+#define TCP_SND_QUEUELEN 4096
+#define TCP_RCV_SCALE 6
+#endif
 #define TCP_SNDLOWAT 32768
 #define TCP_LISTEN_BACKLOG 1
 #define LWIP_TCP_SACK_OUT 1

@@ -4,8 +4,9 @@
 #
 #   tcp.sh own                    this library's, as `make -C c` built it
 #   tcp.sh SOURCE                 lwIP's: the unpacked source of lwIP 2.1.3, as of `apt-get source lwip` on Debian 12
-#   tcp.sh SOURCE build FOLDER    just builds into a folder: tcp_bench; tcp_echo, which is a stand-in for ../tcp.sh; tcp_script,
-#                                 which prints the frames and calls of tcp_bench
+#   tcp.sh SOURCE build FOLDER    just builds into a folder: tcp_bench; tcp_echo, which is a stand-in for ../tcp.sh; path_lwip, one
+#                                 for ../path_speed.sh, with ROOM octets each way, 1,000,000 if not told; tcp_script, which prints
+#                                 the frames and calls of tcp_bench
 #
 # It needs a C compiler and valgrind.
 set -eu
@@ -26,6 +27,7 @@ else
     build tcp_bench -DLWIP_IPV6=0 "$here/tcp_bench.c" "$here/tcp_lwip.c"
     ${CC:-cc} -O2 "$here/tcp_bench.c" "$here/tcp_script.c" -o "$work/tcp_script"
     build tcp_echo -DLWIP_IPV6=1 -DTCP_WND=65535 "$here/tcp_echo.c"
+    build path_lwip -DLWIP_IPV6=0 -DTCP_WND="${ROOM:-1000000}" -DTCP_SND_BUF="${ROOM:-1000000}" "$here/path_lwip.c"
 fi
 [ $# = 1 ] || exit 0
 
