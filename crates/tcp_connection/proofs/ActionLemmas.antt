@@ -1,7 +1,7 @@
 -- What a connection sends is one of its pieces.
-use Rattle.std.proofs.Common.{◌≡◌, ◌-◌, ℕ, List, length, take, drop, refl, sym, ap, ◌∙◌, subst, Bool, true, false, Option, Some, None}
+use Rattle.std.proofs.Common.{◌≡◌, ◌-◌, ℕ, List, length, take, drop, refl, sym, ap, ◌∙◌, subst, Bool, true, false, Option, Some, None, inl, inr}
 use Rattle.std.specs.Option.{option_map}
-use Rattle.std.specs.Prelude.{◌&&◌, not, if◌then◌else◌, min}
+use Rattle.std.specs.Prelude.{◌⊎◌, ◌&&◌, is_some, not, if◌then◌else◌, min}
 use Rattle.std.proofs.lemmas.List.{length-take, take_min}
 use Rattle.tcp_machine.specs.declared.timers.Pending.{Pending}
 use Rattle.tcp_machine.specs.declared.timers.Pending.TheVariants.{Empty, Challenge, SynAgain, Resend, Probe, KeepAlive, Reset}
@@ -11,10 +11,10 @@ use Rattle.tcp_machine.specs.States.{sends_octets, is_synchronized, is_opening}
 use Rattle.tcp_machine.specs.Connection.{Connection}
 use Rattle.tcp_machine.specs.Outgoing as machine
 use Rattle.tcp_machine.specs.Outgoing.{action, action_pending, action_in_opening, next_action, ack_if, is_reset, is_challenge, is_syn_due, is_syn_sent, is_worth_sending, tells_something}
-use Rattle.tcp_machine.specs.Outgoing.{has_octets, next_piece, first_piece, most_again, piece_from, octets_from, segment_for}
+use Rattle.tcp_machine.specs.Outgoing.{has_octets, next_piece, first_piece, again_from, again_piece, most_again, piece_from, octets_from, segment_for}
 use Rattle.tcp_connection.specs.declared.transmission.Part.{Part}
 use Rattle.tcp_connection.specs.declared.outgoing.Action.{Action}
-use Rattle.tcp_connection.specs.declared.outgoing.Action.TheVariants.{SendNext, SendAgain, SendProbe}
+use Rattle.tcp_connection.specs.declared.outgoing.Action.TheVariants.{SendNext, SendAgain, SendProbe, SendKeepAlive, SendAck}
 use Rattle.tcp_connection.specs.Pieces.{part_of, IsPieceOf}
 use Rattle.tcp_connection.specs.Actions.{action_of, after_sending, after_all_of, AreOctets}
 use Rattle.tcp_connection.specs.Details.Sent.{octets_in}
@@ -24,7 +24,7 @@ abbrev pub Fits : machine.Action → Connection → Type 0
 Fits (machine.SendReset number) c = Unit {0}
 Fits machine.SendSyn c = Unit {0}
 Fits (machine.SendNext p) c = p ≡ next_piece c
-Fits (machine.SendAgain p) c = p ≡ first_piece (most_again c) c
+Fits (machine.SendAgain p) c = p ≡ again_piece c
 Fits (machine.SendProbe p) c = p ≡ first_piece 1 c
 Fits machine.SendKeepAlive c = Unit {0}
 Fits machine.SendAck c = Unit {0}
@@ -63,7 +63,7 @@ pending_fits Challenge now m c e = challenge_fits (is_synchronized c.state) m c 
 pending_fits SynAgain now m c e = challenge_fits (is_synchronized c.state) m c e
 pending_fits KeepAlive now m c e = some_of machine.SendKeepAlive m c e tt
 pending_fits Probe now m c e = probe_fits (sends_octets c.state && has_octets (next_piece c)) m c e
-pending_fits Resend now m c e = some_of (machine.SendAgain (first_piece (most_again c) c)) m c e refl
+pending_fits Resend now m c e = some_of (machine.SendAgain (again_piece c)) m c e refl
 pending_fits (Reset n) now m c e = some_of (machine.SendReset n) m c e tt
 
 syn_fits : (b t : Bool) (m : machine.Action) (c : Connection) → (if b then Some machine.SendSyn else ack_if t) ≡ Some m → Fits m c
@@ -119,7 +119,7 @@ octets_fit (machine.SendReset n) c f = refl
 octets_fit machine.SendSyn c f = refl
 octets_fit (machine.SendNext p) c f =
     piece_octets c.transmission.nxt (min c.transmission.mss (machine.limit_of c - c.transmission.nxt)) c.transmission.sender p f
-octets_fit (machine.SendAgain p) c f = piece_octets c.transmission.sender.una (most_again c) c.transmission.sender p f
+octets_fit (machine.SendAgain p) c f = piece_octets (again_from c) (most_again c) c.transmission.sender p f
 octets_fit (machine.SendProbe p) c f = piece_octets c.transmission.sender.una 1 c.transmission.sender p f
 octets_fit machine.SendKeepAlive c f = refl
 octets_fit machine.SendAck c f = refl
@@ -154,13 +154,13 @@ next_of now part c e = by (chosen_is now (SendNext part) c e).chosen (chosen_is 
       by machine.SendAck is of f = absurd cc
 
 pub again_of : (now : ℕ) (part : Part) (c : Connection) → option_map action_of (action now c) ≡ Some (SendAgain part) →
-    IsSent now part (first_piece (most_again c) c) c
-    (machine.piece_sent now (first_piece (most_again c) c) c.transmission.nxt c)
+    IsSent now part (again_piece c) c
+    (machine.again_sent (again_piece c) (machine.piece_sent now (again_piece c) c.transmission.nxt c))
 again_of now part c e = by (chosen_is now (SendAgain part) c e).chosen (chosen_is now (SendAgain part) c e).is
     (chosen_is now (SendAgain part) c e).of (chosen_is now (SendAgain part) c e).fits where
       by : (m : machine.Action) → action now c ≡ Some m → action_of m ≡ SendAgain part → Fits m c →
-          IsSent now part (first_piece (most_again c) c) c
-          (machine.piece_sent now (first_piece (most_again c) c) c.transmission.nxt c)
+          IsSent now part (again_piece c) c
+          (machine.again_sent (again_piece c) (machine.piece_sent now (again_piece c) c.transmission.nxt c))
       by (machine.SendReset n) is of f = absurd cc
       by machine.SendSyn is of f = absurd cc
       by (machine.SendNext p) is of f = absurd cc
@@ -168,7 +168,7 @@ again_of now part c e = by (chosen_is now (SendAgain part) c e).chosen (chosen_i
           let n : part_of p ≡ part = cc in
           record {
             is_part = sym n ∙ ap part_of f;
-            is_after = after_is now (machine.SendAgain p) c is ∙ ap (λ (q : Piece). machine.piece_sent now q c.transmission.nxt c) f;
+            is_after = after_is now (machine.SendAgain p) c is ∙ ap (λ (q : Piece). machine.again_sent q (machine.piece_sent now q c.transmission.nxt c)) f;
           }
       by (machine.SendProbe p) is of f = absurd cc
       by machine.SendKeepAlive is of f = absurd cc
@@ -192,3 +192,38 @@ probe_of now part c e = by (chosen_is now (SendProbe part) c e).chosen (chosen_i
           }
       by machine.SendKeepAlive is of f = absurd cc
       by machine.SendAck is of f = absurd cc
+
+keep_of : (now : ℕ) (c : Connection) → option_map action_of (action now c) ≡ Some SendKeepAlive →
+    after_sending now c ≡ machine.told_to_peer c
+keep_of now c e = by (chosen_is now SendKeepAlive c e).chosen (chosen_is now SendKeepAlive c e).is (chosen_is now SendKeepAlive c e).of where
+  by : (m : machine.Action) → action now c ≡ Some m → action_of m ≡ SendKeepAlive → after_sending now c ≡ machine.told_to_peer c
+  by (machine.SendReset n) is of = absurd cc
+  by machine.SendSyn is of = absurd cc
+  by (machine.SendNext p) is of = absurd cc
+  by (machine.SendAgain p) is of = absurd cc
+  by (machine.SendProbe p) is of = absurd cc
+  by machine.SendKeepAlive is of = after_is now machine.SendKeepAlive c is
+  by machine.SendAck is of = absurd cc
+
+ack_of : (now : ℕ) (c : Connection) → option_map action_of (action now c) ≡ Some SendAck →
+    after_sending now c ≡ machine.told_to_peer c
+ack_of now c e = by (chosen_is now SendAck c e).chosen (chosen_is now SendAck c e).is (chosen_is now SendAck c e).of where
+  by : (m : machine.Action) → action now c ≡ Some m → action_of m ≡ SendAck → after_sending now c ≡ machine.told_to_peer c
+  by (machine.SendReset n) is of = absurd cc
+  by machine.SendSyn is of = absurd cc
+  by (machine.SendNext p) is of = absurd cc
+  by (machine.SendAgain p) is of = absurd cc
+  by (machine.SendProbe p) is of = absurd cc
+  by machine.SendKeepAlive is of = absurd cc
+  by machine.SendAck is of = after_is now machine.SendAck c is
+
+-- an empty segment
+pub told_of : (now : ℕ) (a : Action) (c : Connection) → (a ≡ SendKeepAlive) ⊎ (a ≡ SendAck) → option_map action_of (action now c) ≡ Some a →
+    after_sending now c ≡ machine.told_to_peer c
+told_of now a c (inl e) is = keep_of now c (is ∙ ap Some e)
+told_of now a c (inr e) is = ack_of now c (is ∙ ap Some e)
+
+-- whether something is sent
+pub is_some_of : (o : Option machine.Action) → is_some (option_map action_of o) ≡ is_some o
+is_some_of None = refl
+is_some_of (Some m) = refl

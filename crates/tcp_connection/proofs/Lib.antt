@@ -7,3 +7,4 @@ pub mod GapLemmas
 pub mod WindowLemmas
 pub mod ActionLemmas
 pub mod BlockLemmas
+pub mod ToldLemmas

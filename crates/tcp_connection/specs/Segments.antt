@@ -1,5 +1,6 @@
 -- Segments as the machine has them.
 use Rattle.std.specs.Prelude.{ℕ, List}
+use Rattle.std.specs.List.{filter_map}
 use Rattle.tcp_machine.specs.Pieces.{Piece}
 use Rattle.tcp_machine.specs.Segments as machine
 use Rattle.tcp_connection.specs.declared.segment.Segment.{Segment}
@@ -14,7 +15,7 @@ segment_of s octets = record {
   fin = s.fin;
   rst = s.rst;
   octets = octets;
-  options = record { mss = s.mss; scale = s.scale; sack_permitted = s.sack_permitted };
+  options = record { mss = s.mss; scale = s.scale; sack_permitted = s.sack_permitted; blocks = filter_map (λ b. b) s.blocks };
 }
 
 -- the piece that it carries, from a position on

@@ -99,18 +99,37 @@ impl Connection {
             (segment_of segment.now octets.now) (piece_of start segment.now octets.now) self.old }
         ensures kept { self.new.reception ≡ self.old.reception }
     {
+        let was_waited_for = self.transmission.is_waited_for();
+        let was_closed = self.is_window_closed();
+        self.take_position_and_window(now, position, segment, start, octets);
+        self.take_blocks(segment);
+        self.wait(now, was_waited_for);
+        self.take_opening(now, was_closed);
+        self.take_own_end();
+    }
+
+    /// The position, and then the window, if the segment isn't older than what was acknowledged already.
+    fn take_position_and_window(
+        &mut self,
+        now: u64,
+        position: u64,
+        segment: &Segment,
+        start: u64,
+        octets: &[u8],
+    )
+        requires { position ≤ self.old.transmission.sender.top }
+        ensures value { self.new ≡ acknowledgements.after_told position (segment_of segment.now octets.now)
+            (piece_of start segment.now octets.now) self.old (acknowledgements.after_acked now position
+            (segment_of segment.now octets.now) (piece_of start segment.now octets.now) self.old) }
+        ensures kept { self.new.reception ≡ self.old.reception }
+    {
         let una = self.transmission.una();
         let _top = self.transmission.top();
         let window = self.window_in(segment);
-        let was_waited_for = self.transmission.is_waited_for();
-        let was_closed = self.is_window_closed();
         self.take_position(now, position, window, octets.len(), segment.fin);
         if una <= position {
             self.transmission.take_window(start, position, window);
         }
-        self.wait(now, was_waited_for);
-        self.take_opening(now, was_closed);
-        self.take_own_end();
     }
 
     /// What was sent, and what the peer's window has room for, waits to be acknowledged: since before, if it was so; or nothing
@@ -201,15 +220,17 @@ impl Connection {
             top,
             &self.timers,
         );
-        if self.congestion.shows_a_loss(position) {
+        if self.congestion.shows_a_loss(position) && self.transmission.resent() <= position {
             self.pending = Pending::Resend;
         }
+        let by_blocks = self.reception.sack_permitted();
         self.congestion = self
             .congestion
-            .after_acknowledged(mss, acknowledged, position, nxt - position);
+            .after_progress(by_blocks, mss, acknowledged, position, nxt - position);
         self.transmission.acknowledge(position, window);
         self.transmission.go_back(nxt);
         self.transmission.learn_path(position);
+        self.transmission.acknowledge_told(position);
     }
 
     /// A segment acknowledges what is acknowledged already; it may be empty, with neither octets nor the end.
@@ -219,7 +240,7 @@ impl Connection {
         ensures value { self.new ≡ after_old_position position window is_empty self.old }
         ensures kept { self.new.reception ≡ self.old.reception }
     {
-        if !self.is_duplicate(position, window, is_empty) {
+        if self.reception.sack_permitted() || !self.is_duplicate(position, window, is_empty) {
             self.transmission.acknowledge(position, window);
             return;
         }

@@ -13,6 +13,7 @@ pub mod opening;
 pub mod outgoing;
 pub mod receive_buffer;
 pub mod reception;
+pub mod recovery;
 pub mod reports;
 pub mod segment;
 pub mod states;

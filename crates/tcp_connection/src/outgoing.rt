@@ -93,7 +93,7 @@ impl Connection {
             Pending::Challenge | Pending::SynAgain => self.ack_if(is_synchronized(self.state)),
             Pending::KeepAlive => Some(Action::SendKeepAlive),
             Pending::Probe => self.probe_action(),
-            Pending::Resend => Some(Action::SendAgain(self.first_part(self.most_again()))),
+            Pending::Resend => Some(Action::SendAgain(self.again_part())),
             Pending::Reset(number) => Some(Action::SendReset(number)),
         }
     }
@@ -164,7 +164,7 @@ impl Connection {
         let told = self.transmission.told_edge();
         if self.settings.congestion_control {
             let una = self.transmission.una();
-            let beyond = self.congestion.beyond_window(self.transmission.mss());
+            let beyond = self.beyond_window();
             told.min(
                 una.saturating_add(self.congestion.window)
                     .saturating_add(beyond),
@@ -192,13 +192,18 @@ impl Connection {
         self.transmission.part_from(una, most)
     }
 
-    /// How many octets may be sent again: those that were sent, and what the window told last has room for.
-    fn most_again(&self) -> usize
-        ensures { result ≡ outgoing.most_again self.now }
+    /// What is sent again: of what was sent, and what the window told last has room for; in a recovery the next hole.
+    fn again_part(&self) -> Part
+        ensures { result ≡ part_of (outgoing.again_piece self.now) }
     {
+        let start = self.again_from();
         let end = self.transmission.top().max(self.transmission.told_edge());
-        let left = end.saturating_sub(self.transmission.una());
-        u64::from(self.transmission.mss()).min(left) as usize
+        let left = self
+            .transmission
+            .end_of_hole(start, end)
+            .saturating_sub(start);
+        let most = u64::from(self.transmission.mss()).min(left) as usize;
+        self.transmission.part_from(start, most)
     }
 
     /// Whether Nagle's rule holds short segments back (RFC 9293 3.7.4).
@@ -355,7 +360,7 @@ impl Connection {
             Action::SendReset(_) => self.pending = Pending::Empty,
             Action::SendSyn => self.syn_sent(now),
             Action::SendNext(part) => self.next_sent(now, &part),
-            Action::SendAgain(part) => self.piece_sent(now, &part, nxt),
+            Action::SendAgain(part) => self.again_sent(now, &part, nxt),
             Action::SendProbe(part) => self.probe_sent(now, &part),
             Action::SendKeepAlive | Action::SendAck => self.tell(),
         }
@@ -392,6 +397,21 @@ impl Connection {
     {
         let nxt = self.transmission.end_of(part);
         self.piece_sent(now, part, nxt);
+    }
+
+    /// A piece was sent again.
+    fn again_sent(&mut self, now: u64, part: &Part, nxt: u64)
+        requires sent { part.now.start ≤ self.old.transmission.sender.top }
+        requires piece { IsPieceOf part.now self.old.transmission.sender }
+        requires nxt { nxt ≤ max self.old.transmission.sender.top (after_part part.now.start part.now.len part.now.ends) }
+        ensures { (p : Piece) → part_of p ≡ part.now →
+            self.new ≡ outgoing.again_sent p (outgoing.piece_sent now p nxt self.old) }
+    {
+        let _end = self.transmission.end_of(part);
+        self.piece_sent(now, part, nxt);
+        if self.reception.sack_permitted() {
+            self.transmission.resend_from(part.start + part.len as u64);
+        }
     }
 
     /// A piece was sent, and the next one begins at `nxt`.

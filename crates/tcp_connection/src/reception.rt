@@ -144,6 +144,14 @@ impl Reception {
         self.owed
     }
 
+    /// Whether the peer's SYN permitted selective acknowledgements.
+    #[inline(always)]
+    pub fn sack_permitted(&self) -> bool
+        ensures { result ≡ self.now.sack_permitted }
+    {
+        self.sack_permitted
+    }
+
     /// By how many bits the own windows are scaled.
     pub fn scale(&self) -> u8
         ensures value { result ≡ self.now.scale }

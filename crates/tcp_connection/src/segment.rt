@@ -1,4 +1,9 @@
 //! Segments, apart from ports and checksums (RFC 9293 3.1).
+ghost use Rattle.std.specs.Prelude.{◌≡◌, []};
+ghost use Rattle.tcp_connection.specs.Segments.{segment_of};
+ghost use Rattle.tcp_connection.specs.Details.Told.{is_nil};
+
+use tcp_machine::sack::SackBlock;
 
 /// The values of a segment that arrives, apart from its octets.
 #[derive(Clone, Copy, Debug, PartialEq, Eq)]
@@ -18,4 +23,17 @@ pub struct Segment {
     pub scale: Option<u8>,
     /// Whether there is the option that permits selective acknowledgements. Only that of a SYN counts.
     pub sack_permitted: bool,
+    /// The blocks of the option that tells them (RFC 2018 3).
+    pub blocks: [Option<SackBlock>; 4],
+}
+
+impl Segment {
+    /// Whether it tells no blocks.
+    #[inline(always)]
+    pub(crate) fn has_no_blocks(&self) -> bool
+        ensures { result ≡ is_nil (segment_of self.now []).options.blocks }
+    {
+        let [first, second, third, fourth] = &self.blocks;
+        first.is_none() && second.is_none() && third.is_none() && fourth.is_none()
+    }
 }

@@ -91,6 +91,7 @@ impl Connection {
         ensures { self.new ≡ timers.after_loss_of_all self.old }
     {
         let una = self.transmission.una();
+        self.transmission.forget_told();
         if self.is_shortened() {
             self.transmission.shorten();
         }

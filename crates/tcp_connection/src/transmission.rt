@@ -1,8 +1,10 @@
 //! What a connection sends, and how far it may (RFC 9293 3.3.1).
-ghost use Rattle.std.specs.Prelude.{◌≡◌, ◌+◌, ◌-◌, ◌*◌, ◌≤◌, ◌<◌, ◌^◌, min, max, nat_lt, ◌++◌, length, take, IfOk, None, true, false};
+ghost use Rattle.std.specs.Prelude.{◌≡◌, ◌+◌, ◌-◌, ◌*◌, ◌≤◌, ◌<◌, ◌^◌, min, max, nat_lt, ◌++◌, [], length, take, IfOk, None, true, false};
 ghost use Rattle.tcp_machine.specs.Sending.{after_position, after_close, after_send, MaySend};
 ghost use Rattle.tcp_machine.specs.Windows.{tells_window, after_window};
 ghost use Rattle.tcp_machine.specs.Acknowledgements.{flight, empty_position, is_believed, is_end_acknowledged, is_duplicate, is_waited_for};
+ghost use Rattle.tcp_machine.specs.Acknowledgements.{octets_told, next_hole, is_hole_lost, pipe};
+ghost use Rattle.tcp_machine.specs.Scoreboard as scoreboard;
 ghost use Rattle.tcp_machine.specs.Arrivals.{is_of_sent};
 ghost use Rattle.tcp_machine.specs.Opening.{no_transmission};
 ghost use Rattle.tcp_machine.specs.Path as path;
@@ -16,6 +18,7 @@ use sockets::octets::Octets;
 use std::alloc::{AllocError, Global};
 use std::marker::Model;
 use tcp_machine::path::Path;
+use tcp_machine::scoreboard::Scoreboard;
 
 /// The most octets of a ring: a window of RFC 7323 has less.
 pub const MOST_OCTETS: usize = 1 << 30;
@@ -41,6 +44,8 @@ pub struct Transmission {
     scale: u8,
     mss: u16,
     path: Path,
+    told: Scoreboard,
+    resent: u64,
 }
 
 /// A piece of what is sent: where it begins, how many octets it has, and whether the end follows them.
@@ -75,6 +80,8 @@ impl Model for Transmission {
       scale = t.scale;
       mss = t.mss;
       path = t.path;
+      told = t.told;
+      resent = t.resent;
     } };
 
     ghost invariant = { λ t. IsWithin (record {
@@ -107,6 +114,8 @@ impl Transmission {
             scale: 0,
             mss,
             path: Path::new(mss, mss),
+            told: Scoreboard::new(),
+            resent: 0,
         })
     }
 
@@ -128,6 +137,7 @@ impl Transmission {
         self.scale = 0;
         self.mss = mss;
         self.path = Path::new(mss, mss);
+        self.forget_told();
     }
 
     /// How many octets are held: written, and not acknowledged.
@@ -342,6 +352,13 @@ impl Transmission {
         self.path.sent(self.mss, len, end);
     }
 
+    /// All before a position is acknowledged, and needn't be told by blocks any more.
+    pub fn acknowledge_told(&mut self, position: u64)
+        ensures { self.new ≡ record self.old { told = scoreboard.after_acknowledged position self.old.told } }
+    {
+        self.told.acknowledge(position);
+    }
+
     /// All before a position is acknowledged: what that tells of the path.
     pub fn learn_path(&mut self, position: u64)
         ensures { self.new ≡ record self.old {
@@ -351,6 +368,102 @@ impl Transmission {
     {
         self.mss = self.path.mss_acknowledged(position, self.mss);
         self.path.acknowledged(position);
+    }
+
+    /// Whether nothing is told by blocks.
+    #[inline(always)]
+    pub fn is_nothing_told(&self) -> bool
+        ensures { result ≡ scoreboard.is_empty self.now.told }
+    {
+        self.told.is_empty()
+    }
+
+    /// What blocks told is forgotten.
+    pub fn forget_told(&mut self)
+        ensures { self.new ≡ record self.old { told = []; resent = 0 } }
+    {
+        self.told.forget();
+        self.resent = 0;
+    }
+
+    /// A block is told, by its two positions, if it lies within what was sent and isn't acknowledged.
+    pub fn tell(&mut self, left: Option<u64>, right: Option<u64>)
+        ensures { self.new ≡ record self.old {
+          told = scoreboard.after_block self.old.sender.una self.old.sender.top left right self.old.told;
+        } }
+    {
+        self.told.tell(self.una, self.top, left, right);
+    }
+
+    /// In a recovery that blocks guide all before a position was sent again, or needn't be.
+    pub fn resend_from(&mut self, position: u64)
+        ensures { self.new ≡ record self.old { resent = position } }
+    {
+        self.resent = position;
+    }
+
+    /// The position after what was sent again in such a recovery.
+    pub fn resent(&self) -> u64
+        ensures { result ≡ self.now.resent }
+    {
+        self.resent
+    }
+
+    /// How many octets of all that was sent and isn't acknowledged are told.
+    pub fn told_of_sent(&self) -> u64
+        ensures { result ≡ scoreboard.told_between self.now.sender.una self.now.sender.top self.now.told }
+    {
+        self.told.told_between(self.una, self.top)
+    }
+
+    /// How many octets before the next position are told.
+    pub fn octets_told(&self) -> u64
+        ensures value { result ≡ octets_told self.now }
+        ensures few { result ≤ 1073741824 }
+    {
+        self.told.told_between(self.una, self.nxt)
+    }
+
+    /// The first octet that isn't told and wasn't sent again in this recovery.
+    pub fn next_hole(&self) -> u64
+        ensures value { result ≡ next_hole self.now }
+        ensures sent { result ≤ self.now.sender.top }
+    {
+        self.told.hole_from(self.una.max(self.resent)).min(self.top)
+    }
+
+    /// Whether it is lost (RFC 6675 4).
+    pub fn is_hole_lost(&self) -> bool
+        ensures { result ≡ is_hole_lost self.now }
+    {
+        self.told.is_lost(self.mss, self.next_hole())
+    }
+
+    /// Whether the first octet that isn't acknowledged is lost.
+    pub fn is_first_lost(&self) -> bool
+        ensures { result ≡ scoreboard.is_lost self.now.mss self.now.sender.una self.now.told }
+    {
+        self.told.is_lost(self.mss, self.una)
+    }
+
+    /// How much is on its way: neither told, nor lost and not sent again (RFC 6675 4).
+    #[tactic(auto, using(crate::proofs::TransmissionLemmas::bounded))]
+    pub fn pipe(&self) -> u64
+        ensures value { result ≡ pipe self.now }
+        ensures bounded { result ≤ 2 ^ 62 + 1 }
+    {
+        let lost = self.told.lost_from(self.mss, self.next_hole());
+        self.nxt
+            .saturating_sub(self.una)
+            .saturating_sub(self.octets_told())
+            .saturating_sub(lost)
+    }
+
+    /// The first position above one that is told, and at most `end`.
+    pub fn end_of_hole(&self, position: u64, end: u64) -> u64
+        ensures { result ≡ min end (scoreboard.start_of end (scoreboard.above position self.now.told)) }
+    {
+        self.told.end_of_hole(position, end).min(end)
     }
 
     /// Whether the path may be a black hole, where what isn't acknowledged was sent again so many times.

@@ -42,6 +42,7 @@ const fn segment(number: u32, ack: Option<u32>, is_syn: bool) -> Segment {
         mss: None,
         scale: None,
         sack_permitted: is_syn,
+        blocks: [None; 4],
     }
 }
 
@@ -93,4 +94,58 @@ fn are_answered(alloc: Global, rows: &[Row]) -> bool {
 #[test]
 fn third_example(rt: HostRuntime) {
     assert!(rt; are_answered(rt.alloc(), &ROWS));
+}
+
+/// A block by its numbers.
+type Numbers = (u32, u32);
+
+/// Blocks that aren't true: of what wasn't sent, backwards, empty, across what is acknowledged, one over another, and less each time.
+const LIES: [[Numbers; 4]; 6] = [
+    [(300, 4_000), (700, 800), (0, 0), (99, 4_294_967_295)],
+    [(300, 200), (200, 200), (100, 300), (50, 250)],
+    [(200, 500), (250, 450), (300, 700), (101, 102)],
+    [(150, 160), (170, 180), (190, 195), (110, 120)],
+    [(699, 700), (600, 650), (0, 0), (0, 0)],
+    [(101, 700), (0, 0), (0, 0), (0, 0)],
+];
+
+const fn block(numbers: Numbers) -> Option<SackBlock> {
+    Some(SackBlock {
+        left: numbers.0,
+        right: numbers.1,
+    })
+}
+
+/// An acknowledgement of nothing new that tells these.
+const fn telling(lie: [Numbers; 4]) -> Segment {
+    let [first, second, third, fourth] = lie;
+    Segment {
+        blocks: [block(first), block(second), block(third), block(fourth)],
+        ..segment(5_000, Some(100), false)
+    }
+}
+
+/// Whether all octets go again once the time ran out, whatever blocks told before, and an acknowledgement of all ends it.
+fn is_unharmed(connection: &mut Connection) -> bool {
+    connection.write(&[7; 600]);
+    for _ in 0..10 {
+        let _ = send_one(connection, 1);
+    }
+    for lie in LIES {
+        connection.receive(2, 536, MSS, &telling(lie), &[]);
+        let _ = send_one(connection, 2);
+    }
+    connection.expire(70_000_000);
+    let first = send_one(connection, 70_000_000);
+    connection.receive(70_000_000, 536, MSS, &segment(5_000, Some(700), false), &[]);
+    first.is_some_and(|h| h.number == 100) && !connection.is_unacknowledged(699)
+}
+
+#[test]
+fn blocks_that_are_not_true(rt: HostRuntime) {
+    let is_whole = match opened(rt.alloc()) {
+        Ok(mut connection) => is_unharmed(&mut connection),
+        Err(_) => false,
+    };
+    assert!(rt; is_whole);
 }

@@ -50,6 +50,7 @@ pub fn segment_of(header: &Header) -> Segment {
         mss: if header.syn { Some(MSS) } else { None },
         scale: None,
         sack_permitted: header.syn,
+        blocks: [None; 4],
     }
 }
 

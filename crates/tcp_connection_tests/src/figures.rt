@@ -144,6 +144,7 @@ const fn reset(number: u32, ack: Option<u32>) -> Segment {
         mss: None,
         scale: None,
         sack_permitted: false,
+        blocks: [None; 4],
     }
 }
 
@@ -184,6 +185,7 @@ const fn segment_with(values: (u32, Option<u32>, bool, bool)) -> Segment {
         mss: None,
         scale: None,
         sack_permitted: false,
+        blocks: [None; 4],
     }
 }
 

@@ -1,5 +1,5 @@
 -- A segment arrives at a host (RFC 9293 3.10.7): to which connection it goes, or which it begins, or what answers it.
-use Rattle.std.specs.Prelude.{◌≡◌, ◌<◌, ◌≤◌, ℕ, ◌+◌, ◌-◌, ◌%◌, ◌^◌, nat_lt, true, false, List, [], length, Option, Some, None, is_some, if◌then◌else◌, Bool, ◌&&◌, ◌||◌}
+use Rattle.std.specs.Prelude.{◌≡◌, ◌<◌, ◌≤◌, ℕ, ◌+◌, ◌-◌, ◌%◌, ◌^◌, nat_lt, true, false, List, [], ◌∷◌, length, Option, Some, None, is_some, if◌then◌else◌, Bool, ◌&&◌, ◌||◌}
 use Rattle.net_base.specs.Bucket.{has_token, after_take}
 use Rattle.tcp_machine.specs.Connection.{Connection}
 use Rattle.tcp_machine.specs.Opening.{Arrives, accepted}
@@ -177,6 +177,7 @@ told_syn s mss = record {
   mss = Some mss;
   scale = None;
   sack_permitted = false;
+  blocks = None ∷ None ∷ None ∷ None ∷ [];
 }
 
 -- what a connection at a place sends now was sent

@@ -169,6 +169,7 @@ fn told_syn(segment: &Segment, mss: u16) -> Segment
         mss: Some(mss),
         scale: None,
         sack_permitted: false,
+        blocks: [None; 4],
     }
 }
 

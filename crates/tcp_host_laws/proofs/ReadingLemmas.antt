@@ -2,7 +2,7 @@
 use Rattle.std.proofs.Common.{◌≡◌, ◌∙◌, ℕ, ◌/◌, ◌%◌, ◌<◌, ◌≤◌, ◌^◌, Bool, true, false, List, [], ◌∷◌, length, Option, Some, None, inl, inr}
 use Rattle.std.proofs.Common.{refl, sym, ap, subst, arith, min, cond}
 use Rattle.std.specs.Prelude.{nat_le, ◌==◌, ◌&&◌, ◌⊎◌, if◌then◌else◌, slice_index}
-use Rattle.std.specs.List.{Contains}
+use Rattle.std.specs.List.{Contains, filter_map}
 use Rattle.std.proofs.lemmas.Bool.{false≢true}
 use Rattle.std.proofs.lemmas.Bool.Decides.{nat_tests}
 use Rattle.std.proofs.lemmas.List.Elements.{Contains-push_cases}
@@ -22,7 +22,7 @@ use Rattle.tcp_connection.specs.Actions.{header_of}
 use Rattle.tcp_connection.specs.Segments.{segment_of}
 use Rattle.tcp_host.specs.declared.iss.Endpoints.{Endpoints}
 use Rattle.tcp_host.specs.Host.{no_settings}
-use Rattle.tcp_sockets.specs.Reading.{AreEnds, FitFields, SaysOne, Fits, IsReset, reversed}
+use Rattle.tcp_sockets.specs.Reading.{ReadOptions, AreEnds, FitFields, SaysOne, Fits, IsReset, reversed}
 use Rattle.tcp_sockets.specs.Arrivals.{Arrived}
 use Rattle.tcp_sockets.specs.Packets.{Segment, packet_text, reset_between, is_one_family}
 use Rattle.tcp_sockets.specs.Sending.{version_of, is_packet}
@@ -171,8 +171,12 @@ carried s e =
     let v = one_version s.endpoints.local_addr s.endpoints.remote_addr (of_family n one e) in
     record { version = v.0; family = v.1; octets = few_octets n one e }
 
+-- the options that are read, as a connection has them
+abbrev options_read : ReadOptions → Options
+options_read o = record { mss = o.mss; scale = o.scale; sack_permitted = o.sack_permitted; blocks = filter_map (λ b. b) o.blocks }
+
 -- a segment is the one that was sent
-made : (h : Header) (octets : List ℕ) (k : Outgoing) (o : Options) → h ≡ header_of k → octets ≡ k.octets →
+made : (h : Header) (octets : List ℕ) (k : Outgoing) (o : ReadOptions) → h ≡ header_of k → octets ≡ k.octets →
     ◌≡◌ {A = machine.Segment} (record {
       number = h.number;
       ack = h.ack;
@@ -181,8 +185,8 @@ made : (h : Header) (octets : List ℕ) (k : Outgoing) (o : Options) → h ≡ h
       fin = h.fin;
       rst = h.rst;
       octets = octets;
-      options = record { mss = o.mss; scale = o.scale; sack_permitted = o.sack_permitted };
-    }) (arrived k o)
+      options = options_read o;
+    }) (arrived k (options_read o))
 made h octets k o eh eo = rw (eh, eo) refl
 
 -- a reset is no SYN
@@ -213,7 +217,7 @@ module _ (ls : List Life) (octets : List ℕ) (version : IpVersion) (p : Packet)
       (subst (λ (v : IpVersion). IsReadAsSent ls v a.0) (sym one.version) (record {
         brings = OfLife l there (record {
           one = k;
-          options = o;
+          options = options_read o;
           was_sent = sent;
           ends = ap (λ (x : Arrived). x.endpoints) a.1.arrives ∙ ap (λ (e : Endpoints). reversed e) is.ends;
           is = ap (λ (x : Arrived). segment_of x.segment x.octets) a.1.arrives ∙ made s.header s.octets k.segment o is.header is.octets;

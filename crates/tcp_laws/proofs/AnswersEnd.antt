@@ -22,7 +22,7 @@ use Rattle.tcp_machine.specs.Segments.{Segment, Options, window_in, acceptable_p
 use Rattle.tcp_machine.specs.Windows.{after_window}
 use Rattle.tcp_machine.specs.Congestion as congestion
 use Rattle.tcp_machine.specs.Acknowledgements.{rank, with_pending, empty_position, is_believed, is_end_acknowledged, is_duplicate, with_waiting, flight}
-use Rattle.tcp_machine.specs.Acknowledgements.{after_progress, after_duplicate, after_acked, after_told, after_end, after_acknowledgement}
+use Rattle.tcp_machine.specs.Acknowledgements.{after_progress, after_duplicate, after_acked, after_told, after_blocks, after_end, after_acknowledgement, shows_next_loss}
 use Rattle.tcp_machine.specs.Arrivals.{is_time_wait, is_syn_received, is_closed, with_owed, ended, with_time_wait, after_entering}
 use Rattle.tcp_machine.specs.Arrivals.{is_before, is_of_sent, asks, is_answered, after_unbelieved, established}
 use Rattle.tcp_machine.specs.Arrivals.{is_own_syn_acknowledged, is_syn_again, after_syn_once_more, reception_after, has_text}
@@ -54,8 +54,8 @@ module _ (now a : ℕ) (s : Segment) (p : Piece) where
       let t = d.transmission in
       let window = window_in d s in
       either Calm (nat_lt t.sender.una a) (after_progress now a window d) (after_duplicate a window p d)
-      (λ _. loss (congestion.shows_a_loss a d.congestion) d.pending h) (λ _.
-      either Calm (is_duplicate a window p t) (record d {
+      (λ _. loss (shows_next_loss a d) d.pending h) (λ _.
+      either Calm (not d.reception.sack_permitted && is_duplicate a window p t) (record d {
         congestion = congestion.after_duplicate t.mss a (flight t) t.sender.top d.congestion;
         pending = if congestion.is_third a d.congestion then Resend else d.pending;
       }) (record d { transmission = record t { sender = after_position a window t.sender } })
@@ -72,8 +72,8 @@ module _ (now a : ℕ) (s : Segment) (p : Piece) where
 
   calm_acknowledgement : (d : Connection) → Calm d → Calm (after_acknowledgement now a s p d)
   calm_acknowledgement d h =
-      calm_end (with_waiting now d.transmission (after_told a s p d (after_acked now a s p d)))
-      (calm_told d (after_acked now a s p d) (calm_acked d h))
+      let e = after_told a s p d (after_acked now a s p d) in
+      calm_end (with_waiting now d.transmission (after_blocks s e)) (loss _ e.pending (calm_told d (after_acked now a s p d) (calm_acked d h)))
 
 calm_entering : (now : ℕ) (before : State) (d : Connection) → Calm d → Calm (after_entering now before d)
 calm_entering now before d h =

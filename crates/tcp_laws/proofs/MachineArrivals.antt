@@ -20,7 +20,7 @@ use Rattle.tcp_machine.specs.Connection.{Connection}
 use Rattle.tcp_machine.specs.Segments.{Segment, Options, window_in, acceptable_piece, acknowledged_in}
 use Rattle.tcp_machine.specs.Windows.{tells_window, with_window, after_window}
 use Rattle.tcp_machine.specs.Acknowledgements.{rank, with_pending, empty_position, is_believed, is_end_acknowledged, is_duplicate, with_waiting}
-use Rattle.tcp_machine.specs.Acknowledgements.{after_progress, after_duplicate, after_acked, after_told, after_end, after_acknowledgement}
+use Rattle.tcp_machine.specs.Acknowledgements.{after_progress, after_duplicate, after_acked, after_told, after_blocks, after_end, after_acknowledgement}
 use Rattle.tcp_machine.specs.Acknowledgements as acknowledgements
 use Rattle.tcp_machine.specs.Congestion as congestion
 use Rattle.tcp_machine.specs.declared.timers.Pending.TheVariants.{Resend}
@@ -264,7 +264,7 @@ module _ (g : Given) (now a : ℕ) (s : Segment) (p : Piece) (far : a ≤ expect
       let low = le_of (after_position a window x).una x.una a c.transmission.nxt (acked_una a window x) old h.1 in
       let known = h.0.0 in
       let high = known.nxt in
-      either (IsUp g) (is_duplicate a window p c.transmission) (record c {
+      either (IsUp g) (not c.reception.sack_permitted && is_duplicate a window p c.transmission) (record c {
         congestion =
             congestion.after_duplicate c.transmission.mss a (acknowledgements.flight c.transmission) x.top c.congestion;
         pending = if congestion.is_third a c.congestion then Resend else c.pending;
@@ -307,7 +307,7 @@ module _ (g : Given) (now a : ℕ) (s : Segment) (p : Piece) (far : a ≤ expect
       )) (λ _. h)
 
   up_acknowledgement : (c : Connection) → IsUp g c → a ≤ c.transmission.sender.top → IsUp g (after_acknowledgement now a s p c)
-  up_acknowledgement c h high = up_end (with_waiting now c.transmission (after_told a s p c (after_acked now a s p c))) (up_told c (after_acked now a s p c) (up_acked c h high))
+  up_acknowledgement c h high = up_end (with_waiting now c.transmission (after_blocks s (after_told a s p c (after_acked now a s p c)))) (up_told c (after_acked now a s p c) (up_acked c h high))
 
 pub up_entering : (g : Given) (now : ℕ) (before : State) (c : Connection) → IsUp g c → IsUp g (after_entering now before c)
 up_entering g now before c h =

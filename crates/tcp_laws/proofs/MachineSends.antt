@@ -22,7 +22,7 @@ use Rattle.tcp_machine.specs.States.{is_opening, is_synchronized, sends_octets}
 use Rattle.tcp_machine.specs.Connection.{Connection}
 use Rattle.tcp_machine.specs.Acknowledgements.{empty_position}
 use Rattle.tcp_machine.specs.Outgoing.{Action, SendReset, SendSyn, SendNext, SendAgain, SendProbe, SendKeepAlive, SendAck}
-use Rattle.tcp_machine.specs.Outgoing.{octets_from, piece_from, has_octets, next_piece, first_piece, most_again, limit_of, is_worth_sending, ack_if}
+use Rattle.tcp_machine.specs.Outgoing.{octets_from, piece_from, has_octets, next_piece, first_piece, again_from, again_piece, most_again, limit_of, is_worth_sending, ack_if}
 use Rattle.tcp_machine.specs.Outgoing.{tells_something, action_pending, is_reset, is_syn_due, action, after_action}
 use Rattle.tcp_laws.specs.Machines.{Sent, sent_as}
 use Rattle.tcp_laws.proofs.SendingSteps.{IsSendable, sender_sends, piece_sent, le_max_left, le_max_right, max_le}
@@ -30,6 +30,7 @@ use Rattle.tcp_laws.proofs.ReceivingSteps.{false_true, is_at_some, first_of_two}
 use Rattle.tcp_laws.proofs.HeldOctets.{told_stand, numbers_again}
 use Rattle.tcp_laws.proofs.MachineStands.{BlockStands, BlocksStand, SentStands, Given, Streams, Known, is_quiet, Knows, Asks, IsGone, Good}
 use Rattle.tcp_laws.proofs.MachineStreams.{sent_stands, top_near}
+use Rattle.tcp_laws.proofs.Holes.{again_within}
 use Rattle.tcp_laws.proofs.MachineArrivals.{either}
 use Rattle.tcp_laws.proofs.MachineTimers.{not_sending}
 
@@ -280,14 +281,14 @@ module _ (g : Given) (now : ℕ) (c : Connection) (h : Knows g c) where
   known_keep : IsSent g now c (Some SendKeepAlive)
   known_keep = inl (h.0, sent_empty g c.transmission.sender c.reception.receiver (sent_as SendKeepAlive c) (keep_stands g c h) h.1)
 
-  known_again : (most : ℕ) → IsSent g now c (Some (SendAgain (first_piece most c)))
-  known_again most =
+  known_again : IsSent g now c (Some (SendAgain (again_piece c)))
+  known_again =
       let s = c.transmission.sender in
-      let p = first_piece most c in
-      let t = h.1.own.sender.una_top in
+      let p = again_piece c in
+      let t = again_within c h.1.own.sender.una_top in
       let high = h.0.nxt in
-      let may = from_sendable s s.una most (omega arith) t in
-      inl (piece_goes g c h p (sent_as (SendAgain p) c) c.transmission.nxt may (plain_piece g c h p may t)
+      let may = from_sendable s (again_from c) (most_again c) t.0 t.1 in
+      inl (piece_goes g c h p (sent_as (SendAgain p) c) c.transmission.nxt may (plain_piece g c h p may t.1)
       (omega (arith, high, le_max_left s.top (after_piece p))) h.0.una)
 
   known_probe : (most : ℕ) → IsSent g now c (Some (SendProbe (first_piece most c)))
@@ -328,7 +329,7 @@ module _ (g : Given) (now : ℕ) (c : Connection) (h : Knows g c) where
       (Some (SendProbe (first_piece 1 c)))
       (λ e. known_next (sends_synchronized c.state (first_of_two (sends_octets c.state) (has_octets (next_piece c)) e)))
       (λ _. known_probe 1)
-  known_pending Resend = known_again (most_again c)
+  known_pending Resend = known_again
   known_pending (Reset number) = known_reset number
 
   known_sends : IsSent g now c (action now c)

@@ -25,7 +25,7 @@ use Rattle.tcp_machine.specs.Windows.{after_window}
 use Rattle.tcp_machine.specs.Congestion as congestion
 use Rattle.tcp_machine.specs.Estimator as estimator
 use Rattle.tcp_machine.specs.Acknowledgements.{rank, with_pending, empty_position, is_believed, is_end_acknowledged, is_duplicate, with_waiting}
-use Rattle.tcp_machine.specs.Acknowledgements.{after_progress, after_duplicate, after_acked, after_told, after_end}
+use Rattle.tcp_machine.specs.Acknowledgements.{after_progress, after_duplicate, after_acked, after_told, after_blocks, after_end}
 use Rattle.tcp_machine.specs.Acknowledgements.{after_acknowledgement, flight}
 use Rattle.tcp_machine.specs.Arrivals.{is_time_wait, is_syn_received, is_closed, with_owed, ended, aborted, with_time_wait, after_entering, after_syn_once_more, is_syn_again, state_after_handshake}
 use Rattle.tcp_machine.specs.Arrivals.{after_unacceptable, why_reset, after_reset, is_own_syn_acknowledged, established}
@@ -187,7 +187,7 @@ module _ (st : State) (r : Reception) where
         let window = window_in c s in
         let t = c.transmission in
         either On (nat_lt t.sender.una a) (after_progress now a window c) (after_duplicate a window p c) (λ _. h) (λ _.
-        either On (is_duplicate a window p t) (record c {
+        either On (not c.reception.sack_permitted && is_duplicate a window p t) (record c {
           congestion = congestion.after_duplicate t.mss a (flight t) t.sender.top c.congestion;
           pending = if congestion.is_third a c.congestion then Resend else c.pending;
         }) (record c { transmission = record t { sender = after_position a window t.sender } }) (λ _. h) (λ _. h))
@@ -203,7 +203,7 @@ module _ (st : State) (r : Reception) where
         (λ _. moved c.state c.reception (after_end_acknowledged c.state) (end_keeps c.state) h) (λ _. h)
 
     on_acknowledgement : (c : Connection) → On c → On (after_acknowledgement now a s p c)
-    on_acknowledgement c h = on_end (with_waiting now c.transmission (after_told a s p c (after_acked now a s p c))) (on_told c (after_acked now a s p c) (on_acked c h))
+    on_acknowledgement c h = on_end (with_waiting now c.transmission (after_blocks s (after_told a s p c (after_acked now a s p c)))) (on_told c (after_acked now a s p c) (on_acked c h))
 
   -- octets, and the end
   onto : (x y z : ℕ) → x ≤ y → y ≤ z → x ≤ z

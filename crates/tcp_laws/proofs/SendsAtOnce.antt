@@ -19,12 +19,12 @@ use Rattle.tcp_machine.specs.Segments.{Segment, window_in, acknowledged_in}
 use Rattle.tcp_machine.specs.Windows.{tells_window, with_window, after_window}
 use Rattle.tcp_machine.specs.Congestion as congestion
 use Rattle.tcp_machine.specs.Acknowledgements.{is_believed, is_acknowledged, is_end_acknowledged, is_duplicate, flight, with_pending, with_waiting}
-use Rattle.tcp_machine.specs.Acknowledgements.{after_progress, after_duplicate, after_acked, after_told, after_end, after_acknowledgement}
+use Rattle.tcp_machine.specs.Acknowledgements.{after_progress, after_duplicate, after_acked, after_told, after_blocks, after_end, after_acknowledgement}
 use Rattle.tcp_machine.specs.Arrivals.{is_time_wait, is_syn_received, is_closed, with_owed, ended, with_time_wait, after_entering, established}
 use Rattle.tcp_machine.specs.Arrivals.{state_after_handshake, reception_after, has_text, after_octets_of, has_ended, after_fin, after_text}
 use Rattle.tcp_machine.specs.Arrivals.{after_last, after_position_acknowledged, after_ack_field, heard, after_segment_arrives, after_unbelieved}
 use Rattle.tcp_machine.specs.Opening.{is_acknowledgement_of_syn, after_wrong_ack, after_syn, after_arrival_in}
-use Rattle.tcp_machine.specs.Outgoing.{SendNext, limit_of, next_piece, is_held_by_nagle, is_last, has_octets, action_in_opening}
+use Rattle.tcp_machine.specs.Outgoing.{SendNext, beyond_window_of, limit_of, next_piece, is_held_by_nagle, is_last, has_octets, action_in_opening}
 use Rattle.tcp_machine.specs.Outgoing.{is_worth_sending, ack_if, tells_something, action_pending, is_reset, action}
 use Rattle.tcp_laws.specs.Service.{HasRoomFor, MaySendOctets, IsWorthIt, WhatMayBeSentIsSent, TheEndFollows}
 use Rattle.tcp_laws.specs.Service.{SynsAreAnswered, HandshakesEnd}
@@ -81,7 +81,7 @@ module _ (now n : ℕ) (c : Connection) (may : MaySendOctets c.state) (none : c.
 
   limit : x + n ≤ limit_of c
   limit =
-      within_limit n x c.transmission.told_edge s.una (c.congestion.window + congestion.beyond_window c.transmission.mss c.congestion)
+      within_limit n x c.transmission.told_edge s.una (c.congestion.window + beyond_window_of c)
       c.settings.congestion_control room.window (λ h. let b = room.congestion h in omega (arith, b))
 
   abbrev most : ℕ
@@ -212,7 +212,7 @@ module _ (now a : ℕ) (s : Segment) (p : Piece) (c : Connection) where
       let t = d.transmission in
       either (Up c) (nat_lt t.sender.una a) (after_progress now a window d) (after_duplicate a window p d)
       (λ _. record { state = h.state; stop = position_stop window t.sender h.stop; reception = h.reception }) (λ _.
-      either (Up c) (is_duplicate a window p t) (record d {
+      either (Up c) (not d.reception.sack_permitted && is_duplicate a window p t) (record d {
         congestion = congestion.after_duplicate t.mss a (flight t) t.sender.top d.congestion;
         pending = if congestion.is_third a d.congestion then Resend else d.pending;
       }) (record d { transmission = record t { sender = after_position a window t.sender } })
@@ -233,6 +233,9 @@ module _ (now a : ℕ) (s : Segment) (p : Piece) (c : Connection) where
   up_waiting : (t : Transmission) (d : Connection) → Up c d → Up c (with_waiting now t d)
   up_waiting t d h = record { state = h.state; stop = h.stop; reception = h.reception }
 
+  up_blocks : (d : Connection) → Up c d → Up c (after_blocks s d)
+  up_blocks d h = record { state = h.state; stop = h.stop; reception = h.reception }
+
   up_end : (d : Connection) → Up c d → Up c (after_end d)
   up_end d h =
       either (Up c) (is_end_acknowledged d.transmission.sender) (record d { state = after_end_acknowledged d.state }) d
@@ -250,8 +253,9 @@ module _ (now a : ℕ) (s : Segment) (p : Piece) (c : Connection) where
       Up c (after_last (after_entering now before (after_acknowledgement now a s p d)))
   up_all before d h =
       let e = after_acked now a s p d in
-      let f = with_waiting now d.transmission (after_told a s p d e) in
-      up_last (after_entering now before (after_end f)) (up_entering before (after_end f) (up_end f (up_waiting d.transmission (after_told a s p d e) (up_told d e (up_acked d h)))))
+      let b = after_blocks s (after_told a s p d e) in
+      let f = with_waiting now d.transmission b in
+      up_last (after_entering now before (after_end f)) (up_entering before (after_end f) (up_end f (up_waiting d.transmission b (up_blocks (after_told a s p d e) (up_told d e (up_acked d h))))))
 
 -- then octets, and no end
 record UpBeforeEnd (d : Connection) : Type 0 where

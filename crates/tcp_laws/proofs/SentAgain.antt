@@ -1,7 +1,7 @@
 -- When something is sent once more.
 use Rattle.std.proofs.Common.{◌≡◌, ◌<◌, ◌≤◌, ℕ, Bool, true, false}
 use Rattle.std.proofs.Common.{refl, sym, ap, ◌∙◌, arith, Option, Some, None, inl, inr}
-use Rattle.std.specs.Prelude.{max, nat_le, nat_lt, ◌==◌, ◌&&◌, ◌||◌, not, ◌⊎◌, is_some, is_none, if◌then◌else◌}
+use Rattle.std.specs.Prelude.{◌+◌, ◌-◌, min, max, nat_le, nat_lt, ◌==◌, ◌&&◌, ◌||◌, not, ◌⊎◌, is_some, is_none, if◌then◌else◌}
 use Rattle.std.proofs.lemmas.Bool.Decides.{nat_tests}
 use Rattle.tcp_machine.specs.declared.state.State.{State}
 use Rattle.tcp_machine.specs.declared.state.State.TheVariants.{Closed, Listen, SynSent, SynReceived, Established, FinWait1}
@@ -12,6 +12,7 @@ use Rattle.tcp_machine.specs.declared.timers.Owed.TheVariants.{AtOnce}
 use Rattle.tcp_machine.specs.declared.timers.Ending.{Ending}
 use Rattle.tcp_machine.specs.declared.timers.Ending.TheVariants.{Refused, TimedOut}
 use Rattle.tcp_machine.specs.declared.congestion.Congestion.{Congestion}
+use Rattle.tcp_machine.specs.Scoreboard.{is_lost}
 use Rattle.tcp_machine.specs.Instants.{later, has_passed}
 use Rattle.tcp_machine.specs.Positions.{number_at}
 use Rattle.tcp_machine.specs.Pieces.{Piece}
@@ -24,7 +25,8 @@ use Rattle.tcp_machine.specs.Windows.{tells_window, with_window, after_window}
 use Rattle.tcp_machine.specs.Congestion as congestion
 use Rattle.tcp_machine.specs.Acknowledgements as acknowledgements
 use Rattle.tcp_machine.specs.Acknowledgements.{rank, with_pending, empty_position, is_believed, is_end_acknowledged, is_duplicate, with_waiting}
-use Rattle.tcp_machine.specs.Acknowledgements.{after_progress, after_duplicate, after_acked, after_told, after_end, after_acknowledgement}
+use Rattle.tcp_machine.specs.Acknowledgements.{after_progress, after_duplicate, after_acked, after_told, after_blocks, after_end, after_acknowledgement, shows_next_loss}
+use Rattle.tcp_machine.specs.Acknowledgements.{with_told, begins_recovery, is_first_lost, is_hole_due, is_hole_lost, is_more_told, pipe}
 use Rattle.tcp_machine.specs.Arrivals.{is_time_wait, is_syn_received, is_closed, with_owed, ended, aborted, with_time_wait, after_entering, after_syn_once_more, is_syn_again}
 use Rattle.tcp_machine.specs.Arrivals.{after_unacceptable, why_reset, after_reset, is_own_syn_acknowledged, established}
 use Rattle.tcp_machine.specs.Arrivals.{reception_after, has_text, after_octets_of, has_ended, after_fin, after_text, after_last}
@@ -39,7 +41,7 @@ use Rattle.tcp_machine.specs.Outgoing.{is_worth_sending, ack_if, tells_something
 use Rattle.tcp_machine.specs.Outgoing.{action_pending, is_reset, is_syn_due, action}
 use Rattle.tcp_machine.specs.Path.{size_told, path_told}
 use Rattle.tcp_machine.specs.Reports.{is_too_long, after_too_long}
-use Rattle.tcp_laws.specs.Retransmissions.{HasReason, RetransmissionsWait}
+use Rattle.tcp_laws.specs.Retransmissions.{HasReason, IsFirstLost, RetransmissionsWait}
 use Rattle.tcp_laws.proofs.ReceivingSteps.{false_true, first_of_two}
 use Rattle.tcp_laws.proofs.MachineArrivals.{either, last_of, is_lt}
 use Rattle.tcp_laws.proofs.MachineTimers.{probing, once_more}
@@ -84,12 +86,56 @@ le_max_kept m n a h = grind arith
 le_one_max : (m n : ℕ) → m ≤ n → m ≤ max 1 n
 le_one_max m n h = grind arith
 
+-- what an acknowledgement leaves of the reasons for a recovery
+record Comes (c d : Connection) : Type 0 where
+  two : d.reception.sack_permitted ≡ true → d.congestion.duplicates ≡ 2 → c.congestion.duplicates ≡ 2
+  recovering : d.reception.sack_permitted ≡ true → d.congestion.is_recovering ≡ true → c.congestion.is_recovering ≡ true
+
+record Leaves (k g : Congestion) : Type 0 where
+  two : g.duplicates ≡ 2 → k.duplicates ≡ 2
+  recovering : g.is_recovering ≡ true → k.is_recovering ≡ true
+
+leaves_all : (k : Congestion) → Leaves k k
+leaves_all k = record { two = λ e. e; recovering = λ e. e }
+
+none_two : (n : ℕ) → ◌≡◌ {A = ℕ} 0 2 → n ≡ 2
+none_two n e = absurd (omega (arith, e))
+
+leaves_avoided : (mss n : ℕ) (k : Congestion) → Leaves k (congestion.avoided mss n k)
+leaves_avoided mss n k =
+    either (Leaves k) (nat_le k.window (congestion.credit_with n k)) (record k {
+      window = min congestion.largest (k.window + mss);
+      credit = congestion.credit_with n k - k.window;
+      duplicates = 0;
+    }) (record k { credit = congestion.credit_with n k; duplicates = 0 })
+    (λ _. record { two = none_two k.duplicates; recovering = λ e. e }) (λ _. record { two = none_two k.duplicates; recovering = λ e. e })
+
+leaves_progress : (by : Bool) (mss n a f : ℕ) (k : Congestion) → Leaves k (congestion.after_progress by mss n a f k)
+leaves_progress by mss n a f k =
+    either (Leaves k) (by && congestion.shows_a_loss a k) k (congestion.after_acknowledged mss n a f k) (λ _. leaves_all k) (λ _.
+    either (Leaves k) (not k.is_recovering) (congestion.grown mss n a k)
+    (if nat_le k.recover a then congestion.recovered mss f k else congestion.partly_recovered mss n k) (λ _.
+    either (Leaves k) (nat_lt k.window k.threshold) (congestion.started mss n a k) (congestion.avoided mss n k)
+    (λ _. record { two = none_two k.duplicates; recovering = λ e. e }) (λ _. leaves_avoided mss n k)) (λ _.
+    either (Leaves k) (nat_le k.recover a) (congestion.recovered mss f k) (congestion.partly_recovered mss n k)
+    (λ _. record { two = none_two k.duplicates; recovering = λ e. false_true e }) (λ _. record { two = λ e. e; recovering = λ e. e })))
+
 module _ (c0 : Connection) where
+  -- before blocks are told, and after that
+  abbrev Base : Connection → Type 0
+  Base d = (d.pending ≡ Resend → HasReason c0) × (c0.transmission.nxt ≤ d.transmission.nxt)
+
   abbrev Kept : Connection → Type 0
-  Kept d = (d.pending ≡ Resend → HasReason c0) × (c0.transmission.nxt ≤ d.transmission.nxt)
+  Kept d = (d.pending ≡ Resend → HasReason c0 ⊎ IsFirstLost d) × (c0.transmission.nxt ≤ d.transmission.nxt)
+
+  base_first : Base c0
+  base_first = (λ e. inl e, omega arith)
+
+  weak : (d : Connection) → Base d → Kept d
+  weak d h = (λ e. inl (h.0 e), h.1)
 
   kept_first : Kept c0
-  kept_first = (λ e. inl e, omega arith)
+  kept_first = weak c0 base_first
 
   kept_challenge : (d : Connection) → Kept d → Kept (with_pending Challenge d)
   kept_challenge d h =
@@ -125,15 +171,16 @@ module _ (c0 : Connection) where
       (if is_in_window d.reception.receiver p.start then with_pending Challenge d else d) (λ _. kept_ended (Some (why_reset d)) d h) (λ _.
       either Kept (is_in_window d.reception.receiver p.start) (with_pending Challenge d) d (λ _. kept_challenge d h) (λ _. h)))
 
-  kept_established : (d : Connection) → Kept d → Kept (established d)
-  kept_established d h = (h.0, le_one_max c0.transmission.nxt d.transmission.nxt h.1)
+  base_established : (d : Connection) → Base d → Base (established d)
+  base_established d h = (h.0, le_one_max c0.transmission.nxt d.transmission.nxt h.1)
 
   -- what an acknowledgement makes owed
-  loss_reason : (a : ℕ) (k : Congestion) (q : Pending) → (q ≡ Resend → HasReason c0) → k ≡ c0.congestion → (b : Bool) →
-      congestion.shows_a_loss a k ≡ b → (if b then Resend else q) ≡ Resend → HasReason c0
-  loss_reason a k q h same true f e =
-      inr (inr (ap (λ (x : Congestion). x.is_recovering) (sym same) ∙ first_of_two k.is_recovering (nat_lt a k.recover) f))
-  loss_reason a k q h same false f e = h e
+  loss_reason : (a r : ℕ) (k : Congestion) (q : Pending) → (q ≡ Resend → HasReason c0) → k ≡ c0.congestion → (b : Bool) →
+      congestion.shows_a_loss a k && nat_le r a ≡ b → (if b then Resend else q) ≡ Resend → HasReason c0
+  loss_reason a r k q h same true f e =
+      let g = first_of_two (congestion.shows_a_loss a k) (nat_le r a) f in
+      inr (inr (ap (λ (x : Congestion). x.is_recovering) (sym same) ∙ first_of_two k.is_recovering (nat_lt a k.recover) g))
+  loss_reason a r k q h same false f e = h e
 
   third_reason : (a : ℕ) (k : Congestion) (q : Pending) → (q ≡ Resend → HasReason c0) → k ≡ c0.congestion → (b : Bool) →
       congestion.is_third a k ≡ b → (if b then Resend else q) ≡ Resend → HasReason c0
@@ -144,15 +191,15 @@ module _ (c0 : Connection) where
   third_reason a k q h same false f e = h e
 
   module _ (now a : ℕ) (s : Segment) (p : Piece) where
-    kept_acked : (d : Connection) → Kept d → d.congestion ≡ c0.congestion → Kept (after_acked now a s p d)
-    kept_acked d h same =
+    base_acked : (d : Connection) → Base d → d.congestion ≡ c0.congestion → Base (after_acked now a s p d)
+    base_acked d h same =
         let t = d.transmission in
         let window = window_in d s in
-        either Kept (nat_lt t.sender.una a) (after_progress now a window d) (after_duplicate a window p d) (λ _. (
-          loss_reason a d.congestion d.pending h.0 same (congestion.shows_a_loss a d.congestion) refl,
+        either Base (nat_lt t.sender.una a) (after_progress now a window d) (after_duplicate a window p d) (λ _. (
+          loss_reason a t.resent d.congestion d.pending h.0 same (shows_next_loss a d) refl,
           le_max_kept c0.transmission.nxt t.nxt a h.1,
         )) (λ _.
-        either Kept (is_duplicate a window p t) (record d {
+        either Base (not d.reception.sack_permitted && is_duplicate a window p t) (record d {
           congestion = congestion.after_duplicate t.mss a (acknowledgements.flight t) t.sender.top d.congestion;
           pending = if congestion.is_third a d.congestion then Resend else d.pending;
         }) (record d { transmission = record t { sender = after_position a window t.sender } }) (λ _. (
@@ -160,24 +207,90 @@ module _ (c0 : Connection) where
           h.1,
         )) (λ _. h))
 
-    kept_window : (d : Connection) (window : ℕ) → Kept d → (b : Bool) →
-        Kept (record d { transmission = if b then with_window p.start a window d.transmission else d.transmission })
-    kept_window d window h true = h
-    kept_window d window h false = h
+    base_window : (d : Connection) (window : ℕ) → Base d → (b : Bool) →
+        Base (record d { transmission = if b then with_window p.start a window d.transmission else d.transmission })
+    base_window d window h true = h
+    base_window d window h false = h
 
-    kept_told : (c d : Connection) → Kept d → Kept (after_told a s p c d)
-    kept_told c d h =
-        either Kept (nat_le c.transmission.sender.una a)
+    base_told : (c d : Connection) → Base d → Base (after_told a s p c d)
+    base_told c d h =
+        either Base (nat_le c.transmission.sender.una a)
         (record d { transmission = after_window p.start a (window_in c s) d.transmission }) d
-        (λ _. kept_window d (window_in c s) h (tells_window p.start a d.transmission)) (λ _. h)
+        (λ _. base_window d (window_in c s) h (tells_window p.start a d.transmission)) (λ _. h)
 
     kept_end : (d : Connection) → Kept d → Kept (after_end d)
     kept_end d h =
         either Kept (is_end_acknowledged d.transmission.sender) (record d { state = after_end_acknowledged d.state }) d (λ _. h) (λ _. h)
 
-    kept_acknowledgement : (d : Connection) → Kept d → d.congestion ≡ c0.congestion → Kept (after_acknowledgement now a s p d)
+    comes_acked : (d : Connection) → d.congestion ≡ c0.congestion → Comes c0 (after_acked now a s p d)
+    comes_acked d same =
+        let t = d.transmission in
+        let window = window_in d s in
+        let k = leaves_progress d.reception.sack_permitted t.mss (a - t.sender.una) a (max t.nxt a - a) d.congestion in
+        let dups = ap (λ (x : Congestion). x.duplicates) same in
+        let rec = ap (λ (x : Congestion). x.is_recovering) same in
+        either (Comes c0) (nat_lt t.sender.una a) (after_progress now a window d) (after_duplicate a window p d)
+        (λ _. record { two = λ _ e. sym dups ∙ k.two e; recovering = λ _ e. sym rec ∙ k.recovering e }) (λ _.
+        either (Comes c0) (not d.reception.sack_permitted && is_duplicate a window p t) (record d {
+          congestion = congestion.after_duplicate t.mss a (acknowledgements.flight t) t.sender.top d.congestion;
+          pending = if congestion.is_third a d.congestion then Resend else d.pending;
+        }) (record d { transmission = record t { sender = after_position a window t.sender } }) (λ f. record {
+          two = λ e _. false_true (sym (ap not e) ∙ first_of_two (not d.reception.sack_permitted) (is_duplicate a window p t) f);
+          recovering = λ e _. false_true (sym (ap not e) ∙ first_of_two (not d.reception.sack_permitted) (is_duplicate a window p t) f);
+        }) (λ _. record { two = λ _ e. sym dups ∙ e; recovering = λ _ e. sym rec ∙ e }))
+
+    comes_told : (c d : Connection) → Comes c0 d → Comes c0 (after_told a s p c d)
+    comes_told c d h =
+        either (Comes c0) (nat_le c.transmission.sender.una a)
+        (record d { transmission = after_window p.start a (window_in c s) d.transmission }) d
+        (λ _. record { two = h.two; recovering = h.recovering }) (λ _. h)
+
+    -- what blocks make owed
+    begun : (d : Connection) → d.reception.sack_permitted ≡ true → Comes c0 d → (b : Bool) →
+        congestion.is_third d.transmission.sender.una d.congestion ≡ b → b || is_first_lost d ≡ true → HasReason c0 ⊎ IsFirstLost d
+    begun d permitted from true f e =
+        let k = d.congestion in
+        let una = d.transmission.sender.una in
+        let g = first_of_two (not k.is_recovering && (k.duplicates == 2)) (nat_lt k.recover una) f in
+        inl (inr (inl (from.two permitted (is_two k.duplicates (last_of (not k.is_recovering) (k.duplicates == 2) g)))))
+    begun d permitted from false f e =
+        let t = d.transmission in
+        let g = d.congestion in
+        inr (last_of (not g.is_recovering && nat_lt g.recover t.sender.una) (is_lost t.mss t.sender.una t.told) e)
+
+    more_reason : (d : Connection) (m u : Bool) → (d.pending ≡ Resend → HasReason c0) → Comes c0 d →
+        (m ≡ true → d.reception.sack_permitted ≡ true) →
+        (u ≡ true → (d.reception.sack_permitted ≡ true) × (d.congestion.is_recovering ≡ true)) → (b : Bool) →
+        m && begins_recovery d ≡ b → (if b || u then Resend else d.pending) ≡ Resend → HasReason c0 ⊎ IsFirstLost d
+    more_reason d m u h from permitted due true f e =
+        begun d (permitted (first_of_two m (begins_recovery d) f)) from (congestion.is_third d.transmission.sender.una d.congestion) refl
+        (last_of m (begins_recovery d) f)
+    more_reason d m true h from permitted due false f e = inl (inr (inr (from.recovering (due refl).0 (due refl).1)))
+    more_reason d m false h from permitted due false f e = inl (h e)
+
+    kept_blocks : (d : Connection) → Base d → Comes c0 d → Kept (after_blocks s d)
+    kept_blocks d h from =
+        let t = with_told s d in
+        let permitted = d.reception.sack_permitted in
+        let m = permitted && is_more_told d.transmission t.transmission in
+        let u = permitted && is_hole_due t in (
+          more_reason t m u h.0 (record { two = from.two; recovering = from.recovering })
+              (λ e. first_of_two permitted (is_more_told d.transmission t.transmission) e)
+              (λ e. (
+                first_of_two permitted (is_hole_due t) e,
+                first_of_two t.congestion.is_recovering (is_hole_lost t.transmission)
+                    (first_of_two (t.congestion.is_recovering && is_hole_lost t.transmission)
+                    (nat_le (pipe t.transmission + t.transmission.mss) t.congestion.window) (last_of permitted (is_hole_due t) e)),
+              ))
+              (m && begins_recovery t) refl,
+          h.1,
+        )
+
+    kept_acknowledgement : (d : Connection) → Base d → d.congestion ≡ c0.congestion → Kept (after_acknowledgement now a s p d)
     kept_acknowledgement d h same =
-        kept_end (with_waiting now d.transmission (after_told a s p d (after_acked now a s p d))) (kept_told d (after_acked now a s p d) (kept_acked d h same))
+        let e = after_told a s p d (after_acked now a s p d) in
+        kept_end (with_waiting now d.transmission (after_blocks s e))
+        (kept_blocks e (base_told d (after_acked now a s p d) (base_acked d h same)) (comes_told d (after_acked now a s p d) (comes_acked d same)))
 
   kept_entering : (now : ℕ) (before : State) (d : Connection) → Kept d → Kept (after_entering now before d)
   kept_entering now before d h =
@@ -202,29 +315,29 @@ module _ (c0 : Connection) where
         either Kept (takes_octets d.state && has_ended d.reception.receiver) (after_entering now d.state e) d
         (λ _. kept_entering now d.state e h) (λ _. h)
 
-    kept_position : (o : Option ℕ) (d : Connection) → Kept d → d.congestion ≡ c0.congestion → Kept (after_position_acknowledged now keeps o s p d)
-    kept_position None d h same = kept_unbelieved p d h
+    kept_position : (o : Option ℕ) (d : Connection) → Base d → d.congestion ≡ c0.congestion → Kept (after_position_acknowledged now keeps o s p d)
+    kept_position None d h same = kept_unbelieved p d (weak d h)
     kept_position (Some a) d h same =
         let e = after_entering now d.state (after_acknowledgement now a s p d) in
         either Kept (is_believed a d.transmission) (after_text now keeps p (after_last e)) (after_unbelieved p d)
         (λ _. kept_fin (after_octets_of now keeps p (after_last e)) (kept_octets (after_last e)
         (kept_last e (kept_entering now d.state (after_acknowledgement now a s p d) (kept_acknowledgement now a s p d h same)))))
-        (λ _. kept_unbelieved p d h)
+        (λ _. kept_unbelieved p d (weak d h))
 
-    kept_field : (o : Option ℕ) (d : Connection) → Kept d → d.congestion ≡ c0.congestion → Kept (after_ack_field now keeps o s p d)
-    kept_field None d h same = h
+    kept_field : (o : Option ℕ) (d : Connection) → Base d → d.congestion ≡ c0.congestion → Kept (after_ack_field now keeps o s p d)
+    kept_field None d h same = weak d h
     kept_field (Some n) d h same =
         either Kept (not (is_syn_received d.state)) (after_position_acknowledged now keeps (acknowledged_in d n) s p d)
         (if n == number_at d.local 1 then after_position_acknowledged now keeps (Some 1) s p (established d) else with_pending (Reset n) d)
         (λ _. kept_position (acknowledged_in d n) d h same) (λ _.
         either Kept (n == number_at d.local 1) (after_position_acknowledged now keeps (Some 1) s p (established d))
-        (with_pending (Reset n) d) (λ _. kept_position (Some 1) (established d) (kept_established d h) same) (λ _. kept_number n d h))
+        (with_pending (Reset n) d) (λ _. kept_position (Some 1) (established d) (base_established d h) same) (λ _. kept_number n d (weak d h)))
 
   kept_piece : (now : ℕ) (keeps : Bool) (s : Segment) (o : Option Piece) → Kept (after_piece_of now keeps o s c0)
   kept_piece now keeps s None = kept_unacceptable now s c0 kept_first
   kept_piece now keeps s (Some p) =
       either Kept s.rst (after_reset p c0) (after_ack_field now keeps s.ack s p (heard now c0)) (λ _. kept_reset p c0 kept_first)
-      (λ _. kept_field now keeps s p s.ack (heard now c0) kept_first refl)
+      (λ _. kept_field now keeps s p s.ack (heard now c0) base_first refl)
 
   kept_arrival : (now : ℕ) (keeps : Bool) (s : Segment) → Kept (after_segment_arrives now keeps s c0)
   kept_arrival now keeps s =
@@ -232,14 +345,15 @@ module _ (c0 : Connection) where
       (after_syn_once_more s c0)
       (after_piece_of now keeps (acceptable_piece c0 s) s c0) (λ _.
       either Kept (is_own_syn_acknowledged s c0) (with_owed AtOnce (established c0))
-      (if is_syn_again s c0 then with_pending SynAgain c0 else with_pending Challenge c0) (λ _. kept_established c0 kept_first) (λ _.
+      (if is_syn_again s c0 then with_pending SynAgain c0 else with_pending Challenge c0) (λ _. weak (with_owed AtOnce (established c0)) (base_established c0 base_first)) (λ _.
       either Kept (is_syn_again s c0) (with_pending SynAgain c0) (with_pending Challenge c0)
       (λ _. kept_syn_again c0 kept_first) (λ _. kept_challenge c0 kept_first))) (λ _. kept_piece now keeps s (acceptable_piece c0 s))
 
   module _ (default link now : ℕ) (s : Segment) where
     kept_syn : (b : Bool) → Kept (after_syn default link now b s c0)
-    kept_syn true = kept_established (with_syn default link s (heard now c0)) kept_first
-    kept_syn false = kept_first
+    kept_syn true =
+        weak (after_syn default link now true s c0) (base_established (with_syn default link s (heard now c0)) base_first)
+    kept_syn false = weak (after_syn default link now false s c0) base_first
 
     kept_wrong : (o : Option ℕ) → Kept (after_wrong_ack o s c0)
     kept_wrong None = kept_first

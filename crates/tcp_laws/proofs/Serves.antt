@@ -24,13 +24,13 @@ use Rattle.tcp_machine.specs.Segments.{Segment, window_in, acceptable_piece, ack
 use Rattle.tcp_machine.specs.Windows.{tells_window, with_window, after_window, is_update_due}
 use Rattle.tcp_machine.specs.Congestion as congestion
 use Rattle.tcp_machine.specs.Acknowledgements.{is_believed, is_end_acknowledged, is_duplicate, flight, with_waiting}
-use Rattle.tcp_machine.specs.Acknowledgements.{after_progress, after_duplicate, after_acked, after_told, after_end, after_acknowledgement, with_pending}
+use Rattle.tcp_machine.specs.Acknowledgements.{after_progress, after_duplicate, after_acked, after_told, after_blocks, after_end, after_acknowledgement, shows_next_loss, with_pending}
 use Rattle.tcp_machine.specs.Acknowledgements.{rank}
 use Rattle.tcp_machine.specs.Arrivals.{is_time_wait, is_syn_received, is_closed, with_owed, ended, with_time_wait, after_entering, after_syn_once_more}
 use Rattle.tcp_machine.specs.Arrivals.{established, sooner, is_owed_at_once}
 use Rattle.tcp_machine.specs.Arrivals.{reception_after, has_text, after_octets_of, has_ended, after_fin, after_text, after_last}
 use Rattle.tcp_machine.specs.Arrivals.{after_reset, after_position_acknowledged, after_ack_field, heard, after_piece_of, after_segment_arrives, after_unbelieved}
-use Rattle.tcp_machine.specs.Outgoing.{Action, SendAck, SendNext, SendAgain, SendProbe, SendKeepAlive, next_piece, first_piece, most_again, action_in_opening}
+use Rattle.tcp_machine.specs.Outgoing.{Action, SendAck, SendNext, SendAgain, SendProbe, SendKeepAlive, next_piece, first_piece, again_piece, action_in_opening}
 use Rattle.tcp_machine.specs.Outgoing.{has_octets, is_worth_sending, is_owed, ack_if, tells_something, action_pending, is_reset, action}
 use Rattle.tcp_machine.specs.Timers.{keep_alive_at, gives_up_at}
 use Rattle.tcp_machine.specs.Due.{least, owed_at, timer_at, lacks_timer, due_at}
@@ -220,7 +220,7 @@ module _ (now a : ℕ) (s : Segment) (p : Piece) (c : Connection) (low : c.trans
       let t = c.transmission in
       either Left (nat_lt t.sender.una a) (after_progress now a window c) (after_duplicate a window p c)
       (λ _. record { una = left_una window; ring = left_ring window }) (λ e.
-      either Left (is_duplicate a window p t) (record c {
+      either Left (not c.reception.sack_permitted && is_duplicate a window p t) (record c {
         congestion = congestion.after_duplicate t.mss a (flight t) t.sender.top c.congestion;
         pending = if congestion.is_third a c.congestion then Resend else c.pending;
       }) (record c { transmission = record t { sender = after_position a window t.sender } })
@@ -268,7 +268,7 @@ module _ (now a : ℕ) (s : Segment) (p : Piece) (c : Connection) (low : c.trans
   pub has_left : Left (after_text now true p (after_last (after_entering now c.state (after_acknowledgement now a s p c))))
   has_left =
       let d = after_acked now a s p c in
-      let e = with_waiting now c.transmission (after_told a s p c d) in
+      let e = with_waiting now c.transmission (after_blocks s (after_told a s p c d)) in
       let f = after_end e in
       let g = after_entering now c.state f in
       let told = left_told d left_acked in
@@ -431,8 +431,8 @@ module _ (now a : ℕ) (s : Segment) (p : Piece) (c : Connection) where
       } in
       let old : Connection = record d { transmission = record t { sender = after_position a window t.sender } } in
       either (Ready c) (nat_lt t.sender.una a) (after_progress now a window d) (after_duplicate a window p d) (λ _.
-      ready_as c d (after_progress now a window d) h h.takes refl refl refl (resends (congestion.shows_a_loss a d.congestion) d.pending h.pending))
-      (λ _. either (Ready c) (is_duplicate a window p t) dup old
+      ready_as c d (after_progress now a window d) h h.takes refl refl refl (resends (shows_next_loss a d) d.pending h.pending))
+      (λ _. either (Ready c) (not d.reception.sack_permitted && is_duplicate a window p t) dup old
       (λ _. ready_as c d dup h h.takes refl refl refl (resends (congestion.is_third a d.congestion) d.pending h.pending))
       (λ _. ready_as c d old h h.takes refl refl refl h.pending))
 
@@ -458,11 +458,11 @@ module _ (now a : ℕ) (s : Segment) (p : Piece) (c : Connection) where
   ready : (d : Connection) → Ready c d → Ready c (after_last (after_entering now c.state (after_acknowledgement now a s p d)))
   ready d h =
       let e = after_acked now a s p d in
-      let f = with_waiting now d.transmission (after_told a s p d e) in
+      let f = with_waiting now d.transmission (after_blocks s (after_told a s p d e)) in
       let g = after_end f in
       let told = ready_told d e (ready_acked d h) in
       ready_last (after_entering now c.state g)
-      (ready_entering c.state g (ready_end f (ready_as c (after_told a s p d e) f told told.takes refl refl refl told.pending)))
+      (ready_entering c.state g (ready_end f (ready_as c (after_told a s p d e) f told told.takes refl refl refl (resends _ (after_told a s p d e).pending told.pending))))
 
 -- an acknowledgement is owed at an instant or before
 abbrev Soon : ℕ → Owed → Type 0
@@ -560,7 +560,7 @@ module _ (t q : ℕ) (d : Connection) (sync : is_synchronized d.state ≡ true) 
       either Tells (sends_octets d.state && has_octets (next_piece d)) (Some (SendNext (next_piece d)))
       (Some (SendProbe (first_piece 1 d))) (λ _. tells_next)
       (λ _. λ f. record { sent = SendProbe (first_piece 1 d); now = sym f; ack = refl; all = all })
-  tells_pending Resend e = λ f. record { sent = SendAgain (first_piece (most_again d) d); now = sym f; ack = refl; all = all }
+  tells_pending Resend e = λ f. record { sent = SendAgain (again_piece d); now = sym f; ack = refl; all = all }
   tells_pending (Reset n) e = false_true (sym e)
 
   acts_pending : action t d ≡ action_pending d.pending t d

@@ -13,7 +13,7 @@ use Rattle.tcp_machine.specs.Connection.{Connection, Reception}
 use Rattle.tcp_machine.specs.Windows.{next_promise, window_step, is_update_due}
 use Rattle.tcp_machine.specs.Outgoing.{Action, SendReset, SendSyn, SendNext, SendAgain, SendProbe, SendAck, is_challenge, action_in_opening, is_repeated_syn, is_syn_sent}
 use Rattle.tcp_machine.specs.Outgoing.{limit_of, next_piece, first_piece, is_worth_sending, has_octets, is_held_by_nagle, is_last}
-use Rattle.tcp_machine.specs.Outgoing.{is_owed, tells_something, ack_if, most_again, action_pending}
+use Rattle.tcp_machine.specs.Outgoing.{is_owed, tells_something, ack_if, again_piece, action_pending}
 use Rattle.tcp_machine.specs.Outgoing.{is_reset, is_syn_due, action, told_to_peer, reception_told, syn_sent, piece_sent}
 use Rattle.tcp_machine.specs.Outgoing.{after_action}
 use Rattle.tcp_laws.specs.Spinning.{after_offer, after_offers, waiting_octets, NothingSpins}
@@ -202,7 +202,7 @@ module _ (now : ℕ) (c : Connection) where
       (λ h. down_next f (omega (arith, some_octets (next_piece c) (last_of (sends_octets c.state) o h))))
       (λ _. down_to (after_action now (SendProbe (first_piece 1 c)) c) f f refl quiet (omega (arith, one_pending Probe e)))
   down_open f Resend e =
-      let m = SendAgain (first_piece (most_again c) c) in
+      let m = SendAgain (again_piece c) in
       down_to (after_action now m c) f f refl quiet (omega (arith, one_pending Resend e))
   down_open f (Reset number) e = down_reset number e false f
 

@@ -23,7 +23,7 @@ use Rattle.tcp_machine.specs.Segments.{Segment, window_in, acceptable_piece, ack
 use Rattle.tcp_machine.specs.Windows.{tells_window, with_window, after_window}
 use Rattle.tcp_machine.specs.Congestion as congestion
 use Rattle.tcp_machine.specs.Acknowledgements.{rank, with_pending, empty_position, is_believed, is_end_acknowledged, is_duplicate, opens, resend_after, timeout_after, with_waiting}
-use Rattle.tcp_machine.specs.Acknowledgements.{after_measured, after_progress, after_duplicate, after_acked, after_told, after_end}
+use Rattle.tcp_machine.specs.Acknowledgements.{after_measured, after_progress, after_duplicate, after_acked, after_told, after_blocks, after_end}
 use Rattle.tcp_machine.specs.Acknowledgements.{after_acknowledgement, flight}
 use Rattle.tcp_machine.specs.Arrivals.{is_time_wait, is_syn_received, is_closed, with_owed, ended, aborted, with_time_wait, after_entering, after_syn_once_more, is_syn_again}
 use Rattle.tcp_machine.specs.Arrivals.{after_unacceptable, why_reset, after_reset, is_own_syn_acknowledged, state_after_handshake, established}
@@ -36,7 +36,7 @@ use Rattle.tcp_machine.specs.Timers.{has_unsent, is_held_back, with_probe_timer,
 use Rattle.tcp_machine.specs.Timers.{after_probe_time, after_resend_timer, most_probes, keep_alive_at, after_keep_alive}
 use Rattle.tcp_machine.specs.Timers.{after_time_wait, after_timers}
 use Rattle.tcp_machine.specs.Outgoing.{Action, SendSyn, SendNext, SendAgain, SendProbe, action_in_opening, is_repeated_syn, is_challenge, is_syn_sent}
-use Rattle.tcp_machine.specs.Outgoing.{next_piece, first_piece, most_again, has_octets, is_worth_sending, ack_if, tells_something}
+use Rattle.tcp_machine.specs.Outgoing.{next_piece, first_piece, again_piece, has_octets, is_worth_sending, ack_if, tells_something}
 use Rattle.tcp_machine.specs.Outgoing.{action_pending, is_reset, is_owed, is_syn_due, action, after_action}
 use Rattle.tcp_machine.specs.Path.{size_told, path_told}
 use Rattle.tcp_machine.specs.Reports.{is_too_long, after_too_long, after_unreachable}
@@ -272,7 +272,7 @@ module _ (now a : ℕ) (s : Segment) (p : Piece) where
   timed_duplicate d window h =
       let t = d.transmission in
       let x = t.sender in
-      either IsTimed (is_duplicate a window p t) (record d {
+      either IsTimed (not d.reception.sack_permitted && is_duplicate a window p t) (record d {
         congestion = congestion.after_duplicate t.mss a (flight t) t.sender.top d.congestion;
         pending = if congestion.is_third a d.congestion then Resend else d.pending;
       }) (record d { transmission = record t { sender = after_position a window t.sender } }) (λ _. h) (λ _.
@@ -329,8 +329,8 @@ module _ (now a : ℕ) (s : Segment) (p : Piece) where
   timed_acknowledgement : (d : Connection) → is_opening d.state ≡ false → is_believed a d.transmission ≡ true → IsTimed d →
       IsTimed (after_acknowledgement now a s p d)
   timed_acknowledgement d o b h =
-      timed_end (with_waiting now d.transmission (after_told a s p d (after_acked now a s p d)))
-      (timed_waiting d.transmission (after_told a s p d (after_acked now a s p d)) (timed_told d (after_acked now a s p d) (timed_acked d o b h)))
+      timed_end (with_waiting now d.transmission (after_blocks s (after_told a s p d (after_acked now a s p d))))
+      (timed_waiting d.transmission (after_blocks s (after_told a s p d (after_acked now a s p d))) (timed_told d (after_acked now a s p d) (timed_acked d o b h)))
 
 timed_entering : (now : ℕ) (before : State) (d : Connection) → IsTimed d → IsTimed (after_entering now before d)
 timed_entering now before d h =
@@ -645,7 +645,7 @@ module _ (now : ℕ) (c : Connection) (h : IsTimed c) where
       either IsSentTimed (sends_octets c.state && has_octets (next_piece c)) (Some (SendNext (next_piece c)))
       (Some (SendProbe (first_piece 1 c))) (λ _. timed_sent_next (not_and_true (is_opening c.state) e) (next_piece c))
       (λ _. timed_sent_probe (not_and_true (is_opening c.state) e) (first_piece 1 c))
-  timed_action_pending Resend e = timed_sent_again (not_and_true (is_opening c.state) e) (first_piece (most_again c) c)
+  timed_action_pending Resend e = timed_sent_again (not_and_true (is_opening c.state) e) (again_piece c)
   timed_action_pending (Reset number) e = h
 
   timed_sends : IsSentTimed (action now c)

@@ -24,7 +24,7 @@ use Rattle.tcp_machine.specs.Opening.{no_reception, own_scale_for, after_arrival
 use Rattle.tcp_machine.specs.Calls.{last_position, readable_count, after_reading, after_closing, after_abort}
 use Rattle.tcp_machine.specs.Timers.{after_timers}
 use Rattle.tcp_machine.specs.Outgoing.{Action, SendReset, SendSyn, SendNext, SendAgain, SendProbe, SendKeepAlive, SendAck, is_challenge, action_in_opening, is_syn_sent}
-use Rattle.tcp_machine.specs.Outgoing.{next_piece, first_piece, most_again, has_octets, is_worth_sending, ack_if, tells_something}
+use Rattle.tcp_machine.specs.Outgoing.{next_piece, first_piece, again_piece, has_octets, is_worth_sending, ack_if, tells_something}
 use Rattle.tcp_machine.specs.Outgoing.{action_pending, is_reset, is_syn_due, action, promise_now, reception_told, after_action}
 use Rattle.tcp_laws.specs.Machines.{Sent, sent_as, IsPlain, Side, unopened, Act, Opens, Accepts, Writes, Reads, Closes, Aborts, Chooses, Fits, Fails}
 use Rattle.tcp_laws.specs.Machines.{Gets, Expires, Sends, arrived, after_sending, after_act}
@@ -364,7 +364,7 @@ module _ (now : ℕ) (c : Connection) (log : List Sent) (h : IsTold c log) where
       let up = opened_knows c.state (not_and_true (is_opening c.state) e) in
       either IsSentTold (sends_octets c.state && has_octets (next_piece c)) (Some (SendNext (next_piece c)))
       (Some (SendProbe (first_piece 1 c))) (λ _. told_next up (next_piece c)) (λ _. told_probe up (first_piece 1 c))
-  told_pending Resend e = told_again (opened_knows c.state (not_and_true (is_opening c.state) e)) (first_piece (most_again c) c)
+  told_pending Resend e = told_again (opened_knows c.state (not_and_true (is_opening c.state) e)) (again_piece c)
   told_pending (Reset number) e = told_reset number
 
   told_challenge : (b : Bool) → is_challenge c.pending && not (is_syn_sent c.state) ≡ b → IsSentTold (ack_if b)

@@ -7,22 +7,25 @@ use Rattle.tcp_machine.specs.declared.timers.Pending.{Pending}
 use Rattle.tcp_machine.specs.declared.timers.Pending.TheVariants.{Empty, Challenge, Resend, Probe, KeepAlive, Reset, SynAgain}
 use Rattle.tcp_machine.specs.Pieces.{after_octets}
 use Rattle.tcp_machine.specs.States.{is_opening, is_synchronized, sends_octets}
-use Rattle.tcp_machine.specs.Congestion.{beyond_window}
+use Rattle.tcp_machine.specs.Scoreboard.{above, start_of}
 use Rattle.tcp_machine.specs.Connection.{Connection}
 use Rattle.tcp_machine.specs.Outgoing.{Action, SendReset, SendSyn, SendNext, SendAgain, SendProbe, SendKeepAlive, SendAck, action_in_opening, is_challenge, is_syn_sent}
-use Rattle.tcp_machine.specs.Outgoing.{limit_of, next_piece, first_piece, most_again, has_octets, is_worth_sending, ack_if, tells_something}
+use Rattle.tcp_machine.specs.Outgoing.{beyond_window_of, limit_of, next_piece, first_piece, again_from, again_to, again_piece, most_again, has_octets, is_worth_sending, ack_if, tells_something}
 use Rattle.tcp_machine.specs.Outgoing.{action_pending, is_reset, is_syn_due, action}
 use Rattle.tcp_laws.specs.Edges.{NothingBeyondTheWindow}
 use Rattle.tcp_laws.proofs.MachineArrivals.{either}
 
-below : (x l m k told : ℕ) → l ≤ min m (k - x) → k ≤ told → 0 < l → x + l ≤ told
+pub below : (x l m k told : ℕ) → l ≤ min m (k - x) → k ≤ told → 0 < l → x + l ≤ told
 below x l m k told h n some = grind (arith, h, n, some)
 
 limit_below : (told w : ℕ) (b : Bool) → (if b then min told w else told) ≤ told
 limit_below told w true = grind arith
 limit_below told w false = omega arith
 
-taken : (n : ℕ) (xs : List ℕ) → length (take n xs) ≤ n
+least_below : (a b : ℕ) → min a b ≤ a
+least_below a b = grind arith
+
+pub taken : (n : ℕ) (xs : List ℕ) → length (take n xs) ≤ n
 taken n xs = let l = length-take n xs in grind (arith, l)
 
 module _ (now : ℕ) (c : Connection) where
@@ -46,15 +49,16 @@ module _ (now : ℕ) (c : Connection) where
       let xs = drop (t.nxt - t.sender.una) t.sender.ring in
       let l = taken (min t.mss (limit_of c - t.nxt)) xs in
       below t.nxt (length (next_piece c).octets) t.mss (limit_of c) t.told_edge l
-      (limit_below t.told_edge (t.sender.una + (c.congestion.window + beyond_window t.mss c.congestion)) c.settings.congestion_control) some
+      (limit_below t.told_edge (t.sender.una + (c.congestion.window + beyond_window_of c)) c.settings.congestion_control) some
 
-  within_again : Within (Some (SendAgain (first_piece (most_again c) c)))
+  within_again : Within (Some (SendAgain (again_piece c)))
   within_again some =
       let t = c.transmission in
-      let xs = drop (t.sender.una - t.sender.una) t.sender.ring in
+      let xs = drop (again_from c - t.sender.una) t.sender.ring in
       let l = taken (most_again c) xs in
-      below t.sender.una (length (first_piece (most_again c) c).octets) t.mss (max t.sender.top t.told_edge) (max t.sender.top t.told_edge) l
-      (omega arith) some
+      let end = max t.sender.top t.told_edge in
+      below (again_from c) (length (again_piece c).octets) t.mss (again_to c) end l
+      (least_below end (start_of end (above (again_from c) t.told))) some
 
   within_probe : Within (Some (SendProbe (first_piece 1 c)))
   within_probe = taken 1 (drop (c.transmission.sender.una - c.transmission.sender.una) c.transmission.sender.ring)

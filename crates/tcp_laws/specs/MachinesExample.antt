@@ -23,7 +23,7 @@ settings = record {
 }
 
 abbrev pub no_options : Options
-no_options = record { mss = None; scale = None; sack_permitted = false }
+no_options = record { mss = None; scale = None; sack_permitted = false; blocks = [] }
 
 abbrev pub side : Side
 side = unopened 8 8 settings

@@ -1,2 +1,3 @@
 mod RingLemmas
 pub mod PositionsLemmas
+pub mod ScoreboardLemmas

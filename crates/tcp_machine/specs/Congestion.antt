@@ -88,6 +88,11 @@ after_acknowledged mss acknowledged position flight c =
 abbrev pub shows_a_loss : ℕ → Congestion → Bool
 shows_a_loss position c = c.is_recovering && nat_lt position c.recover
 
+-- Where the peer tells blocks, the window stays in a recovery: what it bounds is on its way, not what may be (RFC 6675 5)
+abbrev pub after_progress : (by_blocks : Bool) → (mss acknowledged position flight : ℕ) → Congestion → Congestion
+after_progress by_blocks mss acknowledged position flight c =
+    if by_blocks && shows_a_loss position c then c else after_acknowledged mss acknowledged position flight c
+
 -- whether the next acknowledgement that tells nothing new, of a position, is taken for a loss: it is the third in a
 -- row, and tells of more than was recovered before (RFC 5681 3.2, RFC 6582 3.2, step 2)
 abbrev pub is_third : ℕ → Congestion → Bool
@@ -103,6 +108,14 @@ after_loss mss flight top = record {
   recover = top;
   is_recovering = true;
 }
+
+-- a loss that blocks guide the recovery of: half of what was on its way (RFC 6675 5, step (4.2))
+abbrev pub after_loss_told : (mss flight top : ℕ) → Congestion
+after_loss_told mss flight top = record (after_loss mss flight top) { window = half_of mss flight }
+
+-- blocks tell more: that counts as a duplicate (RFC 6675 2), but not in a recovery
+abbrev pub after_more_told : Congestion → Congestion
+after_more_told c = if c.is_recovering then c else record c { duplicates = min 3 (c.duplicates + 1) }
 
 -- An acknowledgement tells nothing new. What limited transmit sent isn't counted (RFC 5681 3.2, step 2). In recovery each of
 -- them says that a segment has left the network (step 4)

@@ -1,5 +1,6 @@
 -- One connection (RFC 9293 3.3.1). Instants and spans are in microseconds; SYN is at position 0 of a direction.
-use Rattle.std.specs.Prelude.{ℕ, Bool, Option}
+use Rattle.std.specs.Prelude.{ℕ, Bool, List, Option}
+use Rattle.net_base.specs.declared.assembler.Range.{Range}
 use Rattle.tcp_machine.specs.declared.state.State.{State}
 use Rattle.tcp_machine.specs.Sending.{Sender}
 use Rattle.tcp_machine.specs.Receiving.{Receiver}
@@ -31,6 +32,9 @@ pub record Transmission : Type 0 where
   pub scale : ℕ
   pub mss : ℕ
   pub path : Path
+  -- what the peer's selective acknowledgements told, and the position after what was sent again in the recovery that they guide
+  pub told : List Range
+  pub resent : ℕ
 
 -- what a connection receives, and what it told of that
 pub record Reception : Type 0 where

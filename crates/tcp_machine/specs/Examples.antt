@@ -5,6 +5,7 @@ pub mod Resets
 pub mod Timeouts
 pub mod Transfers
 pub mod Sack
+pub mod Blocks
 pub mod Silence
 pub mod Once
 pub mod Paths

@@ -19,5 +19,6 @@ pub mod Reports
 pub mod Outgoing
 pub mod Due
 pub mod Sack
+pub mod Scoreboard
 pub mod Examples
 pub mod Details

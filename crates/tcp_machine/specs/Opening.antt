@@ -1,5 +1,5 @@
 -- How a connection comes to be (RFC 9293 3.5, 3.10.1, 3.10.7.2, 3.10.7.3).
-use Rattle.std.specs.Prelude.{◌≡◌, ℕ, ◌+◌, min, max, ◌&&◌, not, Bool, true, false, Option, Some, None, is_some, if◌then◌else◌}
+use Rattle.std.specs.Prelude.{◌≡◌, ℕ, ◌+◌, min, max, ◌&&◌, not, Bool, true, false, [], Option, Some, None, is_some, if◌then◌else◌}
 use Rattle.tcp_machine.specs.declared.settings.Settings.{Settings}
 use Rattle.tcp_machine.specs.declared.timers.Timers.{Timers}
 use Rattle.tcp_machine.specs.declared.timers.Owed.TheVariants.{Nothing, AtOnce}
@@ -46,6 +46,8 @@ no_transmission room mss = record {
   scale = 0;
   mss = mss;
   path = new_path mss mss;
+  told = [];
+  resent = 0;
 }
 
 abbrev pub no_reception : ℕ → Reception

@@ -17,7 +17,8 @@ use Rattle.tcp_machine.specs.Receiving.{expected, is_at}
 use Rattle.tcp_machine.specs.States.{is_synchronized, is_opening, sends_octets}
 use Rattle.tcp_machine.specs.Congestion.{beyond_window}
 use Rattle.tcp_machine.specs.Connection.{Connection, Reception}
-use Rattle.tcp_machine.specs.Acknowledgements.{empty_position, since_first}
+use Rattle.tcp_machine.specs.Acknowledgements.{empty_position, since_first, octets_told, next_hole, is_hole_lost}
+use Rattle.tcp_machine.specs.Scoreboard.{is_empty, above, start_of}
 use Rattle.tcp_machine.specs.Windows.{next_promise, window_field, is_update_due}
 use Rattle.tcp_machine.specs.Path.{path_sent}
 use Rattle.tcp_machine.specs.declared.sack.SackBlock.{SackBlock}
@@ -45,11 +46,19 @@ piece_from p most s = record {
   ends = is_at s.stop (p + length (octets_from p most s));
 }
 
+-- How much beyond the congestion window may be sent: what limited transmit lets go; where blocks are told, what they tell has left the
+-- network, and nothing new goes before a hole that is lost (RFC 6675 4, NextSeg; 5, step (C))
+abbrev pub beyond_window_of : Connection → ℕ
+beyond_window_of c =
+    if is_empty c.transmission.told then beyond_window c.transmission.mss c.congestion
+    else if c.congestion.is_recovering && is_hole_lost c.transmission then 0
+    else octets_told c.transmission
+
 -- the first position that may not be sent: by the window told last, and by the congestion window
 abbrev pub limit_of : Connection → ℕ
 limit_of c =
     if c.settings.congestion_control
-    then min c.transmission.told_edge (c.transmission.sender.una + (c.congestion.window + beyond_window c.transmission.mss c.congestion)) else c.transmission.told_edge
+    then min c.transmission.told_edge (c.transmission.sender.una + (c.congestion.window + beyond_window_of c)) else c.transmission.told_edge
 
 abbrev pub next_piece : Connection → Piece
 next_piece c =
@@ -94,9 +103,21 @@ next_action now c =
 abbrev pub first_piece : ℕ → Connection → Piece
 first_piece most c = piece_from c.transmission.sender.una most c.transmission.sender
 
--- what may be sent again: what was sent, and what the window told last has room for
+-- What is sent again: from the first unacknowledged position on, in a recovery from the next hole on, up to what is told above that; of
+-- what was sent, and what the window told last has room for
+abbrev pub again_from : Connection → ℕ
+again_from c = if c.congestion.is_recovering then next_hole c.transmission else c.transmission.sender.una
+
+abbrev pub again_to : Connection → ℕ
+again_to c =
+    let end = max c.transmission.sender.top c.transmission.told_edge in
+    min end (start_of end (above (again_from c) c.transmission.told))
+
 abbrev pub most_again : Connection → ℕ
-most_again c = min c.transmission.mss (max c.transmission.sender.top c.transmission.told_edge - c.transmission.sender.una)
+most_again c = min c.transmission.mss (again_to c - again_from c)
+
+abbrev pub again_piece : Connection → Piece
+again_piece c = piece_from (again_from c) (most_again c) c.transmission.sender
 
 -- What probes the peer: what its window has room for, whatever that is worth (RFC 9293 3.8.6.2.1, rule (4)); where there is
 -- no room, one octet beyond it, or the end (3.8.6.1)
@@ -110,7 +131,7 @@ action_pending Challenge now c = if is_synchronized c.state then Some SendAck el
 action_pending SynAgain now c = if is_synchronized c.state then Some SendAck else None
 action_pending KeepAlive now c = Some SendKeepAlive
 action_pending Probe now c = probe_action c
-action_pending Resend now c = Some (SendAgain (first_piece (most_again c) c))
+action_pending Resend now c = Some (SendAgain (again_piece c))
 action_pending (Reset number) now c = Some (SendReset number)
 
 abbrev pub is_reset : Pending → Bool
@@ -243,6 +264,14 @@ piece_sent now p nxt c = record (told_to_peer c) {
   timers = timers_sent now (after_piece p) (nat_le c.transmission.sender.top p.start) c;
 }
 
+-- in a recovery that blocks guide no hole is sent again twice
+abbrev pub again_sent : Piece → Connection → Connection
+again_sent p c = record c {
+  transmission = record c.transmission {
+    resent = if c.reception.sack_permitted then after_octets p else c.transmission.resent;
+  };
+}
+
 -- a probe takes no position, until it is acknowledged
 abbrev pub probe_sent : ℕ → Piece → Connection → Connection
 probe_sent now p c = record (told_to_peer c) {
@@ -277,7 +306,7 @@ abbrev pub after_action : ℕ → Action → Connection → Connection
 after_action now (SendReset number) c = record c { pending = Empty }
 after_action now SendSyn c = syn_sent now c
 after_action now (SendNext p) c = piece_sent now p (after_piece p) c
-after_action now (SendAgain p) c = piece_sent now p c.transmission.nxt c
+after_action now (SendAgain p) c = again_sent p (piece_sent now p c.transmission.nxt c)
 after_action now (SendProbe p) c = probe_sent now p c
 after_action now SendKeepAlive c = told_to_peer c
 after_action now SendAck c = told_to_peer c

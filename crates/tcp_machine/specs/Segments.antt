@@ -1,16 +1,18 @@
 -- A segment that arrives (RFC 9293 3.1), its numbers as they stand on the wire, and what they are read as.
 use Rattle.std.specs.Prelude.{ℕ, ◌*◌, ◌^◌, Bool, List, Option, Some, None, if◌then◌else◌}
 use Rattle.std.specs.Option.{option_map, option_and_then}
+use Rattle.tcp_machine.specs.declared.sack.SackBlock.{SackBlock}
 use Rattle.tcp_machine.specs.Positions.{position_near}
 use Rattle.tcp_machine.specs.Pieces.{Piece}
 use Rattle.tcp_machine.specs.Receiving.{next, is_acceptable}
 use Rattle.tcp_machine.specs.Connection.{Connection}
 
--- the options of a SYN that are read (RFC 9293 3.2, RFC 7323 2.2, RFC 2018 2)
+-- the options that are read: those of a SYN (RFC 9293 3.2, RFC 7323 2.2, RFC 2018 2), and the blocks of any other segment (RFC 2018 3)
 pub record Options : Type 0 where
   pub mss : Option ℕ
   pub scale : Option ℕ
   pub sack_permitted : Bool
+  pub blocks : List SackBlock
 
 pub record Segment : Type 0 where
   -- SEG.SEQ and SEG.ACK

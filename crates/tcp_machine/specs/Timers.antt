@@ -1,6 +1,6 @@
 -- What happens by itself when a timer has ended: retransmission (RFC 6298 5), probes of a closed window (RFC 9293 3.8.6.1),
 -- what too small a window held back (3.8.6.2.1), keep-alive (3.8.4), the user time-out (3.8.3) and TIME-WAIT (3.4.2).
-use Rattle.std.specs.Prelude.{ℕ, ◌+◌, min, nat_lt, nat_le, ◌==◌, ◌&&◌, not, Bool}
+use Rattle.std.specs.Prelude.{ℕ, ◌+◌, min, nat_lt, nat_le, ◌==◌, ◌&&◌, not, Bool, []}
 use Rattle.std.specs.Prelude.{length, Option, Some, None, is_none, is_some, if◌then◌else◌}
 use Rattle.tcp_machine.specs.Instants.{later, has_passed}
 use Rattle.tcp_machine.specs.declared.timers.Timers.{Timers}
@@ -58,13 +58,16 @@ is_shortened c = not (is_opening c.state) && is_black_hole c.timers.tries c.tran
 abbrev pub mss_after_loss : Connection → ℕ
 mss_after_loss c = if is_shortened c then c.transmission.path.least else c.transmission.mss
 
--- All from the first unacknowledged position on is sent again, and the time-out is doubled (RFC 6298 5.4 to 5.6)
+-- All from the first unacknowledged position on is sent again, and the time-out is doubled (RFC 6298 5.4 to 5.6). What blocks told is
+-- forgotten, since the peer may have dropped it (RFC 2018 8)
 abbrev pub after_loss_of_all : Connection → Connection
 after_loss_of_all c = record c {
   transmission = record c.transmission {
     nxt = if is_opening c.state then 0 else c.transmission.sender.una;
     mss = mss_after_loss c;
     path = if is_shortened c then path_shortened c.transmission.sender.una c.transmission.path else c.transmission.path;
+    told = [];
+    resent = 0;
   };
   estimator = estimator.after_timeout c.estimator;
   congestion =

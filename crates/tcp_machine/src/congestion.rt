@@ -1,4 +1,4 @@
-//! How much may be on its way (RFC 3042, RFC 3465, RFC 5681, RFC 6582, RFC 6928).
+//! How much may be on its way (RFC 3042, RFC 3465, RFC 5681, RFC 6582, RFC 6675, RFC 6928).
 ghost use Rattle.std.specs.Prelude.{◌≡◌, ◌≤◌};
 ghost use Rattle.tcp_machine.specs.Congestion as spec;
 
@@ -102,6 +102,24 @@ impl Congestion {
         }
     }
 
+    /// The same where the peer may tell blocks: in a recovery that these guide nothing changes before its end (RFC 6675 5).
+    pub fn after_progress(
+        &self,
+        by_blocks: bool,
+        mss: u16,
+        acknowledged: u64,
+        position: u64,
+        flight: u64,
+    ) -> Congestion
+        ensures { result ≡ spec.after_progress by_blocks mss acknowledged position flight self.now }
+    {
+        if by_blocks && self.shows_a_loss(position) {
+            *self
+        } else {
+            self.after_acknowledged(mss, acknowledged, position, flight)
+        }
+    }
+
     /// Whether an acknowledgement of this position, which tells something new, also tells of the next lost segment
     /// (RFC 6582 3.2, step 3).
     pub fn shows_a_loss(&self, position: u64) -> bool
@@ -135,6 +153,31 @@ impl Congestion {
         Congestion {
             duplicates: plus_at_most(3, self.duplicates, 1),
             ..*self
+        }
+    }
+
+    /// What is kept once blocks show a loss, with `flight` octets on their way, and all before `top` sent: half of that is the
+    /// window of the recovery (RFC 6675 5, step (4.2)).
+    pub fn after_loss_told(mss: u16, flight: u64, top: u64) -> Congestion
+        ensures { result ≡ spec.after_loss_told mss flight top }
+    {
+        Congestion {
+            window: half_of(mss, flight),
+            ..after_loss(mss, flight, top)
+        }
+    }
+
+    /// What is kept after blocks told more: outside of a recovery it counts as a duplicate (RFC 6675 2).
+    pub fn after_more_told(&self) -> Congestion
+        ensures { result ≡ spec.after_more_told self.now }
+    {
+        if self.is_recovering {
+            *self
+        } else {
+            Congestion {
+                duplicates: plus_at_most(3, self.duplicates, 1),
+                ..*self
+            }
         }
     }
 

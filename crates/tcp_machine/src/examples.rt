@@ -6,6 +6,7 @@ ghost use Rattle.tcp_machine.specs.Examples.Resets.{HalfOpen, Abort, EmptySegmen
 ghost use Rattle.tcp_machine.specs.Examples.Timeouts.{Estimates, Losses};
 ghost use Rattle.tcp_machine.specs.Examples.Transfers.{InOrder, OutOfOrder, OneCell, Nagle, Retransmission, ClosedWindow, SmallWindow, Wraps, SynOptions};
 ghost use Rattle.tcp_machine.specs.Examples.Sack.{Rfc2018, MoreSack, SackOfRing};
+ghost use Rattle.tcp_machine.specs.Examples.Blocks.{Recovers, ShowsLoss, Tells};
 ghost use Rattle.tcp_machine.specs.Examples.Paths.{PathsTold, BlackHoles, Unreachables};
 ghost use Rattle.tcp_machine.specs.Examples.Silence.{GivingUp, HandshakesTimed, KeepAlive, Recovery, Reopens, TimesOut};
 
@@ -81,4 +82,11 @@ pub fn paths()
     ensures told { PathsTold }
     ensures black_holes { BlackHoles }
     ensures unreachable { Unreachables }
+{}
+
+/// Blocks that arrive, and the recovery that they guide (RFC 2018 5, RFC 6675).
+pub fn blocks_that_arrive()
+    ensures recovers { Recovers }
+    ensures shows { ShowsLoss }
+    ensures tells { Tells }
 {}

@@ -9,6 +9,7 @@ pub mod path;
 pub mod positions;
 pub mod ring;
 pub mod sack;
+pub mod scoreboard;
 pub mod settings;
 pub mod state;
 pub mod timers;

@@ -56,7 +56,7 @@ pub enum Pending {
     KeepAlive,
     /// What the window has room for, or one octet beyond a closed one (RFC 9293 3.8.6.1, 3.8.6.2.1).
     Probe,
-    /// The first unacknowledged segment once more (RFC 5681 3.2).
+    /// The first unacknowledged segment once more (RFC 5681 3.2), or the next hole of a recovery that blocks guide (RFC 6675 5).
     Resend,
     /// A reset with this number and no acknowledgement (RFC 9293 3.10.7).
     Reset(u32),

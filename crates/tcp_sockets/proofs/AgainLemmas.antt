@@ -1,5 +1,5 @@
 -- A segment's packet is read as that segment.
-use Rattle.std.proofs.Common.{◌≡◌, ◌∙◌, ℕ, ◌+◌, ◌<◌, ◌≤◌, ◌^◌, Bool, true, false, List, [], ◌++◌, length, Option, Some, None, cond}
+use Rattle.std.proofs.Common.{◌≡◌, ◌∙◌, ℕ, ◌+◌, ◌<◌, ◌≤◌, ◌^◌, Bool, true, false, List, [], ◌∷◌, ◌++◌, length, Option, Some, None, cond}
 use Rattle.std.proofs.Common.{refl, sym, ap, subst, length-append, arith}
 use Rattle.std.specs.Prelude.{nat_le, ◌==◌, ◌&&◌, ◌||◌}
 use Rattle.std.specs.Option.{option_map}
@@ -32,10 +32,10 @@ use Rattle.tcp_wire.proofs.Lengths.{options_words}
 use Rattle.tcp_wire.proofs.Sums.{length-words_text}
 use Rattle.tcp_wire.proofs.TcpAgain as tcp_again
 use Rattle.tcp_wire.proofs.TcpAgain.{IsReadButOptions}
-use Rattle.tcp_machine.specs.Segments.{Options}
-use Rattle.tcp_sockets.specs.Reading.{arrived_as, options_of, IsAddress, Fits, IsReadAgain, SegmentsAreReadAgain}
-use Rattle.tcp_sockets.specs.Arrivals.{Arrived, HasSegment, arrived_in, endpoints_of, segment_of, is_for_host, is_syn, is_fin, is_rst}
-use Rattle.tcp_sockets.specs.Packets.{Segment, control_of, repr_of, ip_text, ipv4_header, ipv6_header}
+use Rattle.tcp_machine.specs.declared.sack.SackBlock.{SackBlock}
+use Rattle.tcp_sockets.specs.Reading.{ReadOptions, arrived_as, options_of, IsAddress, Fits, IsReadAgain, SegmentsAreReadAgain}
+use Rattle.tcp_sockets.specs.Arrivals.{Arrived, HasSegment, arrived_in, blocks_of, endpoints_of, segment_of, is_for_host, is_syn, is_fin, is_rst}
+use Rattle.tcp_sockets.specs.Packets.{Segment, control_of, ranges_of, repr_of, ip_text, ipv4_header, ipv6_header}
 use Rattle.tcp_sockets.specs.Sending.{version_of}
 
 -- octets that are a packet are read as it
@@ -158,7 +158,7 @@ few_bits None few = omega arith
 few_bits (Some n) few = few n refl
 
 -- so is a segment
-made : (s : Segment) (o : Options) (src dst : IpAddress) (ack : Option ℕ) (syn fin rst : Bool) → src ≡ s.endpoints.local_addr → dst ≡ s.endpoints.remote_addr →
+made : (s : Segment) (o : ReadOptions) (src dst : IpAddress) (ack : Option ℕ) (syn fin rst : Bool) → src ≡ s.endpoints.local_addr → dst ≡ s.endpoints.remote_addr →
     ack ≡ s.header.ack → syn ≡ s.header.syn → fin ≡ s.header.fin → rst ≡ s.header.rst →
     ◌≡◌ {A = Arrived} (record {
       endpoints = record {
@@ -177,10 +177,17 @@ made : (s : Segment) (o : Options) (src dst : IpAddress) (ack : Option ℕ) (syn
         mss = o.mss;
         scale = o.scale;
         sack_permitted = o.sack_permitted;
+        blocks = o.blocks;
       };
       octets = s.octets;
     }) (arrived_as o s)
 made s o src dst ack syn fin rst es ed ea ey ef er = rw (es, ed, ea, ey, ef, er) refl
+
+-- blocks are read as they were sent
+blocks_again : (bs : List (Option SackBlock)) → blocks_of (ranges_of bs) ≡ bs ++ None ∷ []
+blocks_again [] = refl
+blocks_again (None ∷ bs) = ap (λ (cs : List (Option SackBlock)). None ∷ cs) (blocks_again bs)
+blocks_again (Some b ∷ bs) = ap (λ (cs : List (Option SackBlock)). Some b ∷ cs) (blocks_again bs)
 
 module _ (s : Segment) (v : IpVersion) (f : Fits s) (family : version_of s.endpoints.local_addr s.endpoints.remote_addr ≡ Some v) where
   abbrev src : IpAddress
@@ -223,14 +230,21 @@ module _ (s : Segment) (v : IpVersion) (f : Fits s) (family : version_of s.endpo
   again checked = tcp_again.read_but_options checked src dst r s.octets header fits
 
   -- the options that are read
-  abbrev seen : TcpRepr → Options
-  seen x = record { mss = x.options.max_seg_size; scale = x.options.window_scale; sack_permitted = x.options.sack_permitted }
+  abbrev seen : TcpRepr → ReadOptions
+  seen x = record {
+    mss = x.options.max_seg_size;
+    scale = x.options.window_scale;
+    sack_permitted = x.options.sack_permitted;
+    blocks = blocks_of x.options.sack_ranges;
+  }
 
-  abbrev read_options : Options
+  abbrev read_options : ReadOptions
   read_options = seen (tcp_in payload).0
 
   own : AreOptions r.options → read_options ≡ options_of s
-  own are = ap (λ (x : TcpRepr × List ℕ). seen x.0) (tcp_again.read_again false src dst r s.octets header are fits).1
+  own are =
+      ap (λ (x : TcpRepr × List ℕ). seen x.0) (tcp_again.read_again false src dst r s.octets header are fits).1
+      ∙ ap (λ (bs : List (Option SackBlock)). record (options_of s) { blocks = bs }) (blocks_again s.blocks)
 
   arrives : (h : IpRepr) → IsPacket src dst v (text_len r + length s.octets) s.hop_limit payload h →
       arrived_in (record { header = h; payload = payload }) ≡ arrived_as read_options s

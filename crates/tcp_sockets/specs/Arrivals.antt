@@ -1,5 +1,5 @@
 -- Segments in packets: which ones a host of connections takes (RFC 9293 3.9.2.3, RFC 1122 4.2.3.10).
-use Rattle.std.specs.Prelude.{◌≡◌, ℕ, ◌/◌, ◌<◌, ◌^◌, ◌==◌, ◌&&◌, not, Bool, true, false, List, length, Option, Some, None, if◌then◌else◌}
+use Rattle.std.specs.Prelude.{◌≡◌, ℕ, ◌/◌, ◌<◌, ◌^◌, ◌==◌, ◌&&◌, not, Bool, true, false, List, map, length, Option, Some, None, if◌then◌else◌}
 use Rattle.std.specs.List.{list_any}
 use Rattle.std.specs.Option.{SomeIff, option_map}
 use Rattle.ip_address.specs.Cidr.{address_of, broadcast_of}
@@ -18,6 +18,8 @@ use Rattle.ip_wire.specs.declared.tcp.TcpControl.TheVariants.{Syn, Fin, Rst}
 use Rattle.ip_wire.specs.declared.tcp.TcpSeqNumber.{TcpSeqNumber}
 use Rattle.sockets.specs.Source.{is_same}
 use Rattle.sockets.specs.Raw.{Sent}
+use Rattle.tcp_machine.specs.declared.sack.SackBlock.{SackBlock}
+use Rattle.tcp_wire.specs.declared.options.SackRange.{SackRange}
 use Rattle.tcp_wire.specs.declared.tcp.TcpRepr.{TcpRepr}
 use Rattle.tcp_wire.specs.Tcp.{tcp_in}
 use Rattle.tcp_connection.specs.declared.segment.Segment.{Segment}
@@ -85,6 +87,13 @@ abbrev pub is_rst : TcpControl → Bool
 is_rst Rst = true
 is_rst c = false
 
+-- the blocks of a selective acknowledgement (RFC 2018 3)
+abbrev pub block_of : SackRange → SackBlock
+block_of r = record { left = r.left.bits; right = r.right.bits }
+
+abbrev pub blocks_of : List (Option SackRange) → List (Option SackBlock)
+blocks_of ranges = map (option_map block_of) ranges
+
 abbrev pub segment_of : TcpRepr → Segment
 segment_of r = record {
   number = r.seq_number.bits;
@@ -96,6 +105,7 @@ segment_of r = record {
   mss = r.options.max_seg_size;
   scale = r.options.window_scale;
   sack_permitted = r.options.sack_permitted;
+  blocks = blocks_of r.options.sack_ranges;
 }
 
 -- the ends of its connection: the remote one is where it came from

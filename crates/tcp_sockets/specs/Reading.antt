@@ -1,12 +1,12 @@
 -- A segment's packet is read as that segment, with its ends exchanged.
-use Rattle.std.specs.Prelude.{◌≡◌, ◌≢◌, ℕ, ◌<◌, ◌≤◌, ◌^◌, Bool, true, false, ◌||◌, List, length, Some}
+use Rattle.std.specs.Prelude.{◌≡◌, ◌≢◌, ℕ, ◌<◌, ◌≤◌, ◌^◌, Bool, true, false, ◌||◌, List, [], ◌∷◌, ◌++◌, length, Option, Some, None}
 use Rattle.ip_address.specs.declared.ip.IpAddress.{IpAddress}
 use Rattle.ip_address.specs.declared.ip.IpAddress.TheVariants.{Ipv4, Ipv6}
 use Rattle.ip_address.specs.declared.cidr.IpCidr.{IpCidr}
 use Rattle.ip_address.specs.declared.protocol.IpVersion.{IpVersion}
 use Rattle.sockets.specs.Raw.{Sent, packet_in, stored_packet}
 use Rattle.tcp_wire.specs.Options.{AreOptions}
-use Rattle.tcp_machine.specs.Segments.{Options}
+use Rattle.tcp_machine.specs.declared.sack.SackBlock.{SackBlock}
 use Rattle.tcp_connection.specs.declared.outgoing.Header.{Header}
 use Rattle.tcp_host.specs.declared.iss.Endpoints.{Endpoints}
 use Rattle.tcp_sockets.specs.Arrivals.{Arrived, HasSegment, arrived_in, is_for_host}
@@ -22,9 +22,16 @@ reversed e = record {
   remote_port = e.local_port;
 }
 
+-- the options that are read of a segment, its blocks in four places
+pub record ReadOptions : Type 0 where
+  pub mss : Option ℕ
+  pub scale : Option ℕ
+  pub sack_permitted : Bool
+  pub blocks : List (Option SackBlock)
+
 -- A segment as its receiver takes it: between the ends reversed, with its numbers, its window and its octets, and with
--- these options. Blocks aren't read, nor whether octets are pushed.
-abbrev pub arrived_as : Options → Segment → Arrived
+-- these options. It isn't read whether octets are pushed.
+abbrev pub arrived_as : ReadOptions → Segment → Arrived
 arrived_as options s = record {
   endpoints = reversed s.endpoints;
   segment = record {
@@ -37,13 +44,14 @@ arrived_as options s = record {
     mss = options.mss;
     scale = options.scale;
     sack_permitted = options.sack_permitted;
+    blocks = options.blocks;
   };
   octets = s.octets;
 }
 
 -- its own options; a SYN permits selective acknowledgements
-abbrev pub options_of : Segment → Options
-options_of s = record { mss = s.mss; scale = s.scale; sack_permitted = s.header.syn }
+abbrev pub options_of : Segment → ReadOptions
+options_of s = record { mss = s.mss; scale = s.scale; sack_permitted = s.header.syn; blocks = s.blocks ++ None ∷ [] }
 
 -- numbers that an address has
 abbrev pub IsAddress : IpAddress → Type 0
@@ -84,7 +92,7 @@ pub record IsReadAgain (s : Segment) (version : IpVersion) (p : Sent) : Type 0 w
   pub stored : (summed : Bool) → packet_in version (stored_packet summed p.header p.payload) ≡ Some p
   pub taken : (checked : Bool) (own : List IpCidr) →
       is_for_host own s.endpoints.local_addr s.endpoints.remote_addr ≡ true → HasSegment checked own p
-  pub options : Options
+  pub options : ReadOptions
   pub arrives : arrived_in p ≡ arrived_as options s
   pub own_options : AreOptions (repr_of s).options → options ≡ options_of s
 

@@ -9,7 +9,8 @@ use ip_wire::{IpAddress, IpCidr, IpVersion, TcpControl};
 use sockets::raw::{Packet, packet_in};
 use tcp_connection::segment::Segment;
 use tcp_host::iss::Endpoints;
-use tcp_wire::TcpRepr;
+use tcp_machine::sack::SackBlock;
+use tcp_wire::{SackRange, TcpRepr};
 
 /// TCP's number of protocol.
 pub(crate) const PROTOCOL: u8 = 6;
@@ -154,6 +155,33 @@ fn segment_of(repr: &TcpRepr) -> Segment
         mss: repr.options.max_seg_size,
         scale: repr.options.window_scale,
         sack_permitted: repr.options.sack_permitted,
+        blocks: blocks_of(&repr.options.sack_ranges),
+    }
+}
+
+// Blocks as a connection takes them.
+fn blocks_of(ranges: &[Option<SackRange>; 4]) -> [Option<SackBlock>; 4]
+    ensures { result ≡ spec.blocks_of ranges.now }
+{
+    let [first, second, third, fourth] = *ranges;
+    [
+        block_of(first),
+        block_of(second),
+        block_of(third),
+        block_of(fourth),
+    ]
+}
+
+// One block as a connection takes it.
+fn block_of(range: Option<SackRange>) -> Option<SackBlock>
+    ensures { result ≡ option_map spec.block_of range }
+{
+    match range {
+        None => None,
+        Some(range) => Some(SackBlock {
+            left: range.left.bits,
+            right: range.right.bits,
+        }),
     }
 }
 

@@ -17,7 +17,7 @@ tells_nothing a window is_empty t = is_waited_for t && is_empty && (a == t.sende
 abbrev pub after_old_position : (a window : ℕ) → (is_empty : Bool) → Connection → Connection
 after_old_position a window is_empty c =
     let t = c.transmission in
-    if tells_nothing a window is_empty t then
+    if not c.reception.sack_permitted && tells_nothing a window is_empty t then
     record c {
       congestion = congestion.after_duplicate t.mss a (flight t) t.sender.top c.congestion;
       pending = if congestion.is_third a c.congestion then Resend else c.pending;

@@ -23,6 +23,7 @@ syn = record {
   mss = Some 1460;
   scale = Some 7;
   sack_permitted = true;
+  blocks = None ∷ None ∷ None ∷ None ∷ [];
 }
 
 abbrev pub answer : (ack : ℕ) → Segment
@@ -36,6 +37,7 @@ answer ack = record {
   mss = None;
   scale = None;
   sack_permitted = false;
+  blocks = None ∷ None ∷ None ∷ None ∷ [];
 }
 
 abbrev pub answer_at : ℕ → Endpoints → Host → Segment

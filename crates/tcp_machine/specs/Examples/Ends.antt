@@ -29,7 +29,7 @@ abbrev pub accepted_by : ℕ → Segment → Connection
 accepted_by iss s = accepted 0 iss 20 20 536 100 settings s
 
 abbrev pub no_options : Options
-no_options = record { mss = None; scale = None; sack_permitted = false }
+no_options = record { mss = None; scale = None; sack_permitted = false; blocks = [] }
 
 -- a segment of a peer: its number and its acknowledgement, with a window of twenty octets
 abbrev pub ack_segment : ℕ → ℕ → Segment
