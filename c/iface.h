@@ -189,7 +189,7 @@ struct iface_guard {
 struct iface_config {
     uint64_t seed;               /* of its random words, which need not be secret: another for each host and each start */
     uint64_t patience;           /* how long a packet waits for a neighbour that doesn't answer, in microseconds, before it
-                                    is given up; 0 is for ever, and then one such packet stops its socket */
+                                    is given up; 0 is for ever */
     uint64_t reassembly_timeout; /* how long fragments of a packet wait for the others, in microseconds: not 0, at most a
                                     day. Where no slot is left for another packet, one whose fragments have waited for half a
                                     second gives way to it, and the guard's `slots` keeps half of them for known neighbours */
@@ -476,8 +476,8 @@ uint32_t iface_tcp_peek(iface *host, uint32_t socket, struct iface_segment *segm
 
 /* ---- packets that wait for a neighbour ----
  *
- * The first packet of a socket waits until the hardware address of its next hop is known, and those after it with it.
- * One request goes in a second, for all sockets, in turn. After config.patience the packet is given up, and so are
+ * The first packet of a socket waits until the hardware address of its next hop is known. Those after it for neighbours that
+ * are known pass it, one a round, in their order; the others wait with it. One request goes in a second, for all sockets, in turn. After config.patience the packet is given up, and so are
  * those after it to the same address. Where others wait behind it, it is given up once the first request for its
  * neighbour wasn't answered for a second; at once, if its queue is full too and the socket gave up a packet within the
  * last ten seconds. */

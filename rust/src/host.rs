@@ -281,7 +281,7 @@ pub struct Settings {
     /// memory.
     pub fragmented: u32,
     /// How long a packet waits for a neighbour that doesn't answer, before it is given up. Zero is for ever: then one
-    /// such packet stops its socket.
+    /// such packet stops those behind it for neighbours that aren't known.
     pub patience: Duration,
     /// How long fragments of a packet wait for the others: not zero, at most a day.
     pub reassembly_timeout: Duration,

@@ -323,7 +323,7 @@ pub struct iface_guard {
 pub struct iface_config {
     /// of its random words, which need not be secret: another for each host and each start
     pub seed: u64,
-    /// how long a packet waits for a neighbour that doesn't answer, in microseconds, before it is given up; 0 is for ever, and then one such packet stops its socket
+    /// how long a packet waits for a neighbour that doesn't answer, in microseconds, before it is given up; 0 is for ever
     pub patience: u64,
     /// how long fragments of a packet wait for the others, in microseconds: not 0, at most a day. Where no slot is left for another packet, one whose fragments have waited for half a second gives way to it, and the guard's slots keeps half of them for known neighbours
     pub reassembly_timeout: u64,

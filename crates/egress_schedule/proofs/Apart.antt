@@ -25,11 +25,13 @@ use Rattle.egress_schedule.specs.Asides.{is_over, nobody, own_wait, until_unaske
 use Rattle.egress_schedule.specs.Patience.{must_go}
 use Rattle.egress_schedule.specs.Plan.{Plan, Planned, each_of, idle, waiting_at, watch_at}
 use Rattle.egress_schedule.specs.Queues.{each_behind, first_len, len_behind, lens_to_send}
-use Rattle.egress_schedule.specs.Rounds.{before_round, with_long_set_aside, with_turns_taken}
+use Rattle.egress_schedule.specs.Rounds.{before_round, with_long_set_aside, with_packets_brought, with_packets_passing, with_turns_taken}
 use Rattle.egress_schedule.specs.Turns.{after_hold_at, after_taking_turns, comes_before, if_held, is_free, is_held, next_to_ask}
 use Rattle.egress_schedule.specs.Turns.{plan_asked, waiting_asked, with_wait_longer}
 use Rattle.egress_schedule.specs.Laws.{IsTold, LongPacketsApart, MayBegin, may_be_asked}
 use Rattle.egress_schedule.proofs.Ends.{here_set, kept, len_set, other_set}
+use Rattle.egress_schedule.proofs.Brought.{brought_told}
+use Rattle.egress_schedule.proofs.Passes.{all_brought_keep, nobody_stays, not_passing, passing_keeps}
 
 -- a second later isn't yet
 pub later_than : (t : ℤ) → is_le (int_cmp (silence_from t) t) ≡ false
@@ -255,40 +257,107 @@ none_is_first mtu (Some s) all long =
     let short : first_len s ≤ mtu = subst (λ (n : ℕ). n ≤ mtu) (sym (first_len_is s)) (all 0) in
     absurd (let never : true ≡ false = sym long ∙ le-ltb mtu (first_len s) short in cc)
 
-module _ (known : IpAddress → Bool) (now : ℤ) (mtu : ℕ) (left : Bool) (r : Planned (Bor (Unit {0}))) where
-  -- who may begin a long packet is the one whose turn it is
-  whose_turn : (i : ℕ) → known nobody ≡ false → IsTold mtu r → MayBegin known now mtu left r i → i ≡ next_long mtu left r
-  whose_turn i nobodys told begins = by r.plan.may_have_long refl where
-    next : ℕ
-    next = next_long mtu left r
+-- a wait that is for nobody stays so where others pass
+pass_leaves : {L : Type 0} (known : IpAddress → Bool) (now : ℤ) (i : ℕ) (r : Planned L) → wait_of r.sockets i ≡ Some (nobody, silence_from now) →
+    wait_of (with_packets_passing known now r).sockets i ≡ Some (nobody, silence_from now)
+pass_leaves known now i r aside =
+    not_passing known now i r (nobody_stays known now (silence_from now) (socket_at r.sockets i) (wait_of r.sockets i) aside) ∙ aside
 
-    by : (b : Bool) → r.plan.may_have_long ≡ b → i ≡ next
-    by false none = absurd (none_is_first mtu (socket_at r.sockets i) (told none i begins.there) begins.is_long)
+-- sockets stay at their places where they have their turns
+pub turned_places : {L : Type 0} (now : ℤ) (r : Planned L) → (with_turns_taken now r).sockets.places ≡ r.sockets.places
+turned_places {L = L} now r = by r.plan.is_waiting where
+  next : ℕ
+  next = next_to_ask now r
+
+  step : (i : ℕ) (s : Planned L) → (after_hold_at now next i s).sockets.places ≡ s.sockets.places
+  step i s = two (waiting_at i s) where
+    none : (b : Bool) → (if b then with_wait_aside now i s else s).sockets.places ≡ s.sockets.places
+    none false = refl
+    none true = refl
+
+    two : (o : Option Waiting) → (if_held now next i s o).sockets.places ≡ s.sockets.places
+    two None = none (comes_before now next i s)
+    two (Some w) = three (is_held s.plan.patience now (must_go now i s w) (nat_lt i next) w) where
+      three : (b : Bool) → (if b then with_wait_longer now i w s else s).sockets.places ≡ s.sockets.places
+      three false = refl
+      three true = refl
+
+  by : (b : Bool) → (if b then after_taking_turns now r else r).sockets.places ≡ r.sockets.places
+  by false = refl
+  by true = kept (λ (s : Planned L). s.sockets.places) (after_hold_at now next) step (length r.plan.watches) r
+
+pub aside_places : {L : Type 0} (now : ℤ) (mtu : ℕ) (left : Bool) (r : Planned L) → (with_long_set_aside mtu now left r).sockets.places ≡ r.sockets.places
+aside_places {L = L} now mtu left r = by r.plan.may_have_long where
+  by : (b : Bool) → (if b then after_setting_aside mtu now left r else r).sockets.places ≡ r.sockets.places
+  by false = refl
+  by true = kept (λ (s : Planned L). s.sockets.places) (after_setting_aside_at mtu now (next_long mtu left r))
+      (aside_keeps_places now mtu (next_long mtu left r)) (length r.plan.watches) r
+
+-- by a round they change only by what comes forward
+pub round_places : {L : Type 0} (known : IpAddress → Bool) (now : ℤ) (mtu : ℕ) (left : Bool) (r : Planned L) →
+    (before_round known now mtu left r).sockets.places ≡ (with_packets_brought known now r).sockets.places
+round_places {L = L} known now mtu left r =
+    passing_keeps known now (λ s. s.sockets.places) (λ i s. refl) (with_turns_taken now (with_long_set_aside mtu now left start))
+    ∙ (turned_places now (with_long_set_aside mtu now left start) ∙ aside_places now mtu left start) where
+      start : Planned L
+      start = with_packets_brought known now r
+
+module _ (known : IpAddress → Bool) (now : ℤ) (mtu : ℕ) (left : Bool) (r0 : Planned (Bor (Unit {0}))) where
+  abbrev start : Planned (Bor (Unit {0}))
+  start = with_packets_brought known now r0
+
+  -- who may begin a long packet is the one whose turn it is
+  whose_turn : (i : ℕ) → known nobody ≡ false → IsTold mtu start → MayBegin known now mtu left r0 i → i ≡ next_long mtu left start
+  whose_turn i nobodys told begins = by start.plan.may_have_long refl where
+    r : Planned (Bor (Unit {0}))
+    r = start
+
+    next : ℕ
+    next = next_long mtu left start
+
+    there : i < length start.plan.watches
+    there = subst (λ (n : ℕ). i < n) (sym (all_brought_keep known now (λ plan waits. length plan.watches) r0)) begins.there
+
+    has_wait : i < length start.sockets.waits
+    has_wait = subst (λ (n : ℕ). i < n) (sym (all_brought_keep known now (λ plan waits. length waits) r0)) begins.has_wait
+
+    long : has_long mtu start.sockets i ≡ true
+    long = ap (λ (ps : List (Option (SocketOf (Bor (Unit {0}))))). is_long mtu (option_and_then (λ place. place) (slice_get ps i)))
+        (sym (round_places known now mtu left r0)) ∙ begins.is_long
+
+    by : (b : Bool) → start.plan.may_have_long ≡ b → i ≡ next
+    by false none = absurd (none_is_first mtu (socket_at start.sockets i) (told none i there) long)
     by true may = two (cases_eq i next) where
       two : ((i ≡ next) ⊎ (i ≡ next → ⊥)) → i ≡ next
       two (inl same) = same
       two (inr other) = absurd (let never : true ≡ false = sym begins.is_asked ∙ not_asked in cc) where
         all : IsAside now i (each_of (after_setting_aside_at mtu now next) (length r.plan.watches) r)
-        all = aside_all now mtu next r (length r.plan.watches) i (omega arith) begins.there begins.has_wait begins.is_long other
+        all = aside_all now mtu next r (length r.plan.watches) i (omega arith) there has_wait long other
 
         aside : IsAside now i (with_long_set_aside mtu now left r)
         aside = subst (λ (b : Bool). IsAside now i (if b then after_setting_aside mtu now left r else r)) (sym may)
             (record { wait_is = all.wait_is; is_on = all.is_on })
 
-        turned : IsAside now i (before_round now mtu left r)
+        turned : IsAside now i (with_turns_taken now (with_long_set_aside mtu now left r))
         turned = turns_leave now mtu (with_long_set_aside mtu now left r) i aside
 
-        not_asked : may_be_asked known now (wait_of (before_round now mtu left r).sockets i) ≡ false
-        not_asked = never_asked known now _ nobodys turned.wait_is
+        not_asked : may_be_asked known now (wait_of (before_round known now mtu left r0).sockets i) ≡ false
+        not_asked = never_asked known now _ nobodys
+            (pass_leaves known now i (with_turns_taken now (with_long_set_aside mtu now left r)) turned.wait_is)
 
-  none_left : (i : ℕ) → i < length r.plan.watches → i ≡ next_long mtu left r → left ≡ false
+  none_left : (i : ℕ) → i < length start.plan.watches → i ≡ next_long mtu left start → left ≡ false
   none_left i there is = by left refl where
     by : (b : Bool) → left ≡ b → left ≡ false
     by false none = none
-    by true some = absurd (let past : i ≡ length r.plan.watches = is ∙ ap (λ (b : Bool). next_long mtu b r) some in omega (arith, past, there))
+    by true some =
+        absurd (let past : i ≡ length start.plan.watches = is ∙ ap (λ (b : Bool). next_long mtu b start) some in omega (arith, past, there))
 
 pub long_packets_apart : LongPacketsApart
 long_packets_apart known now mtu left r i nobodys told begins = (
-  none_left known now mtu left r i begins.there (whose_turn known now mtu left r i nobodys told begins),
-  λ j other. whose_turn known now mtu left r j nobodys told other ∙ sym (whose_turn known now mtu left r i nobodys told begins),
-)
+  none_left known now mtu left r i
+      (subst (λ (n : ℕ). i < n) (sym (all_brought_keep known now (λ plan waits. length plan.watches) r)) begins.there)
+      (whose_turn known now mtu left r i nobodys still begins),
+  λ j other. whose_turn known now mtu left r j nobodys still other ∙ sym (whose_turn known now mtu left r i nobodys still begins),
+) where
+  still : IsTold mtu (with_packets_brought known now r)
+  still = brought_told known now mtu r told

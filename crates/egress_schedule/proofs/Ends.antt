@@ -6,7 +6,6 @@ use Rattle.std.proofs.Common.{inl, inr, sym, ap, ◌∙◌, subst, arith}
 use Rattle.sockets.specs.Source.{is_same}
 use Rattle.std.proofs.lemmas.Bool.{cases_eq, cases_lt, or_parts}
 use Rattle.ip_address.specs.declared.ip.IpAddress.{IpAddress}
-use Rattle.sockets.specs.Kinds.{socket_after_told}
 use Rattle.sockets.specs.declared.socket.SocketOf.{SocketOf}
 use Rattle.socket_set.specs.SocketMeta.{Wait}
 use Rattle.socket_set.specs.SocketSet.{Sockets, socket_at, wait_of, with_wait}
@@ -17,6 +16,7 @@ use Rattle.egress_schedule.specs.Patience.{after_alignment, after_alignment_at, 
 use Rattle.egress_schedule.specs.Patience.{after_patience, after_patience_at, earliest_end, earliest_with, if_given_up, if_waiting}
 use Rattle.egress_schedule.specs.Patience.{is_at_end, is_given_up, is_recent, is_second_over, must_go}
 use Rattle.egress_schedule.specs.Patience.{unreachable_after, waiting_after, watch_after_giving_up, without_first}
+use Rattle.egress_schedule.specs.Passing.{without_packet_for}
 use Rattle.egress_schedule.specs.Queues.{has_others, is_crowded}
 use Rattle.egress_schedule.specs.Asides.{after_putting_all_back, after_putting_back_at, if_set_aside}
 use Rattle.egress_schedule.specs.Rounds.{after_round, with_waits_put_back, with_waits_ended}
@@ -89,20 +89,21 @@ must_by now socket watch x =
 
 module _ {L : Type 0} where
   -- what a wait for another socket's index leaves
-  pub other_socket : (s : Sockets L) (j i : ℕ) (place : Option (SocketOf L)) → i ≢ j → socket_at (without_first j s place) i ≡ socket_at s i
-  other_socket s j i None other = refl
-  other_socket s j i (Some socket) other = ap (option_and_then (λ p. p)) (other_get s.places j i (Some (socket_after_told true socket)) other)
+  pub other_socket : (s : Sockets L) (j i : ℕ) (d : IpAddress) (place : Option (SocketOf L)) → i ≢ j →
+      socket_at (without_first j d s place) i ≡ socket_at s i
+  other_socket s j i d None other = refl
+  other_socket s j i d (Some socket) other = ap (option_and_then (λ p. p)) (other_get s.places j i (Some (without_packet_for d socket)) other)
 
-  pub same_waits : (s : Sockets L) (j : ℕ) (place : Option (SocketOf L)) → (without_first j s place).waits ≡ s.waits
-  same_waits s j None = refl
-  same_waits s j (Some socket) = refl
+  pub same_waits : (s : Sockets L) (j : ℕ) (d : IpAddress) (place : Option (SocketOf L)) → (without_first j d s place).waits ≡ s.waits
+  same_waits s j d None = refl
+  same_waits s j d (Some socket) = refl
 
-  pub other_wait : (s : Sockets L) (j i : ℕ) (place : Option (SocketOf L)) (wait : Wait) → i ≢ j →
-      wait_of (with_wait (without_first j s place) j wait) i ≡ wait_of s i
-  other_wait s j i place wait other =
-      let waits : get_or (slice_set (without_first j s place).waits j wait) i None ≡ get_or s.waits i None =
-      other_set (without_first j s place).waits j i wait None other ∙ ap (λ ws. get_or ws i None) (same_waits s j place) in
-      rw (waits, other_socket s j i place other) refl
+  pub other_wait : (s : Sockets L) (j i : ℕ) (d : IpAddress) (place : Option (SocketOf L)) (wait : Wait) → i ≢ j →
+      wait_of (with_wait (without_first j d s place) j wait) i ≡ wait_of s i
+  other_wait s j i d place wait other =
+      let waits : get_or (slice_set (without_first j d s place).waits j wait) i None ≡ get_or s.waits i None =
+      other_set (without_first j d s place).waits j i wait None other ∙ ap (λ ws. get_or ws i None) (same_waits s j d place) in
+      rw (waits, other_socket s j i d place other) refl
 
   -- a property of a plan that each step keeps
   pub kept : {A : Type 0} (of : Planned L → A) (step : ℕ → Planned L → Planned L) → ((i : ℕ) (r : Planned L) → of (step i r) ≡ of r) →
@@ -178,13 +179,13 @@ module _ {L : Type 0} where
               new = watch_after_giving_up now w.neighbor (watch_at j r)
 
               others : socket_at given.sockets i ≡ socket_at r.sockets i
-              others = other_socket r.sockets j i (socket_at r.sockets j) other
+              others = other_socket r.sockets j i w.neighbor (socket_at r.sockets j) other
 
               noted : watch_at i given ≡ watch_at i r
               noted = other_set r.plan.watches j i new idle other
 
               same : waiting_at i given ≡ waiting_at i r
-              same = rw (other_wait r.sockets j i (socket_at r.sockets j) None other, other_set r.plan.watches j i new idle other) refl
+              same = rw (other_wait r.sockets j i w.neighbor (socket_at r.sockets j) None other, other_set r.plan.watches j i new idle other) refl
 
     step_all : (r : Planned L) (n i : ℕ) → n ≤ count_of r → i < n → Holds (patience_of r) i (each_of (after_patience_at now) n r)
     step_all r zero i all within = absurd (omega (arith, within))

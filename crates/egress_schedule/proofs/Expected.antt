@@ -7,7 +7,9 @@ use Rattle.std.specs.Option.{option_and_then}
 use Rattle.std.proofs.Common.{inl, inr, sym, ap, ◌∙◌, subst, arith}
 use Rattle.std.proofs.lemmas.Bool.{cases_lt, lt-ltb, or_parts}
 use Rattle.sockets.specs.Queue.{first_of}
+use Rattle.ip_address.specs.declared.ip.IpAddress.{IpAddress}
 use Rattle.sockets.specs.Kinds.{socket_after_told}
+use Rattle.sockets.specs.Source.{is_same}
 use Rattle.sockets.specs.declared.socket.SocketOf.{SocketOf}
 use Rattle.sockets.specs.declared.socket.SocketOf.TheVariants.{Raw, Icmp, Udp, Tcp}
 use Rattle.socket_set.specs.SocketMeta.{Wait}
@@ -21,23 +23,17 @@ use Rattle.egress_schedule.specs.Patience.{after_alignment, after_alignment_at, 
 use Rattle.egress_schedule.specs.Patience.{after_patience, after_patience_at, earliest_end, if_given_up, if_waiting, is_given_up, must_go, without_first}
 use Rattle.egress_schedule.specs.Plan.{Plan, Planned, each_of, first_from, idle, waiting_at, watch_at, with_watch}
 use Rattle.egress_schedule.specs.Queues.{count_to_send, each_behind, first_len, len_behind, lens_to_send}
-use Rattle.egress_schedule.specs.Rounds.{after_round, before_round, with_waits_put_back, with_long_set_aside, with_turns_taken, with_waits_ended}
+use Rattle.egress_schedule.specs.Passing.{with_first_for, without_packet_for}
+use Rattle.egress_schedule.specs.Rounds.{after_round, before_round, with_packets_brought, with_waits_put_back, with_long_set_aside, with_turns_taken, with_waits_ended}
 use Rattle.egress_schedule.specs.Turns.{after_hold_at, after_taking_turns, comes_before, if_held, is_held, next_to_ask, plan_asked, waiting_asked, with_wait_longer}
 use Rattle.egress_schedule.specs.Laws.{IsTold, LongPacketsExpected, NoneIsLong, OnlyTaken}
 use Rattle.egress_schedule.proofs.Ends.{kept, len_set}
+use Rattle.egress_schedule.proofs.Apart.{round_places}
+use Rattle.egress_schedule.proofs.Brought.{AllWithin, Fits, brought_told, fits_brought, fits_set, keeps, rest_within}
+use Rattle.egress_schedule.proofs.Passes.{all_brought_keep, passing_keeps}
 use Rattle.egress_schedule.proofs.First.{below}
 
--- none of so many lengths is greater than one
-abbrev AllWithin : ℕ → List ℕ → Type 0
-AllWithin mtu lens = (j : ℕ) → get_or lens j 0 ≤ mtu
-
--- nor of those that are left
-rest_within : (mtu k : ℕ) (lens : List ℕ) → AllWithin mtu lens → AllWithin mtu (drop k lens)
-rest_within mtu zero lens all = all
-rest_within mtu (suc k) [] all = λ j. omega arith
-rest_within mtu (suc k) (x ∷ lens) all = rest_within mtu k lens (λ j. all (suc j))
-
--- nor of one, where the first isn't
+-- none of one length is greater, where the first isn't
 short_queue : {M : Type 0} (mtu headers : ℕ) (ps : List (M × List ℕ)) → length ps ≤ 1 → len_behind headers (first_of ps) ≤ mtu →
     AllWithin mtu (each_behind headers ps)
 short_queue mtu headers [] few short j = omega arith
@@ -48,13 +44,6 @@ short_queue mtu headers (p ∷ (q ∷ ps)) few short j = absurd (omega (arith, f
 pub without_first_behind : {M : Type 0} (headers : ℕ) (ps : List (M × List ℕ)) → each_behind headers (drop 1 ps) ≡ drop 1 (each_behind headers ps)
 without_first_behind headers [] = refl
 without_first_behind headers (p ∷ ps) = refl
-
-set_get : {A : Type 0} (xs : List A) (i k : ℕ) (x : A) (P : A → Type 0) → P x → IfSome (slice_get xs k) P → IfSome (slice_get (slice_set xs i x) k) P
-set_get [] i k x P new holds = holds
-set_get (y ∷ ys) zero zero x P new holds = new
-set_get (y ∷ ys) zero (suc k) x P new holds = holds
-set_get (y ∷ ys) (suc i) zero x P new holds = holds
-set_get (y ∷ ys) (suc i) (suc k) x P new holds = set_get ys i k x P new holds
 
 abbrev plan_size : Plan → ℕ × Bool
 plan_size plan = (length plan.watches, plan.may_have_long)
@@ -76,9 +65,6 @@ module _ {L : Type 0} where
   told_lens (Udp s) = without_first_behind 28 s.tx.packets
   told_lens (Tcp s) = without_first_behind 40 s.tx.packets
 
-  abbrev Fits : ℕ → SocketOf L → Type 0
-  Fits mtu s = AllWithin mtu (lens_to_send s)
-
   fits_one : (mtu : ℕ) (s : SocketOf L) → count_to_send s ≤ 1 → first_len s ≤ mtu → Fits mtu s
   fits_one mtu (Raw s) few short = short_queue mtu 0 s.tx.packets few short
   fits_one mtu (Icmp s) few short = short_queue mtu 20 s.tx.packets few short
@@ -88,33 +74,17 @@ module _ {L : Type 0} where
   fits_told : (mtu : ℕ) (s : SocketOf L) → Fits mtu s → Fits mtu (socket_after_told true s)
   fits_told mtu s fits = subst (λ (lens : List ℕ). AllWithin mtu lens) (sym (told_lens s)) (rest_within mtu 1 (lens_to_send s) fits)
 
-  inner : (o : Option (Option (SocketOf L))) (P : SocketOf L → Type 0) → IfSome o (λ place. IfSome place P) → IfSome (option_and_then (λ p. p) o) P
-  inner None P holds = tt
-  inner (Some place) P holds = holds
-
-  outer : (o : Option (Option (SocketOf L))) (P : SocketOf L → Type 0) → IfSome (option_and_then (λ p. p) o) P → IfSome o (λ place. IfSome place P)
-  outer None P holds = tt
-  outer (Some place) P holds = holds
-
   -- a socket that lost its first packet
   abbrev AllFit : ℕ → Sockets L → Type 0
   AllFit mtu s = (i : ℕ) → IfSome (socket_at s i) (Fits mtu)
 
-  fits_without : (mtu n : ℕ) (s : Sockets L) (i : ℕ) → ((k : ℕ) → k < n → IfSome (socket_at s k) (Fits mtu)) → i < n →
-      (k : ℕ) → k < n → IfSome (socket_at (without_first i s (socket_at s i)) k) (Fits mtu)
-  fits_without mtu n s i all there k within = by (socket_at s i) (all i there) where
-    by : (o : Option (SocketOf L)) → IfSome o (Fits mtu) → IfSome (socket_at (without_first i s o) k) (Fits mtu)
+  fits_without : (mtu n : ℕ) (s : Sockets L) (i : ℕ) (d : IpAddress) → ((k : ℕ) → k < n → IfSome (socket_at s k) (Fits mtu)) → i < n →
+      (k : ℕ) → k < n → IfSome (socket_at (without_first i d s (socket_at s i)) k) (Fits mtu)
+  fits_without mtu n s i d all there k within = by (socket_at s i) (all i there) where
+    by : (o : Option (SocketOf L)) → IfSome o (Fits mtu) → IfSome (socket_at (without_first i d s o) k) (Fits mtu)
     by None fits = all k within
-    by (Some socket) fits = inner (slice_get (slice_set s.places i (Some (socket_after_told true socket))) k) (Fits mtu)
-        (set_get s.places i k (Some (socket_after_told true socket)) (λ place. IfSome place (Fits mtu)) (fits_told mtu socket fits)
-        (outer (slice_get s.places k) (Fits mtu) (all k within)))
-
-  -- what a step keeps, so many do
-  keeps : (P : Planned L → Type 0) (step : ℕ → Planned L → Planned L) (n : ℕ) → ((i : ℕ) (r : Planned L) → i < n → P r → P (step i r)) →
-      (m : ℕ) → m ≤ n → (r : Planned L) → P r → P (each_of step m r)
-  keeps P step n one zero le r holds = holds
-  keeps P step n one (suc m) le r holds =
-      one m (each_of step m r) (omega (arith, le)) (keeps P step n one m (omega (arith, le)) r holds)
+    by (Some socket) fits = fits_set mtu s i k (without_packet_for d socket)
+        (fits_told mtu (with_first_for (is_same d) socket) (fits_brought mtu (is_same d) socket fits)) (all k within)
 
   -- for how many sockets it is, and whether it expects a long packet
   abbrev size_of : Planned L → ℕ × Bool
@@ -216,7 +186,7 @@ module _ {L : Type 0} where
         by (Some w) = two (is_given_up r.plan.patience now (must_go now i r w) (watch_at i r).unreachable w) where
           two : (b : Bool) → FitsAll (if b then after_giving_up now i w.neighbor r else r)
           two false = fits
-          two true = fits_without mtu n r.sockets i fits there
+          two true = fits_without mtu n r.sockets i w.neighbor fits there
 
       round_fits : (r : Planned L) → length r.plan.watches ≡ n → FitsAll r → FitsAll (after_round now r)
       round_fits r is fits = ended (after_look now (with_waits_put_back r)) looked_count looked where
@@ -288,7 +258,7 @@ module _ (now : ℤ) (mtu : ℕ) (left : Bool) (r : Planned (Bor (Unit {0}))) wh
     by false = refl
     by true = ap (λ (n : ℕ). (n, s.plan.may_have_long)) (len_set s.plan.watches i _)
 
-  aside_count : length (with_long_set_aside mtu now left r).plan.watches ≡ length r.plan.watches
+  pub aside_count : length (with_long_set_aside mtu now left r).plan.watches ≡ length r.plan.watches
   aside_count = by r.plan.may_have_long where
     by : (b : Bool) → length (if b then after_setting_aside mtu now left r else r).plan.watches ≡ length r.plan.watches
     by false = refl
@@ -314,27 +284,45 @@ taken_fits mtu n s s' all taken i there = by (socket_at s' i) (taken i there) wh
       subst (λ (lens : List ℕ). AllWithin mtu lens) (sym from.3) (rest_within mtu from.1 (lens_to_send from.0) fits)
 
 pub long_packets_expected : LongPacketsExpected
-long_packets_expected now mtu left r polled told taken none = λ i there. round_fits now mtu n ready count fits i (rw (sym total) there) where
-  n : ℕ
-  n = length r.plan.watches
+long_packets_expected known now mtu left r polled told taken none =
+    λ i there. round_fits now mtu n ready count fits i (rw (sym total) there) where
+      n : ℕ
+      n = length r.plan.watches
 
-  prepared : Planned (Bor (Unit {0}))
-  prepared = before_round now mtu left r
+      start : Planned (Bor (Unit {0}))
+      start = with_packets_brought known now r
 
-  ready : Planned (Bor (Unit {0}))
-  ready = record { plan = prepared.plan; sockets = polled }
+      prepared : Planned (Bor (Unit {0}))
+      prepared = before_round known now mtu left r
 
-  sizes : size_of prepared ≡ size_of (with_long_set_aside mtu now left r)
-  sizes = turns_size now (with_long_set_aside mtu now left r)
+      ready : Planned (Bor (Unit {0}))
+      ready = record { plan = prepared.plan; sockets = polled }
 
-  count : length ready.plan.watches ≡ n
-  count = ap (λ (s : ℕ × Bool). s.0) sizes ∙ aside_count now mtu left r
+      sizes : size_of prepared ≡ size_of (with_long_set_aside mtu now left start)
+      sizes = passing_keeps known now size_of (λ i s. ap (λ (n : ℕ). (n, s.plan.may_have_long)) (len_set s.plan.watches i _))
+          (with_turns_taken now (with_long_set_aside mtu now left start))
+          ∙ turns_size now (with_long_set_aside mtu now left start)
 
-  total : length (after_round now ready).plan.watches ≡ n
-  total = ap (λ (s : ℕ × Bool). s.0) (round_size now ready) ∙ count
+      as_many : length start.plan.watches ≡ n
+      as_many = all_brought_keep known now (λ plan waits. length plan.watches) r
 
-  off : (with_long_set_aside mtu now left r).plan.may_have_long ≡ false
-  off = sym (ap (λ (s : ℕ × Bool). s.1) (round_size now ready ∙ sizes)) ∙ none
+      count : length ready.plan.watches ≡ n
+      count = ap (λ (s : ℕ × Bool). s.0) sizes ∙ (aside_count now mtu left start ∙ as_many)
 
-  fits : NoneIsLong mtu n polled
-  fits = taken_fits mtu n r.sockets polled (none_queued now mtu left r told off) taken
+      total : length (after_round now ready).plan.watches ≡ n
+      total = ap (λ (s : ℕ × Bool). s.0) (round_size now ready) ∙ count
+
+      off : (with_long_set_aside mtu now left start).plan.may_have_long ≡ false
+      off = sym (ap (λ (s : ℕ × Bool). s.1) (round_size now ready ∙ sizes)) ∙ none
+
+      queued : NoneIsLong mtu (length start.plan.watches) start.sockets
+      queued = none_queued now mtu left start (brought_told known now mtu r told) off
+
+      waiting : NoneIsLong mtu n prepared.sockets
+      waiting i there =
+          subst (λ (ps : List (Option (SocketOf (Bor (Unit {0}))))). IfSome (option_and_then (λ place. place) (slice_get ps i)) (Fits mtu))
+          (sym (round_places known now mtu left r))
+          (queued i (subst (λ (k : ℕ). i < k) (sym as_many) there))
+
+      fits : NoneIsLong mtu n polled
+      fits = taken_fits mtu n prepared.sockets polled waiting taken

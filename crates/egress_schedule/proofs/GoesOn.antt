@@ -1,5 +1,5 @@
 -- Waits go on.
-use Rattle.std.specs.Prelude.{ℕ, zero, suc, ◌≡◌, ◌≢◌, ◌<◌, ◌≤◌, ◌==◌, ◌⊎◌, ◌&&◌, ◌||◌, not, nat_lt, Bool, true, false}
+use Rattle.std.specs.Prelude.{ℕ, zero, suc, ◌≡◌, ◌≢◌, ◌<◌, ◌≤◌, ◌==◌, ◌⊎◌, ◌&&◌, ◌||◌, not, nat_lt, Bool, true, false, is_some}
 use Rattle.std.specs.Prelude.{ℤ, pos, ◌+ℤ◌, List, [], ◌∷◌, length, get_or, slice_get, slice_set, Option, Some, None, refl, if◌then◌else◌}
 use Rattle.std.specs.Borrow.{Bor}
 use Rattle.std.specs.Option.{option_and_then, option_map}
@@ -7,12 +7,11 @@ use Rattle.std.specs.Ordering.{int_cmp, is_gt, is_le}
 use Rattle.std.specs.declared.cmp.Ordering.{Ordering}
 use Rattle.std.specs.declared.cmp.Ordering.TheVariants.{Less, Equal, Greater}
 use Rattle.std.proofs.Common.{inl, inr, sym, ap, ◌∙◌, subst, arith}
-use Rattle.std.proofs.lemmas.Bool.{cases_eq, and_parts, eq-eqb, lt-ltb, or_left}
+use Rattle.std.proofs.lemmas.Bool.{cases_eq, and_parts, eq-eqb, lt-ltb, or_left, or_right}
 use Rattle.net_base.specs.Time.{silence_from}
 use Rattle.ip_address.specs.declared.ip.IpAddress.{IpAddress}
 use Rattle.ip_address.specs.declared.ip.IpAddress.TheVariants.{Ipv4, Ipv6}
 use Rattle.sockets.specs.Source.{is_same}
-use Rattle.sockets.specs.Kinds.{socket_after_told}
 use Rattle.sockets.specs.declared.socket.SocketOf.{SocketOf}
 use Rattle.socket_set.specs.SocketMeta.{Wait}
 use Rattle.socket_set.specs.SocketSet.{socket_at, wait_at, wait_of, with_wait}
@@ -25,15 +24,19 @@ use Rattle.egress_schedule.specs.Patience.{after_alignment, after_alignment_at, 
 use Rattle.egress_schedule.specs.Patience.{after_patience, after_patience_at, earliest_end, if_given_up, if_waiting, is_at_end, is_given_up, must_go}
 use Rattle.egress_schedule.specs.Patience.{unreachable_after, waiting_after, watch_after_giving_up, without_first}
 use Rattle.egress_schedule.specs.Plan.{Planned, each_of, first_from, idle, turn_after, waiting_at, watch_at, with_watch}
+use Rattle.egress_schedule.specs.Passing.{after_bringing, after_passing, goes_first, is_first_for, may_pass, with_first_for, without_packet_for}
 use Rattle.egress_schedule.specs.Queues.{has_others}
-use Rattle.egress_schedule.specs.Rounds.{after_round, with_waits_put_back, with_long_set_aside, with_turns_taken, with_waits_ended}
-use Rattle.egress_schedule.specs.Runs.{IsSameAs, MayGiveUp, Asked, IsGivenUp, IsWaiting, StillWaits, Unasked, ended, prepared}
+use Rattle.egress_schedule.specs.Rounds.{after_round, with_packets_brought, with_packets_passing, with_waits_put_back, with_long_set_aside}
+use Rattle.egress_schedule.specs.Rounds.{with_turns_taken, with_waits_ended}
+use Rattle.egress_schedule.specs.Runs.{IsSameAs, MayGiveUp, Asked, IsGivenUp, IsPassed, IsWaiting, Passed, StillWaits, Unasked, ended, prepared}
 use Rattle.egress_schedule.specs.Turns.{after_hold_at, after_taking_turns, comes_before, first_asked, if_held, is_held, next_to_ask, plan_asked}
 use Rattle.egress_schedule.specs.Turns.{waiting_asked, with_wait_longer}
 use Rattle.egress_schedule.specs.Laws.{WaitsGoOn}
 use Rattle.egress_schedule.proofs.Apart.{lasts_longer}
 use Rattle.egress_schedule.proofs.Ends.{here_set, kept, len_set, other_get, other_set}
 use Rattle.egress_schedule.proofs.First.{below}
+use Rattle.egress_schedule.proofs.Passes.{nobody_stays, passing_keeps}
+use Rattle.egress_schedule.proofs.Seen.{Seen, brought_in, brought_seen, change, change_watch, fold_seen, if_some_waits, passed_in, passed_seen, seen, wait_in, waiting_in}
 
 -- an address is the same as itself
 pub same_itself : (a : IpAddress) → is_same a a ≡ true
@@ -41,7 +44,7 @@ same_itself (Ipv4 a) = eq-eqb a.bits a.bits refl
 same_itself (Ipv6 a) = eq-eqb a.bits a.bits refl
 
 -- what isn't over ends later
-later : (a b : ℤ) → is_le (int_cmp a b) ≡ false → is_gt (int_cmp a b) ≡ true
+pub later : (a b : ℤ) → is_le (int_cmp a b) ≡ false → is_gt (int_cmp a b) ≡ true
 later a b isnt = by (int_cmp a b) isnt where
   by : (o : Ordering) → is_le o ≡ false → is_gt o ≡ true
   by Less e = absurd cc
@@ -59,67 +62,19 @@ new_wait : {L : Type 0} (socket : Option (SocketOf L)) (old new : Wait) (x : IpA
 new_wait None old new x is = absurd cc
 new_wait (Some socket) old new x is = refl
 
+-- the same, of one of which it is known that it is there
+own_new : {L : Type 0} (socket : Option (SocketOf L)) (new : Wait) → is_some socket ≡ true → option_and_then (λ it. new) socket ≡ new
+own_new None new is = absurd cc
+own_new (Some socket) new is = refl
+
+-- who waits is there
+is_there_by : {L : Type 0} (socket : Option (SocketOf L)) (wait : Wait) (x : IpAddress × ℤ) → option_and_then (λ it. wait) socket ≡ Some x →
+    is_some socket ≡ true
+is_there_by None wait x is = absurd cc
+is_there_by (Some socket) wait x is = refl
+
 abbrev L : Type 0
 L = Bor (Unit {0})
-
--- what is known of the socket at an index, and how long the lists are
-pub record Seen : Type 0 where
-  pub watch : Watch
-  pub wait : Wait
-  pub socket : Option (SocketOf L)
-  pub watches : ℕ
-  pub waits : ℕ
-  pub may_have_long : Bool
-  pub patience : ℕ
-
-abbrev pub seen : ℕ → Planned L → Seen
-seen i r = record {
-  watch = watch_at i r;
-  wait = wait_at r.sockets i;
-  socket = socket_at r.sockets i;
-  watches = length r.plan.watches;
-  waits = length r.sockets.waits;
-  may_have_long = r.plan.may_have_long;
-  patience = r.plan.patience;
-}
-
-abbrev pub wait_in : Seen → Wait
-wait_in x = option_and_then (λ it. x.wait) x.socket
-
--- a change at another index isn't seen
-change : (i j : ℕ) (r : Planned L) (w : Watch) (wait : Wait) → i ≢ j →
-    seen i (record { plan = with_watch j w r.plan; sockets = with_wait r.sockets j wait }) ≡ seen i r
-change i j r w wait other =
-    rw (
-      other_set r.plan.watches j i w idle other,
-      other_set r.sockets.waits j i wait None other,
-      len_set r.plan.watches j w,
-      len_set r.sockets.waits j wait,
-    ) refl
-
-change_watch : (i j : ℕ) (r : Planned L) (w : Watch) → i ≢ j → seen i (record r { plan = with_watch j w r.plan }) ≡ seen i r
-change_watch i j r w other = rw (other_set r.plan.watches j i w idle other, len_set r.plan.watches j w) refl
-
--- what holds of an index before its step, and what after it
-pub fold_seen : (P Q : Seen → Type 0) (step : ℕ → Planned L → Planned L) (i : ℕ) →
-    ((j : ℕ) (r : Planned L) → i ≢ j → seen i (step j r) ≡ seen i r) → ((r : Planned L) → P (seen i r) → Q (seen i (step i r))) →
-    (n : ℕ) (r : Planned L) → P (seen i r) → (n ≤ i → P (seen i (each_of step n r))) × (i < n → Q (seen i (each_of step n r)))
-fold_seen P Q step i leaves here zero r holds = (λ h. holds, λ h. absurd (omega (arith, h)))
-fold_seen P Q step i leaves here (suc m) r holds = (
-  first (fold_seen P Q step i leaves here m r holds),
-  second (fold_seen P Q step i leaves here m r holds),
-) where
-  mid : Planned L
-  mid = each_of step m r
-
-  first : (m ≤ i → P (seen i mid)) × (i < m → Q (seen i mid)) → suc m ≤ i → P (seen i (step m mid))
-  first before h = subst P (sym (leaves m mid (λ same. absurd (omega (arith, same, h))))) (before.0 (omega (arith, h)))
-
-  second : (m ≤ i → P (seen i mid)) × (i < m → Q (seen i mid)) → i < suc m → Q (seen i (step m mid))
-  second before h = by (cases_eq i m) where
-    by : ((i ≡ m) ⊎ (i ≡ m → ⊥)) → Q (seen i (step m mid))
-    by (inl same) = subst (λ (k : ℕ). Q (seen i (step k mid))) same (here mid (before.0 (omega (arith, same))))
-    by (inr other) = subst Q (sym (leaves m mid other)) (before.1 (omega (arith, h, other)))
 
 -- what is known of a socket after the interface polled
 record Start : Type 0 where
@@ -159,7 +114,7 @@ why patience now must u w is = by u is where
 
 module _ (now since : ℤ) (mtu : ℕ) (d : IpAddress) where
   -- it waits for the neighbour, by its own wait
-  record Own (i : ℕ) (x : Seen) : Type 0 where
+  pub record Own (i : ℕ) (x : Seen) : Type 0 where
     pub w : Waiting
     pub is_noted : x.watch.waiting ≡ Some w
     pub for_whom : w.neighbor ≡ d
@@ -170,7 +125,7 @@ module _ (now since : ℤ) (mtu : ℕ) (d : IpAddress) where
     pub has_wait : i < x.waits
 
   -- it does, and isn't asked
-  record Aside (i : ℕ) (x : Seen) : Type 0 where
+  pub record Aside (i : ℕ) (x : Seen) : Type 0 where
     pub w : Waiting
     pub is_noted : x.watch.waiting ≡ Some w
     pub for_whom : w.neighbor ≡ d
@@ -183,7 +138,7 @@ module _ (now since : ℤ) (mtu : ℕ) (d : IpAddress) where
     pub is_watched : i < x.watches
     pub has_wait : i < x.waits
 
-  abbrev Kept : ℕ → Seen → Type 0
+  abbrev pub Kept : ℕ → Seen → Type 0
   Kept i x = Own i x ⊎ Aside i x
 
   pub aside_leaves : (next i j : ℕ) (r : Planned L) → i ≢ j → seen i (after_setting_aside_at mtu now next j r) ≡ seen i r
@@ -334,7 +289,7 @@ module _ (now since : ℤ) (mtu : ℕ) (d : IpAddress) where
     by false = holds
     by true = two (cases_eq i next)
 
-  turns_kept : (i : ℕ) (r : Planned L) → Kept i (seen i r) → i < length r.plan.watches → Kept i (seen i (with_turns_taken now r))
+  pub turns_kept : (i : ℕ) (r : Planned L) → Kept i (seen i r) → i < length r.plan.watches → Kept i (seen i (with_turns_taken now r))
   turns_kept i r holds there = by r.plan.is_waiting where
     next : ℕ
     next = next_to_ask now r
@@ -356,7 +311,7 @@ module _ (now since : ℤ) (mtu : ℕ) (d : IpAddress) where
       lt-ltb (first_from (may_have_long mtu r.sockets) 0 (length r.plan.watches)) (length r.plan.watches) (omega (arith, found, there))
 
   -- it does where long packets are set aside
-  aside_kept : (left : Bool) (i : ℕ) (r : Planned L) → Own i (seen i r) → Kept i (seen i (with_long_set_aside mtu now left r))
+  pub aside_kept : (left : Bool) (i : ℕ) (r : Planned L) → Own i (seen i r) → Kept i (seen i (with_long_set_aside mtu now left r))
   aside_kept left i r own = by r.plan.may_have_long refl where
     n : ℕ
     n = length r.plan.watches
@@ -409,6 +364,106 @@ module _ (now since : ℤ) (mtu : ℕ) (d : IpAddress) where
     by true is = let all = (fold_seen P Q (after_setting_aside_at mtu now next) i (aside_leaves next i) step n r (own, is, refl)).1 own.is_watched in
         flagged all.0 all.1
 
+  -- another packet passes it: its own wait is set aside
+  record Passing (i : ℕ) (x : Seen) : Type 0 where
+    pub w : Waiting
+    pub is_noted : x.watch.waiting ≡ Some w
+    pub for_whom : w.neighbor ≡ d
+    pub since_when : w.since ≡ since
+    pub is_aside : x.watch.set_aside ≡ Some (Some (d, w.until))
+    pub is_on : is_over now w ≡ false
+    pub is_free : wait_in x ≡ None
+    pub is_watched : i < x.watches
+    pub has_wait : i < x.waits
+
+  -- what isn't yet is later
+  still_on : (a b : ℤ) → is_gt (int_cmp a b) ≡ true → is_le (int_cmp a b) ≡ false
+  still_on a b is = by (int_cmp a b) is where
+    by : (o : Ordering) → is_gt o ≡ true → is_le o ≡ false
+    by Less e = absurd cc
+    by Equal e = absurd cc
+    by Greater e = refl
+
+  free_none : (socket : Option (SocketOf L)) (wait : Wait) → wait ≡ None → option_and_then (λ it. wait) socket ≡ None
+  free_none None wait is = refl
+  free_none (Some socket) wait is = is
+
+  passed_by : (known : IpAddress → Bool) (i : ℕ) (x : Seen) → Kept i x → Kept i (passed_in known now x) ⊎ Passing i (passed_in known now x)
+  passed_by known i x (inl own) = by (may_pass known now x.socket (wait_in x)) refl where
+    y : Seen
+    y = record x { watch = record x.watch { set_aside = Some (wait_in x) }; wait = None }
+
+    ends : may_pass known now x.socket (wait_in x) ≡ true → is_gt (int_cmp own.w.until now) ≡ true
+    ends is = (and_parts (is_gt (int_cmp own.w.until now)) (not (known d) && is_first_for known x.socket)
+        (and_parts (not (is_same d nobody)) (is_gt (int_cmp own.w.until now) && (not (known d) && is_first_for known x.socket))
+        (ap (λ (wait : Wait). may_pass known now x.socket wait) (sym own.is_set) ∙ is)).1).0
+
+    by : (b : Bool) → may_pass known now x.socket (wait_in x) ≡ b → Kept i (if b then y else x) ⊎ Passing i (if b then y else x)
+    by false is = inl (inl own)
+    by true is = inr (record {
+      w = own.w;
+      is_noted = own.is_noted;
+      for_whom = own.for_whom;
+      since_when = own.since_when;
+      is_aside = ap (λ (wait : Wait). Some wait) own.is_set;
+      is_on = still_on own.w.until now (ends is);
+      is_free = free_none x.socket None refl;
+      is_watched = own.is_watched;
+      has_wait = own.has_wait;
+    })
+  passed_by known i x (inr aside) =
+      subst (λ (b : Bool). Kept i (if b then y else x) ⊎ Passing i (if b then y else x))
+      (sym (nobody_stays known now (silence_from now) x.socket (wait_in x) aside.is_set)) (inl (inr aside)) where
+        y : Seen
+        y = record x { watch = record x.watch { set_aside = Some (wait_in x) }; wait = None }
+
+  pass_kept : (known : IpAddress → Bool) (i : ℕ) (r : Planned L) → i < length r.plan.watches → i < length r.sockets.waits → Kept i (seen i r) →
+      Kept i (seen i (with_packets_passing known now r))
+      ⊎ (Passing i (seen i (with_packets_passing known now r)) × ((with_packets_passing known now r).plan.is_waiting ≡ true))
+  pass_kept known i r there has_wait holds = by r.plan.is_waiting refl where
+    end : Planned L
+    end = with_packets_passing known now r
+
+    still : end.plan.is_waiting ≡ r.plan.is_waiting
+    still = passing_keeps known now (λ s. s.plan.is_waiting) (λ j s. refl) r
+
+    with_waits : r.plan.is_waiting ≡ true → Kept i (seen i end) ⊎ Passing i (seen i end) →
+        Kept i (seen i end) ⊎ (Passing i (seen i end) × (end.plan.is_waiting ≡ true))
+    with_waits is (inl k) = inl k
+    with_waits is (inr k) = inr (k, still ∙ is)
+
+    by : (b : Bool) → r.plan.is_waiting ≡ b → Kept i (seen i end) ⊎ (Passing i (seen i end) × (end.plan.is_waiting ≡ true))
+    by true is = with_waits is (subst (λ (x : Seen). Kept i x ⊎ Passing i x) (sym (passed_seen known now i r is there has_wait)) (passed_by known i (seen i r) holds))
+    by false is = inl (subst (λ (b : Bool). Kept i (seen i (if b then after_passing known now r else r))) (sym is) holds)
+
+  -- it still does where a packet comes forward
+  pub bring_own : (known : IpAddress → Bool) (i : ℕ) (r : Planned L) → Own i (seen i r) → Own i (seen i (with_packets_brought known now r))
+  bring_own known i r own = by r.plan.is_waiting refl where
+    end : Planned L
+    end = with_packets_brought known now r
+
+    one : (p : IpAddress → Bool) (o : Option (SocketOf L)) (wait : Wait) →
+        option_and_then (λ it. wait) (option_map (with_first_for p) o) ≡ option_and_then (λ it. wait) o
+    one p None wait = refl
+    one p (Some s) wait = refl
+
+    two : (o : Option Waiting) → Own i (if_some_waits known now (seen i r) o)
+    two None = own
+    two (Some w) = record {
+      w = own.w;
+      is_noted = own.is_noted;
+      for_whom = own.for_whom;
+      since_when = own.since_when;
+      is_own = own.is_own;
+      is_set = one (goes_first known now w) (socket_at r.sockets i) (wait_at r.sockets i) ∙ own.is_set;
+      is_watched = own.is_watched;
+      has_wait = own.has_wait;
+    }
+
+    by : (b : Bool) → r.plan.is_waiting ≡ b → Own i (seen i end)
+    by true is = subst (Own i) (sym (brought_seen known now i r is own.is_watched)) (two (waiting_in (seen i r)))
+    by false is = subst (λ (b : Bool). Own i (seen i (if b then after_bringing known now r else r))) (sym is) own
+
   -- after the interface polled, and what was set aside is put back: it waits until later, by its own wait
   record Settled (s0 : Start) (i : ℕ) (x : Seen) : Type 0 where
     pub w : Waiting
@@ -431,7 +486,7 @@ module _ (now since : ℤ) (mtu : ℕ) (d : IpAddress) where
     pub since_when : w.since ≡ since
     pub is_aside : x.watch.set_aside ≡ Some (Some (d, w.until))
     pub is_on : is_over now w ≡ false
-    pub is_set : wait_in x ≡ Some (nobody, silence_from now)
+    pub is_there : is_some x.socket ≡ true
     pub is_same_socket : IsSame s0 x
     pub is_watched : i < x.watches
     pub has_wait : i < x.waits
@@ -461,7 +516,7 @@ module _ (now since : ℤ) (mtu : ℕ) (d : IpAddress) where
       for_whom = left.for_whom;
       since_when = left.since_when;
       is_own = ap (λ (x : Watch). x.set_aside) here;
-      is_set = new_wait (socket_at r.sockets i) (wait_at r.sockets i) _ (nobody, silence_from now) left.is_set
+      is_set = own_new (socket_at r.sockets i) _ left.is_there
           ∙ here_set r.sockets.waits i (Some (d, left.w.until)) None left.has_wait;
       is_later = later left.w.until now left.is_on;
       is_same_socket = (
@@ -480,10 +535,10 @@ module _ (now since : ℤ) (mtu : ℕ) (d : IpAddress) where
     by true = (fold_seen (Settled s0 i) (Settled s0 i) after_putting_back_at i (back_leaves i) (back_own s0 i)
         (length r.plan.watches) r settled).1 settled.is_watched
 
-  put_back_left : (s0 : Start) (i : ℕ) (r : Planned L) → r.plan.may_have_long ≡ true → Left s0 i (seen i r) →
+  put_back_left : (s0 : Start) (i : ℕ) (r : Planned L) → (r.plan.may_have_long || r.plan.is_waiting) ≡ true → Left s0 i (seen i r) →
       Settled s0 i (seen i (with_waits_put_back r))
   put_back_left s0 i r may left = subst (λ (b : Bool). Settled s0 i (seen i (if b then after_putting_all_back r else r)))
-      (sym (or_left r.plan.may_have_long r.plan.is_waiting may))
+      (sym may)
       ((fold_seen (Left s0 i) (Settled s0 i) after_putting_back_at i (back_leaves i) (back_left s0 i) (length r.plan.watches) r left).1 left.is_watched)
 
   -- it is written down
@@ -594,7 +649,7 @@ module _ (now since : ℤ) (mtu : ℕ) (d : IpAddress) where
   Reason s0 = (is_le (int_cmp (since +ℤ pos s0.patience) now) ≡ true) ⊎ ((has_others s0.socket ≡ true) ⊎ IsSameAs d s0.unreachable)
 
   abbrev Last : Start → ℕ → Seen → Type 0
-  Last s0 i x = Own i x ⊎ ((x.socket ≡ option_map (socket_after_told true) s0.socket) × Reason s0)
+  Last s0 i x = Own i x ⊎ ((x.socket ≡ option_map (without_packet_for d) s0.socket) × Reason s0)
 
   give_leaves : (i j : ℕ) (r : Planned L) → i ≢ j → seen i (after_patience_at now j r) ≡ seen i r
   give_leaves i j r other = by (waiting_at j r) where
@@ -605,12 +660,12 @@ module _ (now since : ℤ) (mtu : ℕ) (d : IpAddress) where
       new = watch_after_giving_up now w.neighbor (watch_at j r)
 
       gone : (o : Option (SocketOf L)) →
-          seen i (record { plan = with_watch j new r.plan; sockets = with_wait (without_first j r.sockets o) j None }) ≡ seen i r
+          seen i (record { plan = with_watch j new r.plan; sockets = with_wait (without_first j w.neighbor r.sockets o) j None }) ≡ seen i r
       gone None = change i j r new None other
       gone (Some socket) = rw (
         other_set r.plan.watches j i new idle other,
         other_set r.sockets.waits j i None None other,
-        other_get r.sockets.places j i (Some (socket_after_told true socket)) other,
+        other_get r.sockets.places j i (Some (without_packet_for w.neighbor socket)) other,
         len_set r.plan.watches j new,
         len_set r.sockets.waits j None,
       ) refl
@@ -628,13 +683,15 @@ module _ (now since : ℤ) (mtu : ℕ) (d : IpAddress) where
         at : waiting_at i r ≡ Some own.w
         at = rw own.is_set own.is_noted
 
-        gone : (o : Option (SocketOf L)) → socket_at r.sockets i ≡ o → socket_at (without_first i r.sockets o) i ≡ option_map (socket_after_told true) o
+        gone : (o : Option (SocketOf L)) → socket_at r.sockets i ≡ o →
+            socket_at (without_first i own.w.neighbor r.sockets o) i ≡ option_map (without_packet_for own.w.neighbor) o
         gone None is = is
         gone (Some socket) is = ap (option_and_then (λ place. place)) (set (slice_get r.sockets.places i) refl is) where
           set : (place : Option (Option (SocketOf L))) → slice_get r.sockets.places i ≡ place → option_and_then (λ p. p) place ≡ Some socket →
-              slice_get (slice_set r.sockets.places i (Some (socket_after_told true socket))) i ≡ Some (Some (socket_after_told true socket))
+              slice_get (slice_set r.sockets.places i (Some (without_packet_for own.w.neighbor socket))) i
+              ≡ Some (Some (without_packet_for own.w.neighbor socket))
           set None at is = absurd cc
-          set (Some y) at is = get_set r.sockets.places i (Some (socket_after_told true socket)) y at
+          set (Some y) at is = get_set r.sockets.places i (Some (without_packet_for own.w.neighbor socket)) y at
 
         reason : ((is_le (int_cmp (own.w.since +ℤ pos r.plan.patience) now) ≡ true) ⊎
             ((must_go now i r own.w ≡ true) ⊎ IsSameAs own.w.neighbor (watch_at i r).unreachable)) →
@@ -650,7 +707,9 @@ module _ (now since : ℤ) (mtu : ℕ) (d : IpAddress) where
             Last s0 i (seen i (if b then after_giving_up now i own.w.neighbor r else r))
         by false isnt = inl own
         by true is = inr (
-          gone (socket_at r.sockets i) refl ∙ ap (option_map (socket_after_told true)) noted.1.0,
+          gone (socket_at r.sockets i) refl
+              ∙ (ap (option_map (without_packet_for own.w.neighbor)) noted.1.0
+              ∙ ap (λ (a : IpAddress). option_map (without_packet_for a) s0.socket) own.for_whom),
           reason (why r.plan.patience now (must_go now i r own.w) (watch_at i r).unreachable own.w is),
         )
 
@@ -691,16 +750,30 @@ waits_go_on p r i d since else_than has_wait is waits = result (all_ended p.now 
     has_wait = is.has_wait;
   }
 
-  aside : Kept p.now since p.mtu d i (seen i (with_long_set_aside p.mtu p.now p.is_piece_left r))
-  aside = aside_kept p.now since p.mtu d p.is_piece_left i r own
+  start : Planned L
+  start = with_packets_brought p.known p.now r
 
-  there : Kept p.now since p.mtu d i (seen i (with_long_set_aside p.mtu p.now p.is_piece_left r)) →
-      i < length (with_long_set_aside p.mtu p.now p.is_piece_left r).plan.watches
-  there (inl k) = k.is_watched
-  there (inr k) = k.is_watched
+  turned : Planned L
+  turned = with_turns_taken p.now (with_long_set_aside p.mtu p.now p.is_piece_left start)
+
+  aside : Kept p.now since p.mtu d i (seen i (with_long_set_aside p.mtu p.now p.is_piece_left start))
+  aside = aside_kept p.now since p.mtu d p.is_piece_left i start (bring_own p.now since p.mtu d p.known i r own)
+
+  there : (s : Planned L) → Kept p.now since p.mtu d i (seen i s) → i < length s.plan.watches
+  there s (inl k) = k.is_watched
+  there s (inr k) = k.is_watched
+
+  waits_there : (s : Planned L) → Kept p.now since p.mtu d i (seen i s) → i < length s.sockets.waits
+  waits_there s (inl k) = k.has_wait
+  waits_there s (inr k) = k.has_wait
+
+  taken : Kept p.now since p.mtu d i (seen i turned)
+  taken = turns_kept p.now since p.mtu d i (with_long_set_aside p.mtu p.now p.is_piece_left start) aside
+      (there (with_long_set_aside p.mtu p.now p.is_piece_left start) aside)
 
   kept : Kept p.now since p.mtu d i (seen i (prepared p r))
-  kept = turns_kept p.now since p.mtu d i (with_long_set_aside p.mtu p.now p.is_piece_left r) aside (there aside)
+      ⊎ (Passing p.now since p.mtu d i (seen i (prepared p r)) × ((prepared p r).plan.is_waiting ≡ true))
+  kept = pass_kept p.now since p.mtu d p.known i turned (there turned taken) (waits_there turned taken) taken
 
   first_or : Wait → IpAddress
   first_or None = nobody
@@ -709,10 +782,28 @@ waits_go_on p r i d since else_than has_wait is waits = result (all_ended p.now 
   same_wait : (end other : ℤ) (o : Wait) → o ≡ Some (d, end) → o ≡ Some (nobody, other) → d ≡ nobody
   same_wait end other o e f = ap first_or (sym e ∙ f)
 
-  settled : Kept p.now since p.mtu d i (seen i (prepared p r)) → StillWaits i d p r →
+  put_back_passing : Passing p.now since p.mtu d i (seen i (prepared p r)) → (prepared p r).plan.is_waiting ≡ true →
+      is_some (socket_at p.polled i) ≡ true → Settled p.now since p.mtu d s0 i (seen i (with_waits_put_back ready))
+  put_back_passing k waits is_there =
+      put_back_left p.now since p.mtu d s0 i ready (or_right (prepared p r).plan.may_have_long (prepared p r).plan.is_waiting waits) (record {
+        w = k.w;
+        is_noted = k.is_noted;
+        for_whom = k.for_whom;
+        since_when = k.since_when;
+        is_aside = k.is_aside;
+        is_on = k.is_on;
+        is_there = is_there;
+        is_same_socket = (refl, refl, refl);
+        is_watched = k.is_watched;
+        has_wait = has_wait;
+      })
+
+  settled : (Kept p.now since p.mtu d i (seen i (prepared p r))
+      ⊎ (Passing p.now since p.mtu d i (seen i (prepared p r)) × ((prepared p r).plan.is_waiting ≡ true))) → StillWaits i d p r →
       Settled p.now since p.mtu d s0 i (seen i (with_waits_put_back ready))
-  settled (inl k) (Unasked unasked left) = absurd (else_than (same_wait k.w.until (silence_from p.now) (wait_of (prepared p r).sockets i) k.is_set unasked))
-  settled (inl k) (Asked until asked set is_later) = put_back_own p.now since p.mtu d s0 i ready (record {
+  settled (inl (inl k)) (Unasked unasked left) =
+      absurd (else_than (same_wait k.w.until (silence_from p.now) (wait_of (prepared p r).sockets i) k.is_set unasked))
+  settled (inl (inl k)) (Asked until asked set is_later) = put_back_own p.now since p.mtu d s0 i ready (record {
     w = k.w;
     until = until;
     is_noted = k.is_noted;
@@ -725,21 +816,27 @@ waits_go_on p r i d since else_than has_wait is waits = result (all_ended p.now 
     is_watched = k.is_watched;
     has_wait = has_wait;
   })
-  settled (inr k) (Unasked unasked left) = put_back_left p.now since p.mtu d s0 i ready k.expects (record {
-    w = k.w;
-    is_noted = k.is_noted;
-    for_whom = k.for_whom;
-    since_when = k.since_when;
-    is_aside = k.is_aside;
-    is_on = k.is_on;
-    is_set = left;
-    is_same_socket = (refl, refl, refl);
-    is_watched = k.is_watched;
-    has_wait = has_wait;
-  })
-  settled (inr k) (Asked until asked set is_later) = absurd (asked k.is_set)
+  settled (inl (inl k)) (Passed passed) = absurd (let never : Some (d, k.w.until) ≡ None = sym k.is_set ∙ passed.is_free in cc)
+  settled (inl (inr k)) (Unasked unasked left) =
+      put_back_left p.now since p.mtu d s0 i ready (or_left (prepared p r).plan.may_have_long (prepared p r).plan.is_waiting k.expects) (record {
+        w = k.w;
+        is_noted = k.is_noted;
+        for_whom = k.for_whom;
+        since_when = k.since_when;
+        is_aside = k.is_aside;
+        is_on = k.is_on;
+        is_there = is_there_by (socket_at p.polled i) (wait_at p.polled i) (nobody, silence_from p.now) left;
+        is_same_socket = (refl, refl, refl);
+        is_watched = k.is_watched;
+        has_wait = has_wait;
+      })
+  settled (inl (inr k)) (Asked until asked set is_later) = absurd (asked k.is_set)
+  settled (inl (inr k)) (Passed passed) = absurd (let never : Some (nobody, silence_from p.now) ≡ None = sym k.is_set ∙ passed.is_free in cc)
+  settled (inr k) (Unasked unasked left) = absurd (let never : Some (nobody, silence_from p.now) ≡ None = sym unasked ∙ k.0.is_free in cc)
+  settled (inr k) (Asked until asked set is_later) = put_back_passing k.0 k.1 (is_there_by (socket_at p.polled i) (wait_at p.polled i) (d, until) set)
+  settled (inr k) (Passed passed) = put_back_passing k.0 k.1 passed.is_there
 
-  result : Last p.now since p.mtu d s0 i (seen i (ended p r)) → IsWaiting i d since (ended p r) ⊎ (IsGivenUp i p r × MayGiveUp i d since p r)
+  result : Last p.now since p.mtu d s0 i (seen i (ended p r)) → IsWaiting i d since (ended p r) ⊎ (IsGivenUp i d p r × MayGiveUp i d since p r)
   result (inl k) = inl (record {
     waiting = k.w;
     is_noted = k.is_noted;

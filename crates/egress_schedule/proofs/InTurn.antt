@@ -1,14 +1,14 @@
 -- Where a socket has its turn to ask, none before it is asked.
-use Rattle.std.specs.Prelude.{ℕ, ◌≡◌, ◌<◌, ◌==◌, ◌&&◌, ◌||◌, not, nat_lt, Bool, true, false, is_some}
-use Rattle.std.specs.Prelude.{ℤ, ◌<ℤ◌, length, get_or, slice_set, Option, Some, None, IfSome, refl, if◌then◌else◌}
+use Rattle.std.specs.Prelude.{ℕ, ◌≡◌, ◌<◌, ◌==◌, ◌⊎◌, ◌&&◌, ◌||◌, not, nat_lt, Bool, true, false, is_some}
+use Rattle.std.specs.Prelude.{ℤ, ◌<ℤ◌, List, length, get_or, slice_get, slice_set, Option, Some, None, IfSome, refl, if◌then◌else◌}
 use Rattle.std.specs.Borrow.{Bor}
 use Rattle.std.specs.Cmp.{int_ranks}
-use Rattle.std.specs.Option.{option_and_then}
-use Rattle.std.specs.Ordering.{int_cmp, is_ge, is_le, MatchOrdering}
+use Rattle.std.specs.Option.{option_and_then, option_map}
+use Rattle.std.specs.Ordering.{int_cmp, is_ge, is_gt, is_le, MatchOrdering}
 use Rattle.std.specs.declared.cmp.Ordering.{Ordering}
 use Rattle.std.specs.declared.cmp.Ordering.TheVariants.{Less, Equal, Greater}
-use Rattle.std.proofs.Common.{sym, ap, ◌∙◌, subst, arith}
-use Rattle.std.proofs.lemmas.Bool.{lt-ltb, or_parts}
+use Rattle.std.proofs.Common.{inl, inr, sym, ap, ◌∙◌, subst, arith}
+use Rattle.std.proofs.lemmas.Bool.{and_parts, lt-ltb}
 use Rattle.std.proofs.lemmas.Int.{ints}
 use Rattle.net_base.specs.Time.{silence_from}
 use Rattle.ip_address.specs.declared.ip.IpAddress.{IpAddress}
@@ -21,13 +21,20 @@ use Rattle.egress_schedule.specs.Asides.{is_over, nobody, own_wait, waiting_unas
 use Rattle.egress_schedule.specs.LongPackets.{after_setting_aside, after_setting_aside_at, has_long, next_long}
 use Rattle.egress_schedule.specs.Patience.{is_at_end, must_go}
 use Rattle.egress_schedule.specs.Plan.{Planned, each_of, waiting_at, watch_at}
+use Rattle.sockets.specs.Kinds.{destinations}
+use Rattle.sockets.specs.Source.{is_same}
 use Rattle.egress_schedule.specs.Queues.{has_packets}
-use Rattle.egress_schedule.specs.Rounds.{with_long_set_aside, with_turns_taken}
+use Rattle.egress_schedule.specs.Passing.{before_first, goes_first, is_first_for, may_pass, with_first_for}
+use Rattle.egress_schedule.specs.Rounds.{with_long_set_aside, with_packets_brought, with_packets_passing, with_turns_taken}
 use Rattle.egress_schedule.specs.Turns.{after_hold_at, after_taking_turns, comes_before, if_held, is_free, is_held, next_to_ask, with_wait_longer}
 use Rattle.egress_schedule.specs.Laws.{IsWritten, TurnsAreKept, WaitsForKnown, may_be_asked}
 use Rattle.egress_schedule.proofs.Apart.{later_than}
+use Rattle.egress_schedule.proofs.Brought.{brought_destinations, length_brought}
+use Rattle.egress_schedule.proofs.Order.{count_is}
+use Rattle.egress_schedule.proofs.Passes.{all_brought_keep, not_passing, passing_keeps}
 use Rattle.egress_schedule.proofs.Ends.{here_set, kept, len_set}
-use Rattle.egress_schedule.proofs.GoesOn.{Seen, aside_leaves, fold_seen, hold_leaves, seen, wait_in}
+use Rattle.egress_schedule.proofs.GoesOn.{aside_leaves, hold_leaves}
+use Rattle.egress_schedule.proofs.Seen.{Seen, brought_in, brought_seen, fold_seen, if_some_waits, seen, wait_in}
 
 abbrev L : Type 0
 L = Bor (Unit {0})
@@ -150,14 +157,90 @@ module _ (now : ℤ) where
     by false = early
     by true = record { agrees = all.agrees; has_wait = all.has_wait; sends = all.sends; count = all.count }
 
+-- a socket before the one that asks has as many packets where one of them comes forward
+counted : (known : IpAddress → Bool) (now : ℤ) (x : Seen) → has_packets (brought_in known now x).socket ≡ has_packets x.socket
+counted known now x = by (if is_some (wait_in x) then x.watch.waiting else None) where
+  one : (p : IpAddress → Bool) (o : Option (SocketOf L)) → has_packets (option_map (with_first_for p) o) ≡ has_packets o
+  one p None = refl
+  one p (Some s) = ap (nat_lt 0) (sym (count_is (with_first_for p s))
+      ∙ (ap length (brought_destinations (before_first p (destinations s)) s) ∙ (length_brought (before_first p (destinations s)) (destinations s) ∙ count_is s)))
+
+  by : (o : Option Waiting) → has_packets (if_some_waits known now x o).socket ≡ has_packets x.socket
+  by None = refl
+  by (Some w) = one (goes_first known now w) x.socket
+
+-- nor does its wait change
+same_wait : (known : IpAddress → Bool) (now : ℤ) (x : Seen) → wait_in (brought_in known now x) ≡ wait_in x
+same_wait known now x = by (if is_some (wait_in x) then x.watch.waiting else None) where
+  one : (p : IpAddress → Bool) (o : Option (SocketOf L)) (wait : Wait) →
+      option_and_then (λ it. wait) (option_map (with_first_for p) o) ≡ option_and_then (λ it. wait) o
+  one p None wait = refl
+  one p (Some s) wait = refl
+
+  by : (o : Option Waiting) → wait_in (if_some_waits known now x o) ≡ wait_in x
+  by None = refl
+  by (Some w) = one (goes_first known now w) x.socket x.wait
+
+same_watch : (known : IpAddress → Bool) (now : ℤ) (x : Seen) → (brought_in known now x).watch ≡ x.watch
+same_watch known now x = by (if is_some (wait_in x) then x.watch.waiting else None) where
+  by : (o : Option Waiting) → (if_some_waits known now x o).watch ≡ x.watch
+  by None = refl
+  by (Some w) = refl
+
+-- it passes only where its first packet is for a neighbour that is known
+first_is_known : (known : IpAddress → Bool) (now : ℤ) (socket : Option (SocketOf L)) (wait : Wait) → may_pass known now socket wait ≡ true →
+    is_first_for known socket ≡ true
+first_is_known known now socket None is = absurd cc
+first_is_known known now socket (Some wait) is =
+    (and_parts (not (known wait.0)) (is_first_for known socket)
+    (and_parts (is_gt (int_cmp wait.1 now)) (not (known wait.0) && is_first_for known socket)
+    (and_parts (not (is_same wait.0 nobody)) (is_gt (int_cmp wait.1 now) && (not (known wait.0) && is_first_for known socket)) is).1).1).1
+
 pub turns_are_kept : TurnsAreKept
-turns_are_kept known now mtu left r i nobodys waits written has_wait before asks sends asked =
-    known_is (wait_of (with_turns_taken now start).sockets i) left_is asked where
+turns_are_kept known now mtu left r0 i nobodys waits0 written0 has_wait0 before asks0 sends0 asked =
+    last (may_pass known now (socket_at turned.sockets i) (wait_of turned.sockets i)) refl where
+      r : Planned L
+      r = with_packets_brought known now r0
+
       start : Planned L
       start = with_long_set_aside mtu now left r
 
+      turned : Planned L
+      turned = with_turns_taken now start
+
       n : ℕ
       n = length r.plan.watches
+
+      count0 : n ≡ length r0.plan.watches
+      count0 = all_brought_keep known now (λ plan waits. length plan.watches) r0
+
+      there0 : i < length r0.plan.watches
+      there0 = omega (arith, before, asks0)
+
+      waits : r.plan.is_waiting ≡ true
+      waits = all_brought_keep known now (λ plan waits. plan.is_waiting) r0 ∙ waits0
+
+      brought : seen i r ≡ brought_in known now (seen i r0)
+      brought = brought_seen known now i r0 waits0 there0
+
+      wait_is : wait_of r.sockets i ≡ wait_of r0.sockets i
+      wait_is = ap wait_in brought ∙ same_wait known now (seen i r0)
+
+      watch_is : watch_at i r ≡ watch_at i r0
+      watch_is = ap (λ (x : Seen). x.watch) brought ∙ same_watch known now (seen i r0)
+
+      written : IfSome (waiting_at i r) (λ w. wait_of r.sockets i ≡ Some (w.neighbor, w.until))
+      written = subst (λ (p : Wait × Watch). IfSome (if is_some p.0 then p.1.waiting else None) (λ w. p.0 ≡ Some (w.neighbor, w.until)))
+          (sym (ap (λ (x : Wait). (x, watch_at i r)) wait_is ∙ ap (λ (x : Watch). (wait_of r0.sockets i, x)) watch_is)) written0
+
+      has_wait : i < length r.sockets.waits
+      has_wait = subst (λ (k : ℕ). i < k) (sym (all_brought_keep known now (λ plan waits. length waits) r0)) has_wait0
+
+      sends : has_packets (socket_at r.sockets i) ≡ true
+      sends = ap (λ (x : Seen). has_packets x.socket) brought ∙ (counted known now (seen i r0) ∙ sends0)
+
+      asks : next_to_ask now start < n
+      asks = subst (λ (k : ℕ). next_to_ask now start < k) (sym count0) asks0
 
       agrees : (noted : Option Waiting) (wait : Wait) →
           IfSome (if is_some wait then noted else None) (λ w. wait ≡ Some (w.neighbor, w.until)) → AgreesWith now noted wait
@@ -185,7 +268,7 @@ turns_are_kept known now mtu left r i nobodys waits written has_wait before asks
         by false = waits
         by true = kept (λ (s : Planned L). s.plan.is_waiting) (after_setting_aside_at mtu now (next_long mtu left r)) step n r ∙ waits
 
-      left_is : is_free now (wait_of (with_turns_taken now start).sockets i) ≡ false
+      left_is : is_free now (wait_of turned.sockets i) ≡ false
       left_is = turns_leave_it now i start aside_waits (subst (λ (k : ℕ). i < k) (sym early.count) (omega (arith, before, asks))) before
           (subst (λ (k : ℕ). next_to_ask now start < k) (sym early.count) asks)
           (subst (λ (k : ℕ). Early now k (next_to_ask now start) i (seen i start)) (sym early.count) early)
@@ -196,3 +279,16 @@ turns_are_kept known now mtu left r i nobodys waits written has_wait before asks
         by : (b : Bool) → (b || is_ge (int_cmp now wait.1)) ≡ true → b ≡ true
         by true holds = refl
         by false holds = sym (not_passed wait.1 now isnt) ∙ holds
+
+      end : Planned L
+      end = with_packets_passing known now turned
+
+      last : (b : Bool) → may_pass known now (socket_at turned.sockets i) (wait_of turned.sockets i) ≡ b →
+          WaitsForKnown known (wait_of end.sockets i) ⊎ (is_first_for known (socket_at end.sockets i) ≡ true)
+      last true is = inr (ap (λ (ps : List (Option (SocketOf L))). is_first_for known (option_and_then (λ place. place) (slice_get ps i)))
+          (passing_keeps known now (λ s. s.sockets.places) (λ j s. refl) turned)
+          ∙ first_is_known known now (socket_at turned.sockets i) (wait_of turned.sockets i) is)
+      last false is = inl (subst (WaitsForKnown known) (sym same)
+          (known_is (wait_of turned.sockets i) left_is (ap (may_be_asked known now) (sym same) ∙ asked))) where
+            same : wait_of end.sockets i ≡ wait_of turned.sockets i
+            same = not_passing known now i turned is

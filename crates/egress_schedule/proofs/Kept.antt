@@ -12,12 +12,13 @@ use Rattle.egress_schedule.specs.LongPackets.{after_setting_aside, after_setting
 use Rattle.egress_schedule.specs.Asides.{nobody, with_wait_aside}
 use Rattle.egress_schedule.specs.Patience.{is_at_end, must_go}
 use Rattle.egress_schedule.specs.Plan.{Plan, Planned, each_of, idle, waiting_at, with_watch}
-use Rattle.egress_schedule.specs.Rounds.{with_long_set_aside, with_turns_taken}
+use Rattle.egress_schedule.specs.Rounds.{with_long_set_aside, with_packets_brought, with_turns_taken}
 use Rattle.egress_schedule.specs.Runs.{Ends, IsGivenUp, IsLeft, IsWaiting, MayGiveUp, Round, Then, WaitsThrough, ended, prepared}
 use Rattle.egress_schedule.specs.Turns.{after_hold_at, after_taking_turns, comes_before, if_held, is_held, next_to_ask, plan_asked, waiting_asked, with_wait_longer}
 use Rattle.egress_schedule.specs.Laws.{PatienceIsKept}
 use Rattle.egress_schedule.proofs.Ends.{after_patience_of, kept, patience_ends}
 use Rattle.egress_schedule.proofs.GoesOn.{waits_go_on}
+use Rattle.egress_schedule.proofs.Passes.{all_brought_keep, passing_keeps}
 
 abbrev L : Type 0
 L = Bor (Unit {0})
@@ -65,13 +66,19 @@ aside_patience now mtu next i r = by (has_long mtu r.sockets i && not (i == next
   by true = refl
 
 prepared_patience : (p : Round) (r : Planned L) → patience_of (prepared p r) ≡ patience_of r
-prepared_patience p r = turns_patience p.now (with_long_set_aside p.mtu p.now p.is_piece_left r) ∙ by r.plan.may_have_long where
-  next : ℕ
-  next = next_long p.mtu p.is_piece_left r
+prepared_patience p r =
+    passing_keeps p.known p.now patience_of (λ i s. refl) (with_turns_taken p.now (with_long_set_aside p.mtu p.now p.is_piece_left s))
+    ∙ (turns_patience p.now (with_long_set_aside p.mtu p.now p.is_piece_left s)
+    ∙ (by s.plan.may_have_long ∙ all_brought_keep p.known p.now (λ plan waits. plan.patience) r)) where
+      s : Planned L
+      s = with_packets_brought p.known p.now r
 
-  by : (b : Bool) → patience_of (if b then after_setting_aside p.mtu p.now p.is_piece_left r else r) ≡ patience_of r
-  by false = refl
-  by true = kept patience_of (after_setting_aside_at p.mtu p.now next) (aside_patience p.now p.mtu next) (length r.plan.watches) r
+      next : ℕ
+      next = next_long p.mtu p.is_piece_left s
+
+      by : (b : Bool) → patience_of (if b then after_setting_aside p.mtu p.now p.is_piece_left s else s) ≡ patience_of s
+      by false = refl
+      by true = kept patience_of (after_setting_aside_at p.mtu p.now next) (aside_patience p.now p.mtu next) (length s.plan.watches) s
 
 -- what waited for so long is at its end
 is_at_its_end : (patience : ℕ) (now : ℤ) (must : Bool) (w : Waiting) (since : ℤ) → patience ≢ 0 → w.since ≡ since →
@@ -125,8 +132,8 @@ round_patience : (p : Round) (r : Planned L) → patience_of (ended p r) ≡ pat
 round_patience p r = after_patience_of p.now (record { plan = (prepared p r).plan; sockets = p.polled }) ∙ prepared_patience p r
 
 -- what wasn't given up still waits
-still_waits : (i : ℕ) (d : IpAddress) (since : ℤ) (p : Round) (r : Planned L) → (IsGivenUp i p r → ⊥) →
-    (IsWaiting i d since (ended p r) ⊎ (IsGivenUp i p r × MayGiveUp i d since p r)) → IsWaiting i d since (ended p r)
+still_waits : (i : ℕ) (d : IpAddress) (since : ℤ) (p : Round) (r : Planned L) → (IsGivenUp i d p r → ⊥) →
+    (IsWaiting i d since (ended p r) ⊎ (IsGivenUp i d p r × MayGiveUp i d since p r)) → IsWaiting i d since (ended p r)
 still_waits i d since p r isnt (inl still) = still
 still_waits i d since p r isnt (inr gone) = absurd (isnt gone.0)
 
@@ -146,6 +153,6 @@ patience_is_kept i d since r last rounds p else_than some is all has_wait waits 
       so_far : IsWaiting i d since last × (last.plan.patience ≡ r.plan.patience)
       so_far = through i d since r last rounds else_than is all
 
-      by : (IsWaiting i d since (ended p last) ⊎ (IsGivenUp i p last × MayGiveUp i d since p last)) → IsGivenUp i p last
+      by : (IsWaiting i d since (ended p last) ⊎ (IsGivenUp i d p last × MayGiveUp i d since p last)) → IsGivenUp i d p last
       by (inl still) = absurd (not_so_long i d since p last (λ none. some (sym so_far.1 ∙ none)) (rw so_far.1 over) still)
       by (inr gone) = gone.0

@@ -1,6 +1,10 @@
 mod First
+mod Order
 mod Comes
 mod Ends
+mod Passes
+mod Seen
+mod Brought
 mod Apart
 mod Expected
 mod GoesOn
@@ -11,3 +15,4 @@ mod Unchanged
 mod Unnoted
 mod Fields
 mod Quiet
+mod KnownFirst

@@ -4,6 +4,7 @@ pub mod Patience
 pub mod Asides
 pub mod Turns
 pub mod LongPackets
+pub mod Passing
 pub mod Rounds
 pub mod Runs
 pub mod Laws

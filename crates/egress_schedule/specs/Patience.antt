@@ -5,7 +5,6 @@ use Rattle.std.specs.Prelude.{List, length, get_or}
 use Rattle.std.specs.Prelude.{ℤ, pos, ◌+ℤ◌, Option, Some, None, if◌then◌else◌}
 use Rattle.std.specs.Ordering.{int_cmp, is_gt, is_le}
 use Rattle.ip_address.specs.declared.ip.IpAddress.{IpAddress}
-use Rattle.sockets.specs.Kinds.{socket_after_told}
 use Rattle.sockets.specs.declared.socket.SocketOf.{SocketOf}
 use Rattle.sockets.specs.Source.{is_same}
 use Rattle.socket_set.specs.SocketMeta.{Wait}
@@ -13,6 +12,7 @@ use Rattle.socket_set.specs.SocketSet.{Sockets, socket_at, wait_of, with_place, 
 use Rattle.egress_schedule.specs.declared.watch.Waiting.{Waiting}
 use Rattle.egress_schedule.specs.declared.watch.Watch.{Watch}
 use Rattle.egress_schedule.specs.Plan.{Plan, Planned, each_of, idle, turn_after, waiting_at, watch_at, with_watch}
+use Rattle.egress_schedule.specs.Passing.{without_packet_for}
 use Rattle.egress_schedule.specs.Queues.{has_others, is_crowded}
 
 -- a second after an instant, if there is one, has come: so long a host is silent after a request (RFC 1122 2.3.2.1)
@@ -157,18 +157,19 @@ module _ {L : Type 0} where
   abbrev pub after_alignment : Planned L → Planned L
   after_alignment r = after_alignment_to (earliest_end (length r.plan.watches) r.plan.watches) r
 
-  -- the set whose socket at an index, if there is one, has lost its first packet
-  abbrev pub without_first : ℕ → Sockets L → Option (SocketOf L) → Sockets L
-  without_first i s None = s
-  without_first i s (Some socket) = with_place s i (Some (socket_after_told true socket))
+  -- the set whose socket at an index, if there is one, has lost its first packet for a neighbour
+  abbrev pub without_first : ℕ → IpAddress → Sockets L → Option (SocketOf L) → Sockets L
+  without_first i neighbor s None = s
+  without_first i neighbor s (Some socket) = with_place s i (Some (without_packet_for neighbor socket))
 
-  -- the first packet of a socket is given up: it is dropped, told of and counted, and the socket waits no more
+  -- the first packet of a socket for the neighbour that it waits for is given up: it is dropped, told of and counted, and the
+  -- socket waits no more
   abbrev pub after_giving_up : ℤ → ℕ → IpAddress → Planned L → Planned L
   after_giving_up now i neighbor r = record {
     plan = record (with_watch i (watch_after_giving_up now neighbor (watch_at i r)) r.plan) {
       given_up = count_after r.plan.given_up;
     };
-    sockets = with_wait (without_first i r.sockets (socket_at r.sockets i)) i None;
+    sockets = with_wait (without_first i neighbor r.sockets (socket_at r.sockets i)) i None;
   }
 
   abbrev pub if_given_up : ℕ → ℤ → Planned L → Option Waiting → Planned L

@@ -12,7 +12,7 @@ use net_base::time::Instant;
 use socket_set::{Meta, SocketSetOf, by_index};
 
 /// Nobody has this address, so who waits for it isn't asked before the end of the wait.
-const NOBODY: IpAddress = IpAddress::Ipv4(Ipv4Address { bits: 0 });
+pub(crate) const NOBODY: IpAddress = IpAddress::Ipv4(Ipv4Address { bits: 0 });
 
 impl Schedule {
     /// Sets the own wait of the socket at an index aside, so that it isn't asked in this round. If that is over, it lasts a

@@ -1,5 +1,5 @@
 //! What a schedule promises, whatever comes, each law as the contract of an empty function.
-ghost use Rattle.egress_schedule.specs.Laws.{AskersHaveTurns, LongPacketsApart, LongPacketsExpected, PatienceEnds};
+ghost use Rattle.egress_schedule.specs.Laws.{AskersHaveTurns, KnownPass, LongPacketsApart, LongPacketsExpected, OrderIsKept, PatienceEnds};
 ghost use Rattle.egress_schedule.specs.Laws.{PatienceIsKept, TurnsAreKept, TurnsCome, TurnsStay, WaitsEndTogether, WaitsGoOn};
 
 /// After a round no socket waits for a neighbour that it has waited for as long as the patience: its packet was given
@@ -58,8 +58,20 @@ pub fn askers_have_turns()
 {}
 
 /// Where a socket has its turn to ask in a round, no socket before it is asked that has something to send, whether it waited
-/// or not, but one whose neighbour is known by now. So whoever comes with packets for neighbours that aren't there, however
+/// or not, but one whose neighbour is known by now, or whose first packet is for one that is. So whoever comes with packets for neighbours that aren't there, however
 /// often, takes no turn of a socket that waits.
 pub fn turns_are_kept()
     ensures { TurnsAreKept }
+{}
+
+/// A packet to a neighbour that is known goes in its round, whatever waits before it in its socket: it comes before the others,
+/// and its socket may be asked. A longer one than the link's packets goes in its turn. Where the socket's wait is over, it may
+/// have its turn to ask in that round; then the packet goes in the next one.
+pub fn known_pass()
+    ensures { KnownPass }
+{}
+
+/// Where a packet passes others, those to each destination keep their order.
+pub fn order_is_kept()
+    ensures { OrderIsKept }
 {}

@@ -11,6 +11,7 @@
 pub mod asides;
 pub mod laws;
 pub mod long_packets;
+pub mod passing;
 pub mod patience;
 pub mod queues;
 pub mod schedule;
@@ -18,5 +19,6 @@ pub mod settled;
 pub mod turns;
 pub mod watch;
 
+pub use passing::{Neighbors, NoneIsKnown};
 pub use schedule::Schedule;
 pub use watch::{Waiting, Watch};

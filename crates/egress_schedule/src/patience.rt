@@ -9,6 +9,7 @@ ghost use Rattle.egress_schedule.specs.Patience.{watch_after_giving_up, without_
 ghost use Rattle.egress_schedule.specs.Queues.{has_others, is_crowded};
 ghost use Rattle.socket_set.specs.SocketSet.{socket_at};
 
+use crate::passing::first_for;
 use crate::queues::{has_others, is_crowded};
 use crate::schedule::Schedule;
 use crate::turns::turn_if;
@@ -214,7 +215,7 @@ impl Schedule {
     {
         self.note_drop(index, now, neighbor);
         self.given_up = self.given_up.saturating_add(1);
-        drop_front(index, sockets);
+        drop_packet(index, &neighbor, sockets);
         by_index::set_wait(sockets, index, None);
     }
 
@@ -278,11 +279,14 @@ fn earlier_of(other: Option<Instant>, at: Instant) -> Instant
     }
 }
 
-/// Drops the first packet that the socket at an index has to send, if there is one.
-fn drop_front<L: Drop>(index: usize, sockets: &mut SocketSetOf<L>)
-    ensures { sockets.new ≡ without_first index sockets.old (socket_at sockets.old index) }
+/// Drops the first packet for a neighbour that the socket at an index has to send, if there is a socket; its first packet, if
+/// none is for the neighbour.
+fn drop_packet<L: Drop>(index: usize, neighbor: &IpAddress, sockets: &mut SocketSetOf<L>)
+    ensures { sockets.new ≡ without_first index neighbor.now sockets.old (socket_at sockets.old index) }
 {
     if let Some(socket) = by_index::socket_mut(sockets, index) {
+        let first = first_for(socket, neighbor);
+        socket.bring_forward(first);
         socket.told(true);
     }
 }

@@ -31,7 +31,7 @@ fn len_behind<M: Drop>(headers: usize, queue: &Queue<M>) -> usize
 }
 
 /// How many packets a socket has to send.
-fn count_to_send<L: Drop>(socket: &SocketOf<L>) -> usize
+pub(crate) fn count_to_send<L: Drop>(socket: &SocketOf<L>) -> usize
     ensures { result ≡ spec.count_to_send socket.now }
 {
     match socket {

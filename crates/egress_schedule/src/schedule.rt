@@ -5,8 +5,9 @@ ghost use Rattle.egress_schedule.specs.Plan.{first_plan, given_up_at, idle, plan
 ghost use Rattle.egress_schedule.specs.Plan.{waiting_at, with_watch, without_given_up};
 ghost use Rattle.egress_schedule.specs.Patience.{after_look};
 ghost use Rattle.egress_schedule.specs.Rounds.{after_round, before_round, with_long_set_aside, with_turns_taken};
-ghost use Rattle.egress_schedule.specs.Rounds.{with_waits_ended};
+ghost use Rattle.egress_schedule.specs.Rounds.{with_packets_brought, with_packets_passing, with_waits_ended};
 
+use crate::passing::Neighbors;
 use crate::watch::{Waiting, Watch};
 use ip_wire::IpAddress;
 use net_base::time::{Duration, Instant};
@@ -155,18 +156,54 @@ impl Schedule {
     /// link's packets, only the one whose turn it is will be asked, and none while a piece of a packet is left. Of the
     /// sockets whose waits are over, those that aren't asked and those before the one whose turn it is wait a second more.
     /// Where one has its turn, those before it that don't wait aren't asked, so a packet of theirs goes in the next round.
-    pub fn before_round<L: Drop>(
+    /// Of a socket that waits the first packet to a neighbour that is known goes before the others, in their order, unless its
+    /// wait is over; its wait goes on after the round.
+    pub fn before_round<L: Drop, N: Neighbors>(
         &mut self,
         now: Instant,
         ip_mtu: usize,
         is_piece_left: bool,
+        neighbors: &N,
         sockets: &mut SocketSetOf<L>,
     )
         requires { IsMoment now }
-        ensures { planned self.new sockets.new ≡ before_round now ip_mtu is_piece_left (planned self.old sockets.old) }
+        ensures { planned self.new sockets.new
+            ≡ before_round (N.knows neighbors.now) now ip_mtu is_piece_left (planned self.old sockets.old) }
     {
+        self.bring_packets(now, neighbors, sockets);
         self.prepare_long(now, ip_mtu, is_piece_left, sockets);
         self.prepare_waiting(now, sockets);
+        self.let_packets_pass(now, neighbors, sockets);
+    }
+
+    /// Lets the sockets that wait have the packets first that may go, if some wait.
+    fn bring_packets<L: Drop, N: Neighbors>(
+        &self,
+        now: Instant,
+        neighbors: &N,
+        sockets: &mut SocketSetOf<L>,
+    )
+        ensures { planned self.now sockets.new
+            ≡ with_packets_brought (N.knows neighbors.now) now (planned self.now sockets.old) }
+    {
+        if self.is_waiting {
+            self.bring_all(now, neighbors, sockets);
+        }
+    }
+
+    /// Lets sockets be asked whose first packet may go although they wait, if some wait.
+    fn let_packets_pass<L: Drop, N: Neighbors>(
+        &mut self,
+        now: Instant,
+        neighbors: &N,
+        sockets: &mut SocketSetOf<L>,
+    )
+        ensures { planned self.new sockets.new
+            ≡ with_packets_passing (N.knows neighbors.now) now (planned self.old sockets.old) }
+    {
+        if self.is_waiting {
+            self.pass_all(now, neighbors, sockets);
+        }
     }
 
     /// Lets the sockets that wait ask in turn, if some wait.

@@ -27,6 +27,7 @@ use Rattle.guard.specs.Watch as guard
 use Rattle.ip_address.specs.declared.cidr.IpCidr.{IpCidr}
 use Rattle.ip_address.specs.declared.hardware.HardwareAddress.{HardwareAddress}
 use Rattle.guard.specs.declared.watch.Watch.{Watch}
+use Rattle.iface_host.specs.Known.{knows_at}
 use Rattle.iface_host.specs.Frames.{Gives, IsDue, IsWritten, Made, PollsInto, Round, Takes, after_response, is_piece_left, let_go, planned}
 use Rattle.iface_host.specs.Fragments.{MakesRoom}
 use Rattle.iface_host.specs.Guarded.{Admitted, Defends, Dropped, NextIs, Ordinary, Receives, Refused, TakesGuarded, is_ordinary_to, after_arrival, after_sending, hardware_addr_of, is_admitted}
@@ -241,7 +242,7 @@ at_the_end t answer n n' same_n before after after' same_after o p p' same_p i i
 -- a poll with the room that was reserved
 pub rounded : (t : ℤ) (n : ℕ) (out out' : List ℕ) (old : IfaceHost) (room : Waiting) → room ≡ with_room true old.outbox →
     (left : Bool) → left ≡ is_piece_left old → (before after : Planned (Bor (Unit {0}))) →
-    before ≡ before_round t old.ip_mtu left (planned old) →
+    before ≡ before_round (knows_at old.interface.value) t old.ip_mtu left (planned old) →
     (answer : PollResult) (i : Interface) (polled : Sockets (Bor (Unit {0}))) (o : Waiting) →
     PollsInto t answer n out out' room o old.interface.value i before.sockets polled →
     after ≡ after_round t (record { plan = before.plan; sockets = polled }) → (changed : Bool) →
@@ -258,7 +259,7 @@ rounded t n out out' old room is left left_is before after prepared answer i pol
   prepared = before;
   polled = polled;
   answer = answer;
-  is_prepared = prepared ∙ ap (λ (b : Bool). before_round t old.ip_mtu b (planned old)) left_is;
+  is_prepared = prepared ∙ ap (λ (b : Bool). before_round (knows_at old.interface.value) t old.ip_mtu b (planned old)) left_is;
   polls = subst (λ (w : Waiting). PollsInto t answer n out out' w o old.interface.value i before.sockets polled) is polls;
   ended = ended;
   rest =

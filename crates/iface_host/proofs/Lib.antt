@@ -4,6 +4,7 @@ mod ErrorExamples
 mod ErrorLaws
 mod FragmentRoom
 mod FrameCalls
+mod KnownCalls
 mod LeasedCalls
 pub mod Places
 mod Vacancies

@@ -19,6 +19,7 @@ use Rattle.net_base.specs.Device.{Frame}
 use Rattle.interface.specs.Details.Refines.{HostRefinesTelling}
 use Rattle.interface.specs.Details.Receives.{HostRefinesReceiving}
 use Rattle.iface_host.specs.Counters.{after_handing, after_taking}
+use Rattle.iface_host.specs.Known.{knows_at}
 use Rattle.iface_host.specs.Outbox.{HandsFirst, Tells, Waiting, with_room}
 use Rattle.iface_host.specs.Stands.{StandsFor}
 use Rattle.iface_host.specs.declared.host.IfaceHost.{IfaceHost}
@@ -75,7 +76,7 @@ pub record Round (t : ℤ) (n : ℕ) (before after : List ℕ) (old new : IfaceH
   pub prepared : Planned (Bor (Unit {0}))
   pub polled : Sockets (Bor (Unit {0}))
   pub answer : PollResult
-  pub is_prepared : prepared ≡ before_round t old.ip_mtu (is_piece_left old) (planned old)
+  pub is_prepared : prepared ≡ before_round (knows_at old.interface.value) t old.ip_mtu (is_piece_left old) (planned old)
   pub polls : PollsInto t answer n before after (with_room true old.outbox) new.outbox
       old.interface.value new.interface.value prepared.sockets polled
   pub ended : planned new ≡ after_round t (record { plan = prepared.plan; sockets = polled })

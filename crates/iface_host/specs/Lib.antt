@@ -7,6 +7,7 @@ pub mod Calls
 pub mod Claims
 pub mod Properties
 pub mod Neighbors
+pub mod Known
 pub mod Sockets
 pub mod HopLimits
 pub mod Queues

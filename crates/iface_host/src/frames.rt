@@ -4,14 +4,19 @@ ghost use Rattle.net_base.specs.Time.{IsMoment};
 ghost use Rattle.std.specs.Result.{IsErrOf, result_err};
 ghost use Rattle.host_machine.specs.Interface.Polling as polling;
 ghost use Rattle.iface_host.specs.Frames.{Gives, HandsOver, IsDue, PollsInto, Round, Takes};
+ghost use Rattle.egress_schedule.specs.Plan.{planned};
+ghost use Rattle.egress_schedule.specs.Rounds.{before_round};
 ghost use Rattle.iface_host.specs.Guarded.{NextIs, Receives};
+ghost use Rattle.iface_host.specs.Known.{knows_at};
 ghost use Rattle.iface_host.specs.Refusals.{frame_refusal, moment_refusal};
 ghost use Rattle.iface_host.specs.RoundDevice.{len_or_zero};
 
 use crate::host::{FRAME_LEN, IfaceHost};
+use crate::known::KnownTo;
 use crate::outbox::{Outbox, write_front};
 use crate::refusal::Refusal;
 use crate::round_device::RoundDevice;
+use egress_schedule::Schedule;
 use host_machine::PollResult;
 use interface::Interface;
 use net_base::time::Instant;
@@ -94,8 +99,8 @@ impl IfaceHost {
     /// Writes the next frame that is to be sent to the front of a buffer, and answers how many octets it has. If no
     /// frame waits, a round is made at the moment before: what has ended is dropped, and each socket that has
     /// something to send gets its turn once, after what is due to routers; 0 says that the round sent nothing. A
-    /// packet that waited for its neighbour as long as the patience is given up, sockets that wait ask in turn, and one
-    /// packet that has to be cut goes at a time.
+    /// packet that waited for its neighbour as long as the patience is given up, sockets that wait ask in turn, a packet
+    /// for a known neighbour passes those that wait before it, and one packet that has to be cut goes at a time.
     /// `BadMoment` if the moment is out of range, `NoRoom` if the buffer has less than 1,514 octets, `NoMemory` if
     /// memory for a frame is refused before the round.
     pub fn next(&mut self, now: i64, out: &mut [u8]) -> Result<usize, Refusal>
@@ -157,8 +162,14 @@ impl IfaceHost {
             return Err(Refusal::NoMemory);
         }
         let is_piece_left = self.interface.has_pending_fragment();
-        self.schedule
-            .before_round(now, self.ip_mtu, is_piece_left, &mut self.sockets);
+        prepare(
+            &mut self.schedule,
+            now,
+            self.ip_mtu,
+            is_piece_left,
+            &self.interface,
+            &mut self.sockets,
+        );
         let (answer, len) = poll_into(
             now,
             &mut self.interface,
@@ -181,6 +192,23 @@ impl IfaceHost {
         self.frames.hand_over(len);
         len
     }
+}
+
+/// Prepares sockets for a round at a moment, by whom the interface knows.
+fn prepare(
+    schedule: &mut Schedule,
+    now: Instant,
+    ip_mtu: usize,
+    is_piece_left: bool,
+    interface: &Interface,
+    sockets: &mut SocketSet<'static>,
+)
+    requires { IsMoment now }
+    ensures { planned schedule.new sockets.new
+        ≡ before_round (knows_at interface.now) now ip_mtu is_piece_left (planned schedule.old sockets.old) }
+{
+    let known = KnownTo { interface };
+    schedule.before_round(now, ip_mtu, is_piece_left, &known, sockets);
 }
 
 /// Polls at a moment, by one call of each kind, and writes the first frame that is sent to the front of a buffer, where

@@ -14,6 +14,7 @@ pub mod frames;
 pub mod guarded;
 pub mod hop_limits;
 pub mod host;
+pub mod known;
 pub mod last_errors;
 pub mod leased;
 pub mod names;

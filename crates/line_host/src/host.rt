@@ -6,7 +6,7 @@ use crate::limits::Limits;
 use crate::line::Line;
 use anyhow::Result;
 use arrayvec::ArrayVec;
-use egress_schedule::Schedule;
+use egress_schedule::{NoneIsKnown, Schedule};
 use interface::{Config as InterfaceConfig, Interface, SocketSet};
 use ip_wire::{
     EthernetAddress, IpAddress, IpCidr, IpVersion, Ipv4Address, Ipv4Cidr, Ipv6Address, Ipv6Cidr,
@@ -226,7 +226,7 @@ impl Service {
     {
         let mtu = CAPABILITIES.ip_mtu();
         self.schedule
-            .before_round(now, mtu, is_piece_left, &mut self.sockets);
+            .before_round(now, mtu, is_piece_left, &NoneIsKnown, &mut self.sockets);
     }
 
     /// The schedule gives up what waited too long.

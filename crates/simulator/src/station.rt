@@ -3,7 +3,7 @@ use crate::forwarder::{Forwarder, MOST_SOCKETS};
 use crate::packets::{QUEUE_OCTETS, QUEUE_PACKETS, add_raw, kind_of, queue_packet};
 use crate::simulation::instant;
 use anyhow::{Result, bail};
-use egress_schedule::Schedule;
+use egress_schedule::{NoneIsKnown, Schedule};
 use host::drive::Owner;
 use host::link::Host;
 use interface::{Capacities, Config, Interface};
@@ -313,7 +313,7 @@ impl Station {
     /// Prepares a round of polls.
     fn begin_round(&mut self, now: u64, is_piece_left: bool, sockets: &mut SocketSet<'_>) {
         if let Some(schedule) = &mut self.schedule {
-            schedule.before_round(instant(now), IP_MTU, is_piece_left, sockets);
+            schedule.before_round(instant(now), IP_MTU, is_piece_left, &NoneIsKnown, sockets);
         }
     }
 

@@ -4,7 +4,7 @@ ghost use Rattle.net_base.specs.Time.{IsMoment};
 use crate::link::CAPABILITIES;
 use anyhow::Result;
 use arrayvec::ArrayVec;
-use egress_schedule::Schedule;
+use egress_schedule::{NoneIsKnown, Schedule};
 use interface::{Config, Interface, SocketHandle, SocketSet};
 use ip_wire::{EthernetAddress, IpCidr, Ipv4Address, Ipv4Cidr};
 use net_base::phy::Device;
@@ -91,7 +91,7 @@ impl Service {
     {
         let mtu = CAPABILITIES.ip_mtu();
         self.schedule
-            .before_round(now, mtu, is_piece_left, &mut self.sockets);
+            .before_round(now, mtu, is_piece_left, &NoneIsKnown, &mut self.sockets);
     }
 
     /// The schedule gives up what waited too long.

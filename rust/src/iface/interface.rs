@@ -42,7 +42,7 @@ pub struct Config {
     /// memory.
     pub fragmented: u32,
     /// How long a packet waits for a neighbour that doesn't answer, before it is given up. Zero is for ever, as in
-    /// smoltcp: then one such packet stops its socket.
+    /// smoltcp: then one such packet stops those behind it for neighbours that aren't known.
     pub patience: Duration,
     /// How long fragments of a packet wait for the others: not zero, at most a day. smoltcp has
     /// [`set_reassembly_timeout`](Interface::set_reassembly_timeout) alone.
