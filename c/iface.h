@@ -16,7 +16,7 @@
  *  - malloc, realloc and free are of one allocator, whose blocks are aligned as the C standard says, and no call is
  *    made where these may not be called, as in a signal handler or in the forked child of a process with threads.
  *  - There is room on the stack. On x86-64 iface_streams_new takes at most 6,560 octets of it, iface_new 5,100, iface_next
- *    4,820 and any other call 4,930; beside that comes what malloc and memcpy take. docs/PERFORMANCE.md lists them.
+ *    5,670 and any other call 4,930; beside that comes what malloc and memcpy take. docs/PERFORMANCE.md lists them.
  */
 #ifndef IFACE_H
 #define IFACE_H
